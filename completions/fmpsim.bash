@@ -4,7 +4,7 @@ _fmpsim() {
     COMPREPLY=()
     case $COMP_CWORD,${COMP_WORDS[1]},$word in
         1,*) words='calls check wave view smp explore shrink list help --help --version' ;;
-        *,calls,-*) words='--state --of --context --color --help --diagnostics=gcc' ;;
+        *,calls,-*) words='--state --changes --of --context --color --help --diagnostics=gcc' ;;
         *,check,-*) words='--show --all --partial --context --help --diagnostics=gcc' ;;
         *,wave,-*) words='--gtkw --context --help --diagnostics=gcc' ;;
         *,view,-*) words='--differences --context --help --diagnostics=gcc' ;;

@@ -1,6 +1,7 @@
 # Completion of fmpsim for fish: put this file where fish looks for completions.
 complete -c fmpsim -n __fish_use_subcommand -f -a calls -d 'Writes the trace of a configuration over a list of events'
 complete -c fmpsim -n '__fish_seen_subcommand_from calls' -l state -d 'Also writes the state at boot and after each event'
+complete -c fmpsim -n '__fish_seen_subcommand_from calls' -l changes -d 'Also writes the state at boot, and what of it each event changed'
 complete -c fmpsim -n '__fish_seen_subcommand_from calls' -l of -x -d 'Writes only what changes these: names of tasks, handlers and objects, with commas between'
 complete -c fmpsim -n '__fish_seen_subcommand_from calls' -l context -d 'Shows below a fault its line, its place and what is expected there; at a terminal by itself, unless there is --no-context'
 complete -c fmpsim -n '__fish_seen_subcommand_from calls' -l color -x -d 'When the trace is coloured: auto, always or never'

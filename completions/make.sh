@@ -4,7 +4,7 @@
 set -eu
 program=$1
 
-# the commands, with what each is about behind a tab
+# the commands, with what each is about after a tab
 commands() {
     "$program" --help | sed -nE '/^Commands:/,/^$/s/^  ([a-z]+) +(.*)$/\1\t\2/p'
 }

@@ -2,17 +2,17 @@
  *
  *     cc -std=c11 program.c -lfmp
  *
- * A program makes a machine of a configuration text, gives it event after event, and is told of each what the line of the trace says.
+ * A program makes a machine of a configuration text, gives it event after event, and learns of each what the line of the trace says.
  *
  *     fmp_machine machine = FMP_NO_MACHINE;
  *     fmp_fault fault;
- *     fmp_told told;
+ *     fmp_record record;
  *     if (fmp_make(&machine, text, length, &fault) != FMP_OK) ..
- *     if (fmp_step_text(&machine, "P1 act_tsk(WORKER)", 18, &told) != FMP_OK) ..
+ *     if (fmp_step_text(&machine, "P1 act_tsk(WORKER)", 18, &record) != FMP_OK) ..
  *     fmp_free(&machine);
  *
- * What each function answers is proved (crates/fmp_c, docs/PROOF.md): behind a list of events a machine is that of the model behind them, and
- * what is told is the model's record of the event. A null pointer is answered with FMP_NULL by the functions below, in C.
+ * What each function answers is proved (crates/fmp_c, docs/PROOF.md): after a list of events a machine is that of the model after them, and
+ * what is written there is the model's record of the event. A null pointer is answered with FMP_NULL by the functions below, in C.
  *
  * What C owes, since nothing checks it:
  *   - each pointer that is not null points to what its type says, of the length that is given, and two pointers of one call to things apart from
@@ -37,7 +37,7 @@ extern "C" {
 enum fmp_answer {
     FMP_OK = 0,
     FMP_MEMORY = 1,     /* memory ran out */
-    FMP_TEXT = 2,       /* the configuration text has a fault, which is told */
+    FMP_TEXT = 2,       /* the configuration text has a fault, which is reported */
     FMP_NONE = 3,       /* there is no machine */
     FMP_PROCESSOR = 4,  /* the processor is none of the machine */
     FMP_EVENT = 5,      /* the number is that of no event */
@@ -69,7 +69,7 @@ typedef struct fmp_fault {
 } fmp_fault;
 
 /* An event: the processor from 1; the number of the call from 1 to 78, in the order in which `fmpsim list` has them (act_tsk 1, .., iunl_spn 77,
- * ret_hdr 78), or FMP_TICK or FMP_IPI; and the arguments. Arguments behind those of the call say nothing. An ID, a priority, a processor or a
+ * ret_hdr 78), or FMP_TICK or FMP_IPI; and the arguments. Arguments after those of the call say nothing. An ID, a priority, a processor or a
  * time is a number of 32 bits with a sign, a pattern one of 32 bits without, a mode 1 (TWF_ORW) or 2 (TWF_ANDW), data have 64 bits. */
 enum { FMP_RET_HDR = 78, FMP_TICK = 79, FMP_IPI = 80 };
 typedef struct fmp_event {
@@ -81,7 +81,7 @@ typedef struct fmp_event {
 /* What an event did. */
 enum fmp_said { FMP_DONE = 0, FMP_WAIT = 1, FMP_SPIN = 2, FMP_GONE = 3, FMP_IDLE = 4, FMP_HELD = 5, FMP_TAKEN = 6, FMP_NO_REQUEST = 7 };
 enum fmp_runner { FMP_NOBODY = 0, FMP_TASK = 1, FMP_ALARM = 2, FMP_CYCLIC = 3 };
-typedef struct fmp_told {
+typedef struct fmp_record {
     uint32_t number;      /* which event it was, from 1 */
     uint32_t processor;   /* where it was */
     uint32_t runner_kind; /* who could make a call there before it (fmp_runner), and the number of that task or handler */
@@ -96,7 +96,7 @@ typedef struct fmp_told {
     uint32_t run;         /* that task, or 0 for none */
     int64_t value;        /* 0 where there is none, as lost */
     int64_t lost;
-} fmp_told;
+} fmp_record;
 
 /* The end of a task's wait. */
 typedef struct fmp_release {
@@ -109,15 +109,15 @@ typedef struct fmp_release {
 /* What the library exports. Use the functions below, which answer a null pointer. */
 int32_t fmp_make_at(fmp_machine *machine, const uint8_t *text, size_t length, fmp_fault *fault);
 void fmp_free_at(fmp_machine *machine);
-int32_t fmp_step_at(fmp_machine *machine, const fmp_event *event, fmp_told *told);
-int32_t fmp_step_text_at(fmp_machine *machine, const uint8_t *line, size_t length, fmp_told *told);
+int32_t fmp_step_at(fmp_machine *machine, const fmp_event *event, fmp_record *record);
+int32_t fmp_step_text_at(fmp_machine *machine, const uint8_t *line, size_t length, fmp_record *record);
 int32_t fmp_line_at(fmp_machine *machine, uint8_t *room, size_t size, size_t *written);
 int32_t fmp_state_at(fmp_machine *machine, uint8_t *room, size_t size, size_t *written);
 int32_t fmp_copy_at(fmp_machine *from, fmp_machine *into);
 int32_t fmp_release_at(fmp_machine *machine, size_t place, fmp_release *release);
 uint32_t fmp_request_at(fmp_machine *machine, size_t place);
 
-/* Makes the machine of a configuration text, at boot. What *machine was before is freed first. FMP_TEXT: the text has a fault, which is told;
+/* Makes the machine of a configuration text, at boot. What *machine was before is freed first. FMP_TEXT: the text has a fault, which is reported;
  * FMP_MEMORY. There is no machine then. */
 static inline int fmp_make(fmp_machine *machine, const char *text, size_t length, fmp_fault *fault) {
     return machine == NULL || text == NULL || fault == NULL ? FMP_NULL : fmp_make_at(machine, (const uint8_t *)text, length, fault);
@@ -130,16 +130,16 @@ static inline void fmp_free(fmp_machine *machine) {
 }
 
 /* Answers an event. FMP_NONE, FMP_PROCESSOR, FMP_EVENT, FMP_ARGUMENT, FMP_FULL. */
-static inline int fmp_step(fmp_machine *machine, const fmp_event *event, fmp_told *told) {
-    return machine == NULL || event == NULL || told == NULL ? FMP_NULL : fmp_step_at(machine, event, told);
+static inline int fmp_step(fmp_machine *machine, const fmp_event *event, fmp_record *record) {
+    return machine == NULL || event == NULL || record == NULL ? FMP_NULL : fmp_step_at(machine, event, record);
 }
 
 /* Answers the event of a line of docs/formats/events.md, without its line feed. FMP_NONE, FMP_LINE (also for a line that says nothing), FMP_FULL. */
-static inline int fmp_step_text(fmp_machine *machine, const char *line, size_t length, fmp_told *told) {
-    return machine == NULL || line == NULL || told == NULL ? FMP_NULL : fmp_step_text_at(machine, (const uint8_t *)line, length, told);
+static inline int fmp_step_text(fmp_machine *machine, const char *line, size_t length, fmp_record *record) {
+    return machine == NULL || line == NULL || record == NULL ? FMP_NULL : fmp_step_text_at(machine, (const uint8_t *)line, length, record);
 }
 
-/* Writes the line of the last event, as it stands in the trace, with its line feed and no zero behind it. FMP_GREATEST_LINE bytes are always room enough.
+/* Writes the line of the last event, as it stands in the trace, with its line feed and no zero after it. FMP_GREATEST_LINE bytes are always room enough.
  * FMP_NONE, FMP_NOTHING (no event yet, or none since fmp_copy), FMP_ROOM. */
 static inline int fmp_line(fmp_machine *machine, char *room, size_t size, size_t *written) {
     return machine == NULL || room == NULL || written == NULL ? FMP_NULL : fmp_line_at(machine, (uint8_t *)room, size, written);

@@ -52,7 +52,7 @@ def is_of_word(letter):
 
 
 def joined(tokens):
-    """The text of tokens, with a blank between two words, and behind `,` and `/`."""
+    """The text of tokens, with a blank between two words, and after `,` and `/`."""
     parts, last = [], ""
     for token in tokens:
         apart = last in (",", "/") or is_of_word(last[-1:]) and is_of_word(token.word[0])

@@ -34,7 +34,7 @@ long machine_ask(const char *event, long length) {
     return asked_to;
 }
 
-/* What the library writes behind what is heard already: the line of the last event, or the state. */
+/* What the library writes after what is heard already: the line of the last event, or the state. */
 static void add_text(int writes(fmp_machine *, char *, size_t, size_t *)) {
     size_t written = 0;
     int answer = writes(&machine, heard + heard_to, sizeof heard - heard_to, &written);
@@ -48,8 +48,8 @@ static void answer_next(bool tells) {
     heard_from = heard_to = 0;
     if (booted) {
         const char *event = asked + asked_from, *end = memchr(event, '\n', (size_t)(asked_to - asked_from));
-        fmp_told told;
-        int answer = end == NULL ? FMP_LINE : fmp_step_text(&machine, event, (size_t)(end - event), &told);
+        fmp_record record;
+        int answer = end == NULL ? FMP_LINE : fmp_step_text(&machine, event, (size_t)(end - event), &record);
         if (answer != FMP_OK)
             give_up("the library does not answer %.*s: %d", end == NULL ? 0 : (int)(end - event), event, answer);
         asked_from = end + 1 - asked;

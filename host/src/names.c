@@ -22,7 +22,7 @@ static uintptr_t load_address(void) {
     return base;
 }
 
-/* What a tool says of the program's own file: its words before and behind that. */
+/* What a tool says of the program's own file: its words before and after that. */
 static FILE *ask_tool(const char *words, const char *behind) {
     char path[4096], command[9000];
     ssize_t length = readlink("/proc/self/exe", path, sizeof path - 1);

@@ -142,7 +142,7 @@ static const char *read_code(const char *at, int *code, int64_t *value, const ch
     return at;
 }
 
-/* <n> P<p> <runner> <event> <answer> ..: no name has a blank, but the event's brackets may, so it ends behind its bracket or at its blank. */
+/* <n> P<p> <runner> <event> <answer> ..: no name has a blank, but the event's brackets may, so it ends after its bracket or at its blank. */
 static const char *answer_in(const char *line) {
     const char *at = line;
     for (int blanks = 0; blanks < 3; blanks++) {

@@ -33,6 +33,8 @@ refused_lines() {
 	calls --fast machine.cfg events.txt
 	calls --all machine.cfg events.txt
 	calls --show machine.cfg events.txt
+	calls --changes --state machine.cfg events.txt
+	calls --of T1 machine.cfg events.txt --changes
 	check machine.cfg
 	check machine.cfg trace.txt more
 	check --show --all machine.cfg trace.txt
@@ -41,6 +43,7 @@ refused_lines() {
 	check --partial --partial machine.cfg trace.txt
 	check --all --all machine.cfg trace.txt
 	check --state machine.cfg trace.txt
+	check --changes machine.cfg trace.txt
 	wave machine.cfg
 	wave machine.cfg trace.txt more
 	wave --show machine.cfg trace.txt
@@ -90,6 +93,7 @@ refused_lines() {
 	check --show=yes machine.cfg trace.txt
 	view --differences=yes machine.cfg trace.txt
 	calls --state=yes machine.cfg events.txt
+	calls --changes=yes machine.cfg events.txt
 	calls --color=sometimes machine.cfg events.txt
 	smp machine.cfg scripts.txt --ticks 0 --turns 1 --color=yes
 	smp machine.cfg scripts.txt --ticks 0 --turns 1000001

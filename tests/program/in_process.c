@@ -45,11 +45,11 @@ static void write_line(fmp_machine *at) {
         printf("no line: %d\n", answer);
 }
 
-static void write_told(const fmp_told *told) {
-    printf("  %u P%u runner %u:%u said %u code %d", told->number, told->processor, told->runner_kind, told->runner, told->said, told->code);
-    if (told->has_value)
-        printf(" value %lld", (long long)told->value);
-    for (size_t i = 0; i < told->releases; i++) {
+static void write_record(const fmp_record *record) {
+    printf("  %u P%u runner %u:%u said %u code %d", record->number, record->processor, record->runner_kind, record->runner, record->said, record->code);
+    if (record->has_value)
+        printf(" value %lld", (long long)record->value);
+    for (size_t i = 0; i < record->releases; i++) {
         fmp_release release;
         if (fmp_release_of(&machine, i, &release) != FMP_OK)
             exit(4);
@@ -57,14 +57,14 @@ static void write_told(const fmp_told *told) {
         if (release.has_value)
             printf(":%lld", (long long)release.value);
     }
-    if (told->has_lost)
-        printf(" lost %lld", (long long)told->lost);
-    if (told->run_changed)
-        printf(" run %u", told->run);
-    for (size_t i = 0; i < told->requests; i++)
+    if (record->has_lost)
+        printf(" lost %lld", (long long)record->lost);
+    if (record->run_changed)
+        printf(" run %u", record->run);
+    for (size_t i = 0; i < record->requests; i++)
         printf(" ipi %u", fmp_request_of(&machine, i));
     fmp_release none;
-    if (fmp_release_of(&machine, told->releases, &none) != FMP_NOTHING || fmp_request_of(&machine, told->requests) != 0)
+    if (fmp_release_of(&machine, record->releases, &none) != FMP_NOTHING || fmp_request_of(&machine, record->requests) != 0)
         printf(" more");
     printf("\n");
 }
@@ -83,31 +83,31 @@ static char *next_line(char **at) {
 static char events[1 << 20];
 
 static void by_text(fmp_machine *at, char *line, int tells) {
-    fmp_told told;
-    int answer = fmp_step_text(at, line, strlen(line), &told);
+    fmp_record record;
+    int answer = fmp_step_text(at, line, strlen(line), &record);
     if (answer != FMP_OK)
         printf("answer %d\n", answer);
     else if (tells >= 0) {
         write_line(at);
         if (tells)
-            write_told(&told);
+            write_record(&record);
     }
 }
 
 static void by_numbers(char *line) {
     fmp_event event;
-    fmp_told told;
+    fmp_record record;
     long long a, b, c, d;
     if (sscanf(line, "%u %u %lld %lld %lld %lld", &event.processor, &event.event, &a, &b, &c, &d) != 6)
         exit(4);
     event.arguments[0] = a, event.arguments[1] = b, event.arguments[2] = c, event.arguments[3] = d;
-    int answer = fmp_step(&machine, &event, &told);
+    int answer = fmp_step(&machine, &event, &record);
     if (answer != FMP_OK) {
         printf("answer %d\n", answer);
         return;
     }
     write_line(&machine);
-    write_told(&told);
+    write_record(&record);
 }
 
 static void write_state(void) {
@@ -150,13 +150,13 @@ static void say(const char *what, int answer) {
 static void wrong(const char *path) {
     fmp_machine none = FMP_NO_MACHINE, other = FMP_NO_MACHINE;
     fmp_event event = {1, FMP_TICK, {0, 0, 0, 0}}, bad = event;
-    fmp_told told;
+    fmp_record record;
     fmp_fault fault;
     fmp_release release;
     size_t written = 77;
     const char *one = "PROCESSORS(1);";
-    say("step without a machine", fmp_step(&none, &event, &told));
-    say("line without a machine", fmp_step_text(&none, "P1 tick", 7, &told));
+    say("step without a machine", fmp_step(&none, &event, &record));
+    say("line without a machine", fmp_step_text(&none, "P1 tick", 7, &record));
     say("its line", fmp_line(&none, room, sizeof room, &written));
     say("its state", fmp_state(&none, room, sizeof room, &written));
     say("its release", fmp_release_of(&none, 0, &release));
@@ -167,33 +167,33 @@ static void wrong(const char *path) {
     say("line at boot", fmp_line(&machine, room, sizeof room, &written));
     say("release at boot", fmp_release_of(&machine, 0, &release));
     bad.processor = 0;
-    say("processor 0", fmp_step(&machine, &bad, &told));
+    say("processor 0", fmp_step(&machine, &bad, &record));
     bad.processor = 9;
-    say("processor 9", fmp_step(&machine, &bad, &told));
+    say("processor 9", fmp_step(&machine, &bad, &record));
     bad.processor = 8;
-    say("processor 8 of 2", fmp_step(&machine, &bad, &told));
+    say("processor 8 of 2", fmp_step(&machine, &bad, &record));
     bad = event, bad.event = 0;
-    say("event 0", fmp_step(&machine, &bad, &told));
+    say("event 0", fmp_step(&machine, &bad, &record));
     bad.event = 81;
-    say("event 81", fmp_step(&machine, &bad, &told));
+    say("event 81", fmp_step(&machine, &bad, &record));
     bad.event = 1, bad.arguments[0] = 1LL << 31;
-    say("a task of 2147483648", fmp_step(&machine, &bad, &told));
+    say("a task of 2147483648", fmp_step(&machine, &bad, &record));
     bad.arguments[0] = -(1LL << 31) - 1;
-    say("a task of -2147483649", fmp_step(&machine, &bad, &told));
+    say("a task of -2147483649", fmp_step(&machine, &bad, &record));
     bad.event = 26, bad.arguments[0] = 1, bad.arguments[1] = -1;
-    say("a pattern of -1", fmp_step(&machine, &bad, &told));
+    say("a pattern of -1", fmp_step(&machine, &bad, &record));
     bad.arguments[1] = 1LL << 32;
-    say("a pattern of 4294967296", fmp_step(&machine, &bad, &told));
+    say("a pattern of 4294967296", fmp_step(&machine, &bad, &record));
     bad.event = 29, bad.arguments[1] = 1, bad.arguments[2] = 0;
-    say("a mode of 0", fmp_step(&machine, &bad, &told));
+    say("a mode of 0", fmp_step(&machine, &bad, &record));
     bad.arguments[2] = 3;
-    say("a mode of 3", fmp_step(&machine, &bad, &told));
-    say("an empty line", fmp_step_text(&machine, "", 0, &told));
-    say("a comment", fmp_step_text(&machine, "# P1 tick", 9, &told));
-    say("a line that is cut", fmp_step_text(&machine, "P1 tick", 6, &told));
-    say("two lines", fmp_step_text(&machine, "P1 tick\nP1 tick", 15, &told));
+    say("a mode of 3", fmp_step(&machine, &bad, &record));
+    say("an empty line", fmp_step_text(&machine, "", 0, &record));
+    say("a comment", fmp_step_text(&machine, "# P1 tick", 9, &record));
+    say("a line that is cut", fmp_step_text(&machine, "P1 tick", 6, &record));
+    say("two lines", fmp_step_text(&machine, "P1 tick\nP1 tick", 15, &record));
     say("still at boot", fmp_line(&machine, room, sizeof room, &written));
-    say("an event", fmp_step_text(&machine, "P1 tick", 7, &told));
+    say("an event", fmp_step_text(&machine, "P1 tick", 7, &record));
     memset(room, '*', 64);
     say("a room that is one byte short", fmp_line(&machine, room, 17, &written));
     printf("%.4s %zu\n", room, written);
@@ -207,12 +207,12 @@ static void wrong(const char *path) {
     memset(config, ' ', sizeof config);
     say("a text that is too long", fmp_make(&other, config, FMP_GREATEST_TEXT + 1, &fault));
     printf("kind %u line %u\n", fault.kind, fault.line);
-    say("then no machine", fmp_step(&other, &event, &told));
+    say("then no machine", fmp_step(&other, &event, &record));
     say("another configuration", fmp_make(&other, one, strlen(one), &fault));
     say("a copy of another configuration", fmp_copy(&machine, &other));
     say("a copy of itself", fmp_copy(&machine, &machine));
-    say("nulls", fmp_make(NULL, "", 0, &fault) + fmp_make(&other, NULL, 0, &fault) + fmp_make(&other, "", 0, NULL) + fmp_step(NULL, &event, &told)
-        + fmp_step(&machine, NULL, &told) + fmp_step(&machine, &event, NULL) + fmp_step_text(NULL, "", 0, &told) + fmp_step_text(&machine, NULL, 0, &told)
+    say("nulls", fmp_make(NULL, "", 0, &fault) + fmp_make(&other, NULL, 0, &fault) + fmp_make(&other, "", 0, NULL) + fmp_step(NULL, &event, &record)
+        + fmp_step(&machine, NULL, &record) + fmp_step(&machine, &event, NULL) + fmp_step_text(NULL, "", 0, &record) + fmp_step_text(&machine, NULL, 0, &record)
         + fmp_step_text(&machine, "", 0, NULL) + fmp_line(NULL, room, 1, &written) + fmp_line(&machine, NULL, 1, &written) + fmp_line(&machine, room, 1, NULL)
         + fmp_state(NULL, room, 1, &written) + fmp_state(&machine, NULL, 1, &written) + fmp_state(&machine, room, 1, NULL) + fmp_copy(NULL, &machine)
         + fmp_copy(&machine, NULL) + fmp_release_of(NULL, 0, &release) + fmp_release_of(&machine, 0, NULL));
@@ -225,10 +225,10 @@ static void wrong(const char *path) {
 
 static void count(long turns) {
     fmp_event tick = {1, FMP_TICK, {0, 0, 0, 0}};
-    fmp_told told;
+    fmp_record record;
     clock_t from = clock();
     for (long i = 0; i < turns; i++)
-        fmp_step(&machine, &tick, &told);
+        fmp_step(&machine, &tick, &record);
     printf("%.0f ns a tick\n", (double)(clock() - from) * 1e9 / CLOCKS_PER_SEC / (double)turns);
 }
 

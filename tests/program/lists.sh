@@ -75,6 +75,18 @@ function 1 first
 function 2 ring
 function 3 second
 function 4 clock
+field FIRST exinf 0
+field FIRST stksz 4096
+field ALARM exinf 0
+field SECOND exinf 0
+field SECOND stksz 4096
+field M1 blksz 16
+field M2 blksz 16
+field CLOCK exinf 0
+field SLOW exinf 0
+field AGAIN exinf 0
+field THIRD exinf 0
+field THIRD stksz 4096
 END
     run 0 each_kind.txt /dev/null list ./each_kind.cfg
     run 0 each_kind.txt /dev/null list --context each_kind.cfg

@@ -340,7 +340,8 @@ others_at_limits() {
     [ $? = 5 ] && [ "$(tail -n 1 output)" = '</html>' ] && [ ! -s errors ] && well=yes
     count "$well" view --differences limits.cfg wrong.txt
     well=no
-    within 900 list limits.cfg && [ "$(wc -l < output)" = 451 ] && [ "$(grep -c '^class ' output)" = 32 ] && [ ! -s errors ] && well=yes
+    within 900 list limits.cfg && [ "$(wc -l < output)" = 675 ] && [ "$(grep -c '^class ' output)" = 32 ] &&
+        [ "$(grep -c '^field ' output)" = 224 ] && [ ! -s errors ] && well=yes
     count "$well" list limits.cfg
     # the life of everything that has one: all of it at boot, and then the trace's lines that change some of it
     all=$(sed -nE 's/^ *CRE_[A-Z]{3}\(([A-Za-z0-9_]+),.*/\1/p' limits.cfg | paste -sd,)

@@ -1,6 +1,7 @@
 """random_events.py PROGRAM SEED PROCESSORS MASTER: random events on a machine with so many processors, whose time is that of the processor
 MASTER, or of each where this is 0. `calls` plays them on the kernel and `check` on the plain machine: these answer alike. After every
-fifth event `check --show` tells the state that `calls --state` tells: both tell the kernel's. Prints how many calls were accepted."""
+fifth event `check --show` tells the state that `calls --state` tells: both tell the kernel's. Who keeps what `calls --changes` tells has each of these states.
+Prints how many calls were accepted."""
 import subprocess
 import sys
 
@@ -105,18 +106,36 @@ def read_state(told):
 
 
 def played():
-    """The lines of the trace, and the state behind each, that at boot first."""
+    """The events, the lines of the trace, and the state behind each, that at boot first."""
     with subprocess.Popen([program, "calls", "--state", "machine.cfg", "-"], stdin=subprocess.PIPE, stdout=subprocess.PIPE, text=True) as calls:
-        trace, states = [], [read_state(calls.stdout)]
+        events, trace, states = [], [], [read_state(calls.stdout)]
         for _ in range(EVENTS):
-            calls.stdin.write(event(states[-1]))
+            events.append(event(states[-1]))
+            calls.stdin.write(events[-1])
             calls.stdin.flush()
             trace.append(calls.stdout.readline())
             states.append(read_state(calls.stdout))
         calls.stdin.close()
     if calls.returncode:
         sys.exit(f"calls: status {calls.returncode}")
-    return trace, states
+    return events, trace, states
+
+
+def kept(events):
+    """The lines that a reader of the changes keeps by their first words, at each end."""
+    with open("events.txt", "w", encoding="utf-8") as file:
+        file.writelines(events)
+    told = subprocess.run([program, "calls", "--changes", "machine.cfg", "events.txt"], stdout=subprocess.PIPE, text=True, check=True).stdout
+    lines, ends = {}, []
+    for line in told.splitlines(keepends=True):
+        words = line.split()
+        if line == "  end\n":
+            ends.append(sorted(lines.values()))
+        elif line.startswith(" ") and len(words) == 1:
+            del lines[words[0]]
+        elif line.startswith(" "):
+            lines[words[0]] = line
+    return ends
 
 
 def checked(*words):
@@ -127,9 +146,11 @@ def checked(*words):
 
 with open("machine.cfg", "w", encoding="utf-8") as file:
     file.write(machine())
-trace, states = played()
+events, trace, states = played()
 if checked(trace) != "yes\n":
     sys.exit("the plain machine answers otherwise:\n" + checked("--show", trace))
+if kept(events) != [sorted(state[:-1]) for state in states]:
+    sys.exit("the changes lead to other states")
 for count in range(0, EVENTS, BETWEEN_STATES):
     # No machine answers the line behind them, so that the report has its state before it.
     report = checked("--show", trace[:count] + [f"{count + 1} P1 - get_pid() E_OK:9\n"])

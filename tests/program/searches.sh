@@ -323,11 +323,21 @@ are_counting() {
     sed -E "$1" errors | awk 'NF != 2 || $1 + 0 <= places + 0 && NR > 1 || $2 + 0 <= seconds + 0 { wrong = 1 } { places = $1; seconds = $2 } END { exit wrong || NR == 0 }'
 }
 
+# counts_up EDIT WORD..: these words and --progress lead to such lines on standard error within three seconds, or on a busy machine within thirty
+counts_up() {
+    local seconds
+    for seconds in 3 10 30; do
+        timeout --preserve-status -s INT "$seconds" "$program" "${@:2}" --progress < /dev/null > output 2> errors
+        are_counting "$1" && return
+    done
+    return 1
+}
+
 # tells_how_far: at a terminal a search of more than a second tells how far it has come, and takes that away before its answer. A signal ends
 # it with nothing written.
 tells_how_far() {
     local folder=$top/examples/explore-philosophers words well=no
-    words=(explore "$folder/machine.cfg" "$folder/scripts.txt" --ticks 1 --turns 100 --find E_PAR --places 200000)
+    words=(explore "$folder/machine.cfg" "$folder/scripts.txt" --ticks 1 --turns 100 --find E_PAR --places 400000)
     if type script > /dev/null 2>&1; then
         script -qec "$(printf '%q ' "$program" "${words[@]}")" /dev/null < /dev/null > output
         # of more places than there are lines in an order
@@ -337,14 +347,15 @@ tells_how_far() {
     else
         left_out 'there is no command script' "${words[@]}"
     fi
+    # here more places are to be found than there is time for
+    words=(explore "$folder/machine.cfg" "$folder/scripts.txt" --ticks 900000 --turns 1000000 --find E_PAR --places 20000000)
     well=no
     timeout --preserve-status -s INT 1 "$program" "${words[@]}" < /dev/null > output 2> errors
     [ $? = 130 ] && [ ! -s output ] && [ ! -s errors ] && well=yes
     count "$well" "${words[@]}" '# and a signal'
     # where it is asked for, in lines that count up, of which the first stands there after a second
     well=no
-    timeout --preserve-status -s INT 3 "$program" "${words[@]}" --progress < /dev/null > output 2> errors
-    are_counting 's/^fmpsim: ([0-9]+) places, line [0-9]+, ([0-9]+) s$/\1 \2/' && well=yes
+    counts_up 's/^fmpsim: ([0-9]+) places, line [0-9]+, ([0-9]+) s$/\1 \2/' "${words[@]}" && well=yes
     count "$well" "${words[@]}" --progress '# on a pipe'
     words=(smp "$top/examples/scripted-spin-lock/machine.cfg" "$top/examples/scripted-spin-lock/scripts.txt" --ticks 1 --turns 100 --seeds 1..100000000 --find E_PAR)
     well=no
@@ -352,8 +363,7 @@ tells_how_far() {
     [ $? = 130 ] && [ ! -s output ] && [ ! -s errors ] && well=yes
     count "$well" "${words[@]}" '# on a pipe, not asked for'
     well=no
-    timeout --preserve-status -s INT 3 "$program" "${words[@]}" --progress < /dev/null > output 2> errors
-    are_counting 's/^fmpsim: at seed ([0-9]+), ([0-9]+) s$/\1 \2/' && well=yes
+    counts_up 's/^fmpsim: at seed ([0-9]+), ([0-9]+) s$/\1 \2/' "${words[@]}" && well=yes
     count "$well" "${words[@]}" --progress '# on a pipe'
 }
 

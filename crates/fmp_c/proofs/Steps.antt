@@ -8,16 +8,16 @@ use Rattle.fmp_setup.specs.Setup.{Setup}
 use Rattle.fmp_session.specs.Sessions.{IsAt, record_after}
 use Rattle.fmp_session.specs.declared.session.Session.{Session}
 use Rattle.fmp_c.specs.Machines.{TellsFault}
-use Rattle.fmp_c.specs.Told.{kind_number, told_of}
-use Rattle.fmp_c.specs.declared.told.Fault.{Fault}
+use Rattle.fmp_c.specs.Report.{kind_number, report_of}
+use Rattle.fmp_c.specs.declared.report.Fault.{Fault}
 
 -- the record of the event, with its number
-pub told_is : (s : Session) (c : Setup) (es : List Event) (e : Event) (n : ℕ) (r : Record) → IsAt s c (es ++ e ∷ []) → n ≡ s.count → r ≡ s.told
-    → s.told ≡ record_after c es e → told_of n r ≡ told_of (length es + 1) (record_after c es e)
-told_is s c es e n r at count told last =
+pub report_is : (s : Session) (c : Setup) (es : List Event) (e : Event) (n : ℕ) (r : Record) → IsAt s c (es ++ e ∷ []) → n ≡ s.count → r ≡ s.report
+    → s.report ≡ record_after c es e → report_of n r ≡ report_of (length es + 1) (record_after c es e)
+report_is s c es e n r at count report last =
     let number : n ≡ length es + 1 = rw (count, at.count, length-append) refl in
-    ap (λ (m : ℕ). told_of m r) number ∙ ap (told_of (length es + 1)) (told ∙ last)
+    ap (λ (m : ℕ). report_of m r) number ∙ ap (report_of (length es + 1)) (report ∙ last)
 
 -- the first fault
-pub fault_is : (text : List ℕ) (f : ConfigFault) (told : Fault) → IsFirstFault text f → told.kind ≡ kind_number f.kind → told.line ≡ f.line → TellsFault text told
-fault_is text f told first kind line = (f, (first, kind, line))
+pub fault_is : (text : List ℕ) (f : ConfigFault) (report : Fault) → IsFirstFault text f → report.kind ≡ kind_number f.kind → report.line ≡ f.line → TellsFault text report
+fault_is text f report first kind line = (f, (first, kind, line))

@@ -1,3 +1,3 @@
 pub mod Machines  -- What is done with the machine of a handle.
 pub mod Owned  -- What a handle owns.
-pub mod Told  -- What C is told of an event, as plain numbers.
+pub mod Report  -- What C is told of an event, as plain numbers.

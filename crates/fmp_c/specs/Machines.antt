@@ -12,10 +12,10 @@ use Rattle.fmp_session.specs.Sessions.{IsAt, allowed}
 use Rattle.fmp_session.specs.declared.refused.Refused.{Refused}
 use Rattle.fmp_session.specs.declared.refused.Refused.TheVariants as refused
 use Rattle.fmp_session.specs.declared.session.Session.{Session}
-use Rattle.fmp_c.specs.Told.{kind_number}
-use Rattle.fmp_c.specs.declared.told.Fault.{Fault}
+use Rattle.fmp_c.specs.Report.{kind_number}
+use Rattle.fmp_c.specs.declared.report.Fault.{Fault}
 
--- a handle has the machine of this configuration behind these events
+-- a handle has the machine of this configuration after these events
 abbrev pub Holds : Option Session → Setup → List Event → Type 0
 Holds None config events = ⊥
 Holds (Some s) config events = IsAt s config events
@@ -33,7 +33,7 @@ step_outcome (Some s) (Ok event) = outcome (allowed (length s.kernel.processors)
 
 -- a text with a fault, or want of memory, as it is told
 abbrev pub TellsFault : List ℕ → Fault → Type 0
-TellsFault text told = (f : ConfigFault) × (IsFirstFault text f × (told.kind ≡ kind_number f.kind) × (told.line ≡ f.line))
+TellsFault text report = (f : ConfigFault) × (IsFirstFault text f × (report.kind ≡ kind_number f.kind) × (report.line ≡ f.line))
 
 -- what a copy of a session into the machine of a handle answers: it is made where both are of one configuration
 abbrev pub IsCopied : Option Session → Session → ℤ → Type 0
@@ -45,7 +45,7 @@ IsCopied (Some into) from answer =
 -- the end of a wait that is told at a place, and the processor that is asked there
 abbrev pub release_at : Option Session → ℕ → Option Release
 release_at None place = None
-release_at (Some s) place = if s.is_told then slice_get s.told.releases place else None
+release_at (Some s) place = if s.is_reported then slice_get s.report.releases place else None
 
 abbrev pub release_outcome : Option Session → ℕ → ℤ
 release_outcome None place = number_of refused.NoMachine
@@ -53,7 +53,7 @@ release_outcome held place = if is_some (release_at held place) then pos 0 else 
 
 abbrev pub request_at : Option Session → ℕ → Option Proc
 request_at None place = None
-request_at (Some s) place = if s.is_told then slice_get s.told.requests place else None
+request_at (Some s) place = if s.is_reported then slice_get s.report.requests place else None
 
 abbrev pub number_asked : Option Proc → ℕ
 number_asked None = 0

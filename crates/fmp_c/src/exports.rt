@@ -16,11 +16,11 @@ ghost use Rattle.fmp_show_state.specs.States.{state_text};
 ghost use Rattle.fmp_text.specs.Lines.{line_event};
 ghost use Rattle.fmp_trace.specs.Lines.{line_text};
 ghost use Rattle.fmp_c.specs.Machines as spec;
-ghost use Rattle.fmp_c.specs.Told as plain;
+ghost use Rattle.fmp_c.specs.Report as plain;
 
 use crate::handle::Held;
 use crate::machine::Machine;
-use crate::told::{Asked, Fault, Freed, Told, fault_of, freed_of, processor_number, told_of};
+use crate::report::{Asked, Fault, Freed, Report, fault_of, freed_of, processor_number, report_of};
 use fmp_codes::Event;
 use fmp_config::ConfigFault;
 use fmp_config_statements::ReadError;
@@ -41,13 +41,13 @@ fn made(alloc: Global, text: &[u8]) -> Result<Held, ConfigFault>
 }
 
 /// Tells a fault. The result is that of a text with a fault, or of want of memory.
-fn tell_fault(found: &ConfigFault, told: &mut Fault) -> i32
-    ensures kind { told.new.kind ≡ plain.kind_number found.now.kind }
-    ensures line { told.new.line ≡ found.now.line }
-    ensures which { result ≡ (if told.new.kind == 12 then pos 1 else pos 2) }
+fn tell_fault(found: &ConfigFault, report: &mut Fault) -> i32
+    ensures kind { report.new.kind ≡ plain.kind_number found.now.kind }
+    ensures line { report.new.line ≡ found.now.line }
+    ensures which { result ≡ (if report.new.kind == 12 then pos 1 else pos 2) }
 {
-    *told = fault_of(found);
-    if told.kind == 12 { 1 } else { 2 }
+    *report = fault_of(found);
+    if report.kind == 12 { 1 } else { 2 }
 }
 
 /// Makes the machine of a configuration text, at boot. What the handle had before is freed first. The result is 0, 1 for want of memory,
@@ -88,13 +88,13 @@ pub extern "C" fn fmp_free_at(alloc: Global, machine: &mut Machine)
 }
 
 /// Answers an event, where there is one, and tells what it did.
-#[tactic(auto, using(crate::proofs::Steps::told_is))]
-fn step_on(session: &mut Session, event: Result<Event, Refused>, told: &mut Told) -> i32
+#[tactic(auto, using(crate::proofs::Steps::report_is))]
+fn step_on(session: &mut Session, event: Result<Event, Refused>, report: &mut Report) -> i32
     ensures outcome { result ≡ spec.step_outcome (Some session.old) event }
     ensures at { (c : Setup) (es : List AnyEvent) (e : AnyEvent) → event ≡ Ok e → IsAt session.old c es → result ≡ pos 0 → IsAt session.new c (es ++ e ∷ []) }
-    ensures told { (c : Setup) (es : List AnyEvent) (e : AnyEvent) → event ≡ Ok e → IsAt session.old c es → result ≡ pos 0
-        → told.new ≡ plain.told_of (length es + 1) (sessions.record_after c es e) }
-    ensures same { result ≢ pos 0 → (session.new ≡ session.old) × (told.new ≡ told.old) }
+    ensures report { (c : Setup) (es : List AnyEvent) (e : AnyEvent) → event ≡ Ok e → IsAt session.old c es → result ≡ pos 0
+        → report.new ≡ plain.report_of (length es + 1) (sessions.record_after c es e) }
+    ensures same { result ≢ pos 0 → (session.new ≡ session.old) × (report.new ≡ report.old) }
 {
     let event = match event {
         Ok(event) => event,
@@ -103,8 +103,8 @@ fn step_on(session: &mut Session, event: Result<Event, Refused>, told: &mut Told
     if let Err(why) = session.step(event) {
         return why.number();
     }
-    if let Some(record) = session.told() {
-        *told = told_of(session.count(), record);
+    if let Some(record) = session.report() {
+        *report = report_of(session.count(), record);
     }
     0
 }
@@ -115,20 +115,20 @@ pub extern "C" fn fmp_step_at(
     alloc: Global,
     machine: &mut Machine,
     event: &Asked,
-    told: &mut Told,
+    report: &mut Report,
 ) -> i32
     ensures outcome { result ≡ spec.step_outcome machine.old.handle.held (event_from event.now.processor event.now.event event.now.arguments) }
     ensures at { (c : Setup) (es : List AnyEvent) (e : AnyEvent) → event_from event.now.processor event.now.event event.now.arguments ≡ Ok e
         → spec.Holds machine.old.handle.held c es → result ≡ pos 0 → spec.Holds machine.new.handle.held c (es ++ e ∷ []) }
-    ensures told { (c : Setup) (es : List AnyEvent) (e : AnyEvent) → event_from event.now.processor event.now.event event.now.arguments ≡ Ok e
-        → spec.Holds machine.old.handle.held c es → result ≡ pos 0 → told.new ≡ plain.told_of (length es + 1) (sessions.record_after c es e) }
-    ensures same { result ≢ pos 0 → (machine.new.handle.held ≡ machine.old.handle.held) × (told.new ≡ told.old) }
+    ensures report { (c : Setup) (es : List AnyEvent) (e : AnyEvent) → event_from event.now.processor event.now.event event.now.arguments ≡ Ok e
+        → spec.Holds machine.old.handle.held c es → result ≡ pos 0 → report.new ≡ plain.report_of (length es + 1) (sessions.record_after c es e) }
+    ensures same { result ≢ pos 0 → (machine.new.handle.held ≡ machine.old.handle.held) × (report.new ≡ report.old) }
 {
     match machine.take(alloc) {
         None => Refused::NoMachine.number(),
         Some(mut held) => {
             let asked = event_of(event.processor, event.event, &event.arguments);
-            let outcome = step_on(&mut held.session, asked, told);
+            let outcome = step_on(&mut held.session, asked, report);
             machine.put(held);
             outcome
         }
@@ -141,22 +141,22 @@ pub extern "C" fn fmp_step_text_at(
     alloc: Global,
     machine: &mut Machine,
     line: &[u8],
-    told: &mut Told,
+    report: &mut Report,
 ) -> i32
     ensures none { machine.old.handle.held ≡ None → result ≡ number_of Refused.NoMachine }
     ensures outcome { (c : Setup) (es : List AnyEvent) → spec.Holds machine.old.handle.held c es
         → result ≡ spec.step_outcome machine.old.handle.held (sessions.one_of (line_event c.names line.now)) }
     ensures at { (c : Setup) (es : List AnyEvent) (e : AnyEvent) → line_event c.names line.now ≡ Ok (Some e)
         → spec.Holds machine.old.handle.held c es → result ≡ pos 0 → spec.Holds machine.new.handle.held c (es ++ e ∷ []) }
-    ensures told { (c : Setup) (es : List AnyEvent) (e : AnyEvent) → line_event c.names line.now ≡ Ok (Some e)
-        → spec.Holds machine.old.handle.held c es → result ≡ pos 0 → told.new ≡ plain.told_of (length es + 1) (sessions.record_after c es e) }
-    ensures same { result ≢ pos 0 → (machine.new.handle.held ≡ machine.old.handle.held) × (told.new ≡ told.old) }
+    ensures report { (c : Setup) (es : List AnyEvent) (e : AnyEvent) → line_event c.names line.now ≡ Ok (Some e)
+        → spec.Holds machine.old.handle.held c es → result ≡ pos 0 → report.new ≡ plain.report_of (length es + 1) (sessions.record_after c es e) }
+    ensures same { result ≢ pos 0 → (machine.new.handle.held ≡ machine.old.handle.held) × (report.new ≡ report.old) }
 {
     match machine.take(alloc) {
         None => Refused::NoMachine.number(),
         Some(mut held) => {
             let asked = held.session.event_in(line);
-            let outcome = step_on(&mut held.session, asked, told);
+            let outcome = step_on(&mut held.session, asked, report);
             machine.put(held);
             outcome
         }
@@ -192,8 +192,8 @@ pub extern "C" fn fmp_line_at(
         → result ≡ pos 0 → room.new ≡ sessions.written_over (line_text c.names (length es) r) room.old }
     ensures count { (c : Setup) (es : List AnyEvent) (r : AnyRecord) → spec.Holds machine.old.handle.held c es → sessions.last_record c es ≡ Some r
         → result ≡ pos 0 → count.new ≡ length (line_text c.names (length es) r) }
-    ensures nothing { IfSome machine.old.handle.held (λ s. (result ≡ number_of Refused.Nothing) ↔ (s.is_told ≡ false)) }
-    ensures small { IfSome machine.old.handle.held (λ s. result ≡ number_of Refused.Room → length room.old < length (line_text s.config.names s.count s.told)) }
+    ensures nothing { IfSome machine.old.handle.held (λ s. (result ≡ number_of Refused.Nothing) ↔ (s.is_reported ≡ false)) }
+    ensures small { IfSome machine.old.handle.held (λ s. result ≡ number_of Refused.Room → length room.old < length (line_text s.config.names s.count s.report)) }
     ensures at { (c : Setup) (es : List AnyEvent) → spec.Holds machine.old.handle.held c es → spec.Holds machine.new.handle.held c es }
     ensures same { result ≢ pos 0 → (room.new ≡ room.old) × (count.new ≡ count.old) }
 {
@@ -255,7 +255,7 @@ fn copy_into(alloc: Global, other: &Session, into: &mut Machine) -> i32
     }
 }
 
-/// Lets a machine be as another one is, where both are of one configuration. Behind it there is no last event, until the next step.
+/// Lets a machine be as another one is, where both are of one configuration. After it there is no last event, until the next step.
 #[unsafe(no_mangle)]
 pub extern "C" fn fmp_copy_at(alloc: Global, from: &mut Machine, into: &mut Machine) -> i32
     ensures at { (c : Setup) (es : List AnyEvent) → spec.Holds from.old.handle.held c es → result ≡ pos 0 → spec.Holds into.new.handle.held c es }

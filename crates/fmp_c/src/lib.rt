@@ -10,7 +10,7 @@
 mod exports;
 mod handle;
 mod machine;
-mod told;
+mod report;
 
 pub use exports::{
     fmp_copy_at, fmp_free_at, fmp_line_at, fmp_make_at, fmp_release_at, fmp_request_at,
@@ -18,4 +18,4 @@ pub use exports::{
 };
 pub use handle::{Handle, Held};
 pub use machine::Machine;
-pub use told::{Asked, Fault, Freed, Told};
+pub use report::{Asked, Fault, Freed, Report};

@@ -34,11 +34,11 @@ values_in-arguments_after (kind ∷ kinds) prefix (value ∷ rest) e =
     let others = values_in-arguments_after kinds (prefix ++ value ∷ []) rest each.1 in
     let count : length (prefix ++ value ∷ []) ≡ length prefix + 1 = length-append prefix (value ∷ []) in
     let whole : (prefix ++ value ∷ []) ++ rest ≡ prefix ++ value ∷ rest = append_assoc prefix (value ∷ []) rest in
-    let behind : values_in kinds (arguments_from kinds (length prefix + 1) (prefix ++ value ∷ rest)) ≡ rest =
+    let following : values_in kinds (arguments_from kinds (length prefix + 1) (prefix ++ value ∷ rest)) ≡ rest =
     subst (λ (n : ℕ). values_in kinds (arguments_from kinds n (prefix ++ value ∷ rest)) ≡ rest) count
     (subst (λ (l : List Value). values_in kinds (arguments_from kinds (length (prefix ++ value ∷ [])) l) ≡ rest) whole others) in
     ap (λ (v : Value). v ∷ values_in kinds (arguments_from kinds (length prefix + 1) (prefix ++ value ∷ rest))) first
-    ∙ ap (λ (vs : List Value). value ∷ vs) behind
+    ∙ ap (λ (vs : List Value). value ∷ vs) following
 
 -- values of the right kinds are those of the arguments that are read of them
 pub values_in-arguments_from : (kinds : List ArgumentKind) (list : List Value) → are_of_kinds kinds list ≡ true

@@ -335,7 +335,7 @@ fn made_of(call: Call, values: &[Value]) -> Call
     }
 }
 
-/// As [`with_values`], where each value is known to be of its kind. The values behind the last argument are not looked at.
+/// As [`with_values`], where each value is known to be of its kind. The values after the last argument are not looked at.
 #[inline(always)]
 pub fn with_known_values(call: Call, values: &[Value; MOST_ARGUMENTS]) -> Call
     ensures value { result ≡ (line_of call).make values.now }

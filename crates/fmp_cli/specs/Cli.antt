@@ -18,13 +18,13 @@ use Rattle.fmp_cli.specs.declared.Request.{Request}
 use Rattle.fmp_cli.specs.declared.Request.TheVariants as request
 use Rattle.fmp_cli.specs.declared.Subcommand.{Subcommand}
 use Rattle.fmp_cli.specs.declared.Subcommand.TheVariants as subcommand
-use Rattle.fmp_cli.specs.declared.Told.{Told}
-use Rattle.fmp_cli.specs.Flags.{told_by, asked_by, form_by, is_path, page_by, subcommand_by}
+use Rattle.fmp_cli.specs.declared.Report.{Report}
+use Rattle.fmp_cli.specs.Flags.{report_by, asked_by, form_by, is_path, page_by, subcommand_by}
 
 -- each command line, as a parse reads it
 abbrev pub calls_line : App
 calls_line = line_of (codes "calls") (
-    path_rule (codes "CFG") ∷ path_rule (codes "EVENTS") ∷ choice_rule (codes "state") ∷ value_rule (codes "of") ∷ flag_rule (codes "context")
+    path_rule (codes "CFG") ∷ path_rule (codes "EVENTS") ∷ choice_rule (codes "state") ∷ choice_rule (codes "changes") ∷ value_rule (codes "of") ∷ flag_rule (codes "context")
     ∷ value_rule (codes "color") ∷ [])
 
 abbrev pub check_line : App
@@ -49,11 +49,15 @@ pub record NamesPaths (rows : List Row) (id : Text) (text_form : TextForm) (p : 
   pub text : p.text.now ≡ text_of id rows
   pub context : (b : Bool) × IsFlag (one_of (codes "context") rows) b × (p.context ≡ then_some b text_form)
 
--- the state is told where that is asked for, and the trace coloured as the word says
-pub record AsksCalls (rows : List Row) (p : Paths) (t : Told) (c : Colour) : Type 0 where
+-- the state, or what of it changed, is told where that is asked for, and the trace coloured as the word says
+pub record AsksCalls (rows : List Row) (p : Paths) (t : Report) (c : Colour) : Type 0 where
   pub paths : NamesPaths rows (codes "EVENTS") form.Events p
   pub names : first_of (codes "of") rows ≡ None
-  pub told : (b : Bool) × IsFlag (one_of (codes "state") rows) b × (t ≡ told_by b)
+  pub state : Bool
+  pub changes : Bool
+  pub state_flag : IsFlag (one_of (codes "state") rows) state
+  pub changes_flag : IsFlag (one_of (codes "changes") rows) changes
+  pub report : t ≡ report_by state changes
   pub colour : c ≡ colour_by (first_of (codes "color") rows)
 
 -- of the things with these names it is told what changes, and the lines are coloured as the word says
@@ -89,7 +93,7 @@ pub record AsksView (rows : List Row) (p : Paths) (a : Asked) : Type 0 where
   pub paths : NamesPaths rows (codes "TRACE") form.Trace p
   pub asked : (b : Bool) × IsFlag (one_of (codes "differences") rows) b × (a ≡ page_by b)
 
--- what the word behind `list` asks for, if there is one: of a path what was read of that configuration, with what stands beside a fault
+-- what the word after `list` asks for, if there is one: of a path what was read of that configuration, with what stands beside a fault
 -- where the flag asks for it, and else what is called so, or all that may be written
 abbrev pub IsListedBy : Option Text → Bool → Request → Type 0
 IsListedBy word context (request.List id) = (option_map (λ s. s.now) id ≡ word) × (unwrap_or (option_map is_path word) false ≡ false)
@@ -132,6 +136,6 @@ IsAsked subcommand.Shrink words (request.Shrink r) = shrink.Asks (shrink.found_i
 IsAsked subcommand.Shrink words _ = ⊥
 IsAsked subcommand.List words r = AsksList (found_by list_line words) r
 
--- what is asked for by the words behind the program's name, of which the first names the subcommand
+-- what is asked for by the words after the program's name, of which the first names the subcommand
 abbrev pub AsksFor : Option Text → List Text → Request → Type 0
 AsksFor name words r = IsSomeAnd (subcommand_by name) (λ s. IsAsked s words r)

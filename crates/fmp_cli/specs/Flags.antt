@@ -11,15 +11,17 @@ use Rattle.fmp_cli.specs.declared.Asked.{Asked}
 use Rattle.fmp_cli.specs.declared.Asked.TheVariants.{Verdict, Partial, Differences, Page, DifferencesPage}
 use Rattle.fmp_cli.specs.declared.Subcommand.{Subcommand}
 use Rattle.fmp_cli.specs.declared.Subcommand.TheVariants as subcommand
-use Rattle.fmp_cli.specs.declared.Told.{Told}
-use Rattle.fmp_cli.specs.declared.Told.TheVariants as told
+use Rattle.fmp_cli.specs.declared.Report.{Report}
+use Rattle.fmp_cli.specs.declared.Report.TheVariants as report
 
 abbrev pub full_stop : ℕ
 full_stop = 46
 
--- what is told of each event, by the flag
-abbrev pub told_by : Bool → Told
-told_by state = if state then told.State else told.Line
+-- what is told of each event, by the flags for the state and for what of it changed
+abbrev pub report_by : Bool → Bool → Report
+report_by true changes = report.State
+report_by false true = report.Changes
+report_by false false = report.Line
 
 -- what is asked of a trace, by the flags: a verdict on what is written, or else the first line that differs, or else all of them,
 -- or else the verdict on whole lines alone
@@ -37,7 +39,7 @@ page_by differences = if differences then DifferencesPage else Page
 abbrev pub form_by : Bool → TextForm
 form_by partial = if partial then form.Partial else form.Trace
 
--- a word behind `list` is the path of a configuration: a `.` or a `/` is in it
+-- a word after `list` is the path of a configuration: a `.` or a `/` is in it
 abbrev pub is_path : List ℕ → Bool
 is_path word = list_any (λ b. (b == full_stop) || (b == slash)) word
 

@@ -7,7 +7,7 @@ ghost use Rattle.std.specs.Prelude.{◌≡◌, ◌≤◌, IfOk, IsErr, codes, dr
 ghost use Rattle.fmp_cli_table.specs.Found.{found_by, rows_in};
 ghost use Rattle.fmp_cli.specs.Cli.{AsksFor, AsksList, IsAsked, IsCalls, IsCheck, IsListedBy, IsView, IsWave, NamesPaths};
 ghost use Rattle.fmp_cli.specs.Cli.{calls_line, check_line, list_line, view_line, wave_line};
-ghost use Rattle.fmp_cli.specs.Flags.{asked_by, form_by, is_path, page_by, told_by, subcommand_by};
+ghost use Rattle.fmp_cli.specs.Flags.{asked_by, form_by, is_path, page_by, report_by, subcommand_by};
 
 use clap::error::ErrorKind;
 use clap::{Arg, ArgAction, ArgMatches, Command, Error};
@@ -62,6 +62,16 @@ that wait or are suspended, what else is not as it was at boot, and a line that 
     S2 count=1
     end
 
+With --changes the state at boot comes first, too, and what of it changed by its event follows
+each line: the lines of the processors, each other line of the state that is new or differs, the
+name of each line that is gone, and the line that ends it:
+
+  2 P1 T2 sig_sem(S1) E_OK rel=T3:E_OK ipi=2
+    P1 run=T2 ready=T1
+    P2 run=- ready=T3 latch
+    T3
+    end
+
 With --of the life of some tasks, handlers and objects is written: what each of them is at boot,
 and then each line whose event changes that, and below it those of them that changed. That ticks
 count down is no change. This is --of=T2,S1:
@@ -85,6 +95,8 @@ Exit status:
   4  want of memory";
 
 const STATE: &str = "state";
+
+const CHANGES: &str = "changes";
 
 const OF: &str = "of";
 
@@ -242,8 +254,13 @@ const CALLS_PARTS: &[Part<'static>] = &[
     EVENTS_PART,
     Part {
         id: STATE,
-        form: Form::Choice(OF),
+        form: Form::OneOfThree(CHANGES, OF),
         about: "Also writes the state at boot and after each event",
+    },
+    Part {
+        id: CHANGES,
+        form: Form::OneOfThree(STATE, OF),
+        about: "Also writes the state at boot, and what of it each event changed",
     },
     Part {
         id: OF,
@@ -375,11 +392,13 @@ pub struct Paths<'a> {
 
 /// What is written of each event.
 #[derive(Clone, Copy)]
-pub enum Told {
+pub enum Report {
     /// Its line of the trace.
     Line,
     /// That, and the state after it.
     State,
+    /// Its line, and what of the state it changed.
+    Changes,
 }
 
 /// What is asked of a trace.
@@ -387,7 +406,7 @@ pub enum Told {
 pub enum Asked {
     /// Whether it is the machine's.
     Verdict,
-    /// Whether it is the machine's, where each line may leave out its number, its runner and the fields behind its answer.
+    /// Whether it is the machine's, where each line may leave out its number, its runner and the fields after its answer.
     Partial,
     /// Where it is not the machine's.
     Differences(Shown),
@@ -412,7 +431,7 @@ pub struct Described<'a> {
 #[derive(Clone, Copy)]
 pub enum Request<'a> {
     /// What a configuration answers to a list of events.
-    Calls(Paths<'a>, Told, Colour),
+    Calls(Paths<'a>, Report, Colour),
     /// What of the things with these names, between commas, the events change.
     Life(Paths<'a>, &'a str, Colour),
     /// What is asked of a trace.
@@ -473,7 +492,7 @@ fn whole_command<'a>(alloc: Global) -> Result<Command<'a>, AllocError> {
     Ok(whole)
 }
 
-/// The two paths that the words behind a subcommand name.
+/// The two paths that the words after a subcommand name.
 fn named_paths<'a>(matches: &ArgMatches<'a>, text: &str, form: TextForm) -> Paths<'a>
     ensures { NamesPaths (rows_in matches.now) text.now form result }
 {
@@ -488,10 +507,14 @@ fn named_paths<'a>(matches: &ArgMatches<'a>, text: &str, form: TextForm) -> Path
 }
 
 /// What is told of each event.
-fn told_for(state: bool) -> Told
-    ensures { result ≡ told_by state }
+fn report_for(state: bool, changes: bool) -> Report
+    ensures { result ≡ report_by state changes }
 {
-    if state { Told::State } else { Told::Line }
+    match (state, changes) {
+        (true, _) => Report::State,
+        (false, true) => Report::Changes,
+        (false, false) => Report::Line,
+    }
 }
 
 /// What is asked of a trace by these flags.
@@ -506,16 +529,17 @@ fn asked_for(partial: bool, show: bool, all: bool) -> Asked
     }
 }
 
-/// What `calls` is asked for: what of some things changes where `--of` stands, and the state too where `--state` does.
+/// What `calls` is asked for: what of some things changes where `--of` stands, the state too where `--state` does, and what of it changed where
+/// `--changes` does.
 fn calls_in<'a>(matches: &ArgMatches<'a>) -> Request<'a>
     ensures { IsCalls (rows_in matches.now) result }
 {
     let paths = named_paths(matches, "EVENTS", TextForm::Events);
-    let told = told_for(flag_in(matches, STATE));
+    let report = report_for(flag_in(matches, STATE), flag_in(matches, CHANGES));
     let colour = colour_of(matches);
     match option_in(matches, OF) {
         Some(names) => Request::Life(paths, names, colour),
-        None => Request::Calls(paths, told, colour),
+        None => Request::Calls(paths, report, colour),
     }
 }
 
@@ -573,7 +597,7 @@ fn view_in<'a>(matches: &ArgMatches<'a>) -> Request<'a>
     Request::Trace(paths, page_for(differences))
 }
 
-/// Whether a word behind `list` is the path of a configuration: it has a `.` or a `/` in it, as nothing has that is called so.
+/// Whether a word after `list` is the path of a configuration: it has a `.` or a `/` in it, as nothing has that is called so.
 fn is_path(word: &str) -> bool
     ensures { result ≡ is_path word.entry.now }
 {
@@ -582,7 +606,7 @@ fn is_path(word: &str) -> bool
         .any(|byte| *byte == b'.' || *byte == b'/')
 }
 
-/// What `list` is asked for by the word behind it, if there is one, and by the flag.
+/// What `list` is asked for by the word after it, if there is one, and by the flag.
 fn listed<'a>(name: Option<&'a str>, context: bool) -> Request<'a>
     ensures { IsListedBy (option_map (λ s. s.now) name.entry) context result }
 {
@@ -599,7 +623,7 @@ fn listed<'a>(name: Option<&'a str>, context: bool) -> Request<'a>
     }
 }
 
-/// What `list` is asked for: what was read of a configuration where a path stands behind it, and else what may be written.
+/// What `list` is asked for: what was read of a configuration where a path stands after it, and else what may be written.
 fn list_in<'a>(matches: &ArgMatches<'a>) -> Request<'a>
     ensures { AsksList (rows_in matches.now) result }
 {
@@ -647,7 +671,7 @@ fn parse_list<'a>(alloc: Global, words: &'a [String]) -> Result<Request<'a>, Err
     Ok(list_in(&matches))
 }
 
-/// What the words behind the program's name ask for, of which the first names the subcommand.
+/// What the words after the program's name ask for, of which the first names the subcommand.
 fn parse_as<'a>(
     alloc: Global,
     subcommand: Subcommand,
@@ -667,7 +691,7 @@ fn parse_as<'a>(
     }
 }
 
-/// The word behind the program's name, which names the command.
+/// The word after the program's name, which names the command.
 fn command_word<'a>(words: &'a [String]) -> Option<&'a str>
     ensures { option_map (λ w. w.now) result ≡ option_map (λ w. w.bytes.items) (slice_get words.now 1) }
 {
@@ -691,8 +715,8 @@ fn subcommand_for(word: Option<&str>) -> Option<Subcommand>
     }
 }
 
-/// The words behind the program's name.
-fn behind<'a>(words: &'a [String]) -> &'a [String]
+/// The words after the program's name.
+fn following<'a>(words: &'a [String]) -> &'a [String]
     requires { 1 ≤ length words.now }
     ensures { result.now ≡ drop 1 words.now }
 {
@@ -708,14 +732,14 @@ fn refuse<'a>(alloc: Global, words: &'a [String]) -> Result<Request<'a>, Error>
     Err(whole.error(ErrorKind::MissingSubcommand, "a subcommand is expected")?)
 }
 
-/// What the words of the command line ask for: the word behind the program's name says which command, and each part of the
-/// request is what clap finds in that word and those behind it under one name of that command.
+/// What the words of the command line ask for: the word after the program's name says which command, and each part of the
+/// request is what clap finds in that word and those after it under one name of that command.
 pub fn parse<'a>(alloc: Global, words: &'a [String]) -> Result<Request<'a>, Error>
     ensures { IfOk result (AsksFor (option_map (λ w. w.bytes.items) (slice_get words.now 1))
         (map (λ w. w.bytes.items) (drop 1 words.now))) }
 {
     match subcommand_for(command_word(words)) {
-        Some(subcommand) => parse_as(alloc, subcommand, behind(words)),
+        Some(subcommand) => parse_as(alloc, subcommand, following(words)),
         None => refuse(alloc, words),
     }
 }

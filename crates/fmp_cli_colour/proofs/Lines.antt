@@ -8,7 +8,7 @@ use Rattle.fmp_bytes.specs.Bytes.{cut_at, line_feed}
 use Rattle.fmp_bytes.proofs.Cutting.{no_cut}
 use Rattle.fmp_cli_colour.specs.Painting.{first_length}
 
--- where a text is cut, the byte stands behind what it is cut off of
+-- where a text is cut, the byte stands after what it is cut off of
 pub cut_length : (c : ℕ) (text rest : List ℕ) → (cut_at c text).1 ≡ Some rest → length (cut_at c text).0 + 1 ≤ length text
 unfolding cut_at
 cut_length c text rest e =

@@ -12,7 +12,7 @@ one_word plain text = ap (painted_words plain) (pieces_of-cut space text)
 
 module _ (old out whole between text word : List ℕ) (plain : ℕ) (after : Option (List ℕ)) (was : between ≡ old ++ out) (so_far : out ++ painted_words plain (words_left (Some text)) ≡ whole)
     (word_is : word ≡ (cut_at space text).0) (after_is : after ≡ (cut_at space text).1) where
-  -- all is what is out, this word, and the words behind it
+  -- all is what is out, this word, and the words after it
   pub split : out ++ (painted_word plain word ++ painted_words (plain - 1) (words_left after)) ≡ whole
   split =
       ap (λ (w : List ℕ). out ++ (painted_word plain w ++ painted_words (plain - 1) (words_left after))) word_is

@@ -24,21 +24,21 @@ mark_of zero word =
     else if begins word (codes "run=") then Dispatched
     else Plain
 
--- what stands before a word and behind it: a blank and the colour, and the end of the colour
+-- what stands before a word and after it: a blank and the colour, and the end of the colour
 abbrev pub before : Mark → List ℕ
 before Plain = space ∷ []
 before Refused = space ∷ escape ∷ codes "[31m"
 before Released = space ∷ escape ∷ codes "[32m"
 before Dispatched = space ∷ escape ∷ codes "[36m"
 
-abbrev pub behind_word : Mark → List ℕ
-behind_word Plain = []
-behind_word mark = escape ∷ codes "[0m"
+abbrev pub following_word : Mark → List ℕ
+following_word Plain = []
+following_word mark = escape ∷ codes "[0m"
 
 unfoldable pub painted_word : ℕ → List ℕ → List ℕ
-painted_word plain word = before (mark_of plain word) ++ (word ++ behind_word (mark_of plain word))
+painted_word plain word = before (mark_of plain word) ++ (word ++ following_word (mark_of plain word))
 
--- the words behind the number, each after its blank
+-- the words after the number, each after its blank
 abbrev pub painted_words : ℕ → List (List ℕ) → List ℕ
 painted_words plain [] = []
 painted_words plain (word ∷ words) = painted_word plain word ++ painted_words (plain - 1) words
@@ -46,7 +46,7 @@ painted_words plain (word ∷ words) = painted_word plain word ++ painted_words 
 abbrev pub words_left : Option (List ℕ) → List (List ℕ)
 words_left rest = option_map_or (pieces_of space) rest []
 
--- the line of an event: its number, and behind it the words, of which the first two are plain
+-- the line of an event: its number, and after it the words, of which the first two are plain
 unfoldable pub painted_event : List ℕ → List ℕ
 painted_event line = (cut_at space line).0 ++ painted_words 2 (words_left (cut_at space line).1)
 

@@ -59,8 +59,8 @@ fn before(mark: Mark) -> &'static [u8]
 }
 
 /// What ends the colour of a word.
-fn behind(mark: Mark) -> &'static [u8]
-    ensures { result.now ≡ spec.behind_word mark }
+fn following(mark: Mark) -> &'static [u8]
+    ensures { result.now ≡ spec.following_word mark }
 {
     match mark {
         Mark::Plain => b"",
@@ -91,10 +91,10 @@ fn put_word<W: Sink>(sink: &mut W, plain: u8, word: &[u8]) -> Result<(), Failed>
 {
     let mark = mark_of(plain, word);
     write_all(sink, before(mark))?;
-    put_both(sink, word, behind(mark))
+    put_both(sink, word, following(mark))
 }
 
-/// Writes the words behind the number of a line, of which so many are plain.
+/// Writes the words after the number of a line, of which so many are plain.
 fn put_words<W: Sink>(sink: &mut W, words: Option<&[u8]>, plain: u8) -> Result<(), Failed>
     requires { W.failures sink.old < 2 ^ 64 - 1 }
     ensures count { W.failures sink.new ≡ W.failures sink.old + (if is_err result then 1 else 0) }

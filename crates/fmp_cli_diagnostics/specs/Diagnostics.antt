@@ -13,7 +13,7 @@ spot_text Nowhere = []
 spot_text (Line line) = codes ":" ++ decimal line
 spot_text (Column line column) = codes ":" ++ decimal line ++ codes ":" ++ decimal column
 
--- the word at fault behind a blank, where there is one
+-- the word at fault after a blank, where there is one
 abbrev pub with_blank : List ℕ → List ℕ
 with_blank [] = []
 with_blank (c ∷ cs) = codes " " ++ c ∷ cs

@@ -14,9 +14,9 @@ plain = Plain
 unfoldable pub is_option : List ℕ → Bool
 is_option word = bytes_eq word (codes "--diagnostics") || starts_with ◌==◌ word (codes "--diagnostics=")
 
--- the form by a word, behind others that say this one
-unfoldable pub form_behind : LineForm → List ℕ → LineForm
-form_behind form word =
+-- the form by a word, after others that say this one
+unfoldable pub form_after : LineForm → List ℕ → LineForm
+form_after form word =
     if bytes_eq word (codes "--diagnostics=gcc") then Gcc
     else (if bytes_eq word (codes "--diagnostics=plain") then Plain
     else (if is_option word then Other else form))
@@ -24,4 +24,4 @@ form_behind form word =
 -- the form by these words
 abbrev pub form_from : LineForm → List (String Global) → LineForm
 form_from form [] = form
-form_from form (word ∷ words) = form_from (form_behind form word.bytes.items) words
+form_from form (word ∷ words) = form_from (form_after form word.bytes.items) words

@@ -28,7 +28,7 @@ impl Spot {
     }
 }
 
-/// What stands behind the path: `:4:3`, `:4`, or nothing.
+/// What stands after the path: `:4:3`, `:4`, or nothing.
 impl fmt::Display for Spot {
     ghost use Rattle.std.specs.Prelude.{Some};
     ghost use Rattle.fmp_cli_diagnostics.specs.Diagnostics.{spot_text};

@@ -23,9 +23,9 @@ fn is_option(word: &str) -> bool
 }
 
 /// The form that a word asks for, or that of the words before it where it asks for none.
-#[tactic(auto, unfolding(crate::specs::Options::form_behind))]
-fn form_behind(form: LineForm, word: &str) -> LineForm
-    ensures { result ≡ spec.form_behind form word.now }
+#[tactic(auto, unfolding(crate::specs::Options::form_after))]
+fn form_after(form: LineForm, word: &str) -> LineForm
+    ensures { result ≡ spec.form_after form word.now }
 {
     if word == "--diagnostics=gcc" {
         LineForm::Gcc
@@ -44,7 +44,7 @@ pub fn line_form(words: &[String]) -> LineForm
 {
     let mut form = LineForm::Plain;
     for word in words {
-        form = form_behind(form, word.as_str());
+        form = form_after(form, word.as_str());
     }
     form
 }

@@ -26,8 +26,8 @@ place_in n place (first ∷ kinds) are zero kind e =
     let at : place kind ≡ n = ap place (sym same) ∙ are.0 in
     omega (arith, at)
 place_in n place (first ∷ kinds) are (suc i) kind e =
-    let behind = place_in (n + 1) place kinds are.1 i kind e in
-    omega (arith, behind)
+    let following = place_in (n + 1) place kinds are.1 i kind e in
+    omega (arith, following)
 
 -- ---- the faults of a configuration
 
@@ -90,21 +90,21 @@ pub config_in_order : (i : ℕ) (kind : ConfigKind) → slice_get config_kinds i
 config_in_order i kind e =
     subst (λ (place : ℕ). configs.code_of kind ≡ codes "F" ++ decimal (place + 1)) (config_at i kind e) (config_number kind)
 
-pub config_told : (kind : ConfigKind) → about (configs.code_of kind) ≡ Some (about_config kind)
+pub config_reported : (kind : ConfigKind) → about (configs.code_of kind) ≡ Some (about_config kind)
 unfolding about of_fault_or_left_out statement_of
-config_told config.Syntax = refl
-config_told config.CutShort = refl
-config_told config.Unsupported = refl
-config_told config.OutsideClass = refl
-config_told config.UnknownClass = refl
-config_told config.NameTaken = refl
-config_told config.OutOfRange = refl
-config_told config.BadAttribute = refl
-config_told config.TooMany = refl
-config_told config.NoProcessors = refl
-config_told config.BadClass = refl
-config_told config.Memory = refl
-config_told config.ForeignHandler = refl
+config_reported config.Syntax = refl
+config_reported config.CutShort = refl
+config_reported config.Unsupported = refl
+config_reported config.OutsideClass = refl
+config_reported config.UnknownClass = refl
+config_reported config.NameTaken = refl
+config_reported config.OutOfRange = refl
+config_reported config.BadAttribute = refl
+config_reported config.TooMany = refl
+config_reported config.NoProcessors = refl
+config_reported config.BadClass = refl
+config_reported config.Memory = refl
+config_reported config.ForeignHandler = refl
 
 -- ---- the faults of events, scripts and traces
 
@@ -152,13 +152,13 @@ pub text_in_order : (i : ℕ) (kind : TextKind) → slice_get text_kinds i ≡ S
 text_in_order i kind e =
     subst (λ (place : ℕ). texts.code_of kind ≡ codes "E" ++ decimal (place + 1)) (text_at i kind e) (text_number kind)
 
-pub text_told : (kind : TextKind) → about (texts.code_of kind) ≡ Some (about_text kind)
+pub text_reported : (kind : TextKind) → about (texts.code_of kind) ≡ Some (about_text kind)
 unfolding about of_fault_or_left_out statement_of
-text_told text.BadByte = refl
-text_told text.BadWord = refl
-text_told text.UnknownName = refl
-text_told text.WrongArguments = refl
-text_told text.NumberOutOfRange = refl
-text_told text.CutShort = refl
-text_told text.TooMany = refl
-text_told text.Memory = refl
+text_reported text.BadByte = refl
+text_reported text.BadWord = refl
+text_reported text.UnknownName = refl
+text_reported text.WrongArguments = refl
+text_reported text.NumberOutOfRange = refl
+text_reported text.CutShort = refl
+text_reported text.TooMany = refl
+text_reported text.Memory = refl

@@ -26,11 +26,11 @@ use Rattle.fmp_config_statements.specs.declared.table.TheConstants.{STATEMENT_NA
 use Rattle.fmp_text.specs.Faults as texts
 use Rattle.fmp_text.specs.declared.fault.TextKind.{TextKind}
 use Rattle.fmp_text.specs.declared.fault.TextKind.TheVariants as text
-use Rattle.fmp_cli_help.specs.Calls as told_calls
+use Rattle.fmp_cli_help.specs.Calls as report_calls
 use Rattle.fmp_cli_help.specs.Faults as faults
 use Rattle.fmp_cli_help.specs.LeftOut.{is_left_out}
 use Rattle.fmp_cli_help.specs.Listing.{about, of_fault_or_left_out, left_out_line}
-use Rattle.fmp_cli_help.specs.Statements as told_statements
+use Rattle.fmp_cli_help.specs.Statements as report_statements
 use Rattle.fmp_cli_help.specs.Words as words
 
 -- nothing that is read is left out; a lemma goes through all cases, where its first clauses name one of each family
@@ -78,19 +78,19 @@ none_found text list word read left_out (Some k) is =
     absurd (differs (text k) word same (read k) left_out)
 
 -- what is told where nothing is found
-told_of : (call : Option Call) (name : Option StatementName) (kind : Option ConfigKind) (fault : Option TextKind) (left_out : Bool) (line : List ℕ) (other : Option (List ℕ))
+report_of : (call : Option Call) (name : Option StatementName) (kind : Option ConfigKind) (fault : Option TextKind) (left_out : Bool) (line : List ℕ) (other : Option (List ℕ))
     → call ≡ None → name ≡ None → kind ≡ None → fault ≡ None → left_out ≡ true
-    → option_or (option_map told_calls.about call) (
-    option_or (option_map told_statements.about name) (
+    → option_or (option_map report_calls.about call) (
+    option_or (option_map report_statements.about name) (
     option_or (option_map faults.about_config kind) (
     option_or (option_map faults.about_text fault) (
     if left_out then Some line else other)))) ≡ Some line
-told_of call name kind fault left_out line other ec en ek ef el = rw (ec, en, ek, ef, el) refl
+report_of call name kind fault left_out line other ec en ek ef el = rw (ec, en, ek, ef, el) refl
 
-pub left_out_is_told : (word : List ℕ) → is_left_out word ≡ true → about word ≡ Some (left_out_line word)
+pub left_out_is_reported : (word : List ℕ) → is_left_out word ≡ true → about word ≡ Some (left_out_line word)
 unfolding about of_fault_or_left_out statements.statement_of
-left_out_is_told word left_out =
-    told_of (table.named word) (statements.statement_of word)
+left_out_is_reported word left_out =
+    report_of (table.named word) (statements.statement_of word)
     (find (λ kind. bytes_eq (configs.code_of kind) word) faults.config_kinds)
     (find (λ kind. bytes_eq (texts.code_of kind) word) faults.text_kinds)
     (is_left_out word) (left_out_line word) (words.about word)

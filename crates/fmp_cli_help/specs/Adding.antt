@@ -3,5 +3,5 @@ use Rattle.std.specs.Prelude.{ℕ, Bool, true, false, List, ◌++◌, Option, So
 
 -- what is told was added to a text, if there is anything
 abbrev pub Adds : List ℕ → List ℕ → Bool → Option (List ℕ) → Type 0
-Adds old new true told = Some new ≡ option_map (λ t. old ++ t) told
-Adds old new false told = (told ≡ None) × (new ≡ old)
+Adds old new true report = Some new ≡ option_map (λ t. old ++ t) report
+Adds old new false report = (report ≡ None) × (new ≡ old)

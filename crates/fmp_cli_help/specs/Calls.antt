@@ -56,7 +56,7 @@ abbrev pub kinds_from : ℕ → List ArgumentKind → List ℕ
 kinds_from i [] = []
 kinds_from i (kind ∷ kinds) = separator i ++ word_of kind ++ kinds_from (i + 1) kinds
 
--- what stands behind a call's name
+-- what stands after a call's name
 abbrev pub parentheses : Call → List ℕ
 parentheses call = if is_bare call then [] else (codes "(" ++ kinds_from 0 (kinds_of call) ++ codes ")")
 

@@ -13,7 +13,7 @@ use Rattle.fmp_config_statements.specs.declared.table.TheConstants as table
 use Rattle.fmp_config_statements.specs.Attributes as written
 use Rattle.fmp_config_statements.specs.Table as statements
 
--- a part of a statement: a comma has a blank behind it
+-- a part of a statement: a comma has a blank after it
 unfoldable pub part_of : StatementName → ℕ → Part → List ℕ
 part_of name i (parts.Mark byte) = if byte == comma then codes ", " else (byte ∷ [])
 part_of name i (parts.One item) = word_of name item
@@ -26,7 +26,7 @@ abbrev pub frees_of : Part → ℕ
 frees_of parts.Free = 1
 frees_of _ = 0
 
--- the parts of a statement, behind so many fields without effect
+-- the parts of a statement, after so many fields without effect
 abbrev pub parts_from : StatementName → ℕ → List Part → List ℕ
 parts_from name i [] = []
 parts_from name i (part ∷ parts) = part_of name i part ++ parts_from name (i + frees_of part) parts

@@ -7,8 +7,8 @@ use fmp_codes::Call;
 
 /// A row for each name of a call. Calls of which the same is told stand together, so that each text stands once.
 macro_rules! rows {
-    ($($($call:literal)|+ => $told:literal,)+) => {
-        [$($(($call, $told)),+),+]
+    ($($($call:literal)|+ => $report:literal,)+) => {
+        [$($(($call, $report)),+),+]
     };
 }
 
@@ -76,13 +76,13 @@ pub const DEEDS: [(&[u8], &[u8]); 78] = rows![
 ];
 
 /// What the first of these rows tells that has the name.
-fn told_in<'a>(rows: &[(&[u8], &'a [u8])], name: &[u8]) -> &'a [u8]
-    ensures { result.now ≡ spec.told_in (map (λ row. record { call = row.0.now; told = row.1.now }) rows.now) name.now }
+fn report_in<'a>(rows: &[(&[u8], &'a [u8])], name: &[u8]) -> &'a [u8]
+    ensures { result.now ≡ spec.report_in (map (λ row. record { call = row.0.now; report = row.1.now }) rows.now) name.now }
 {
     match rows {
         [] => b"",
-        [(call, told), ..] if *call == name => told,
-        [_, rows @ ..] => told_in(rows, name),
+        [(call, report), ..] if *call == name => report,
+        [_, rows @ ..] => report_in(rows, name),
     }
 }
 
@@ -91,5 +91,5 @@ fn told_in<'a>(rows: &[(&[u8], &'a [u8])], name: &[u8]) -> &'a [u8]
 pub(crate) fn deed(call: Call) -> &'static [u8]
     ensures { result.now ≡ spec.deed call }
 {
-    told_in(&DEEDS, form(call).text)
+    report_in(&DEEDS, form(call).text)
 }

@@ -34,7 +34,7 @@ pub fn config_faults_are_listed()
         → slice_get config_kinds j ≡ Some kind → i ≡ j }
     ensures order { (i : ℕ) (kind : ConfigKind) → slice_get config_kinds i ≡ Some kind
         → configs.code_of kind ≡ codes "F" ++ decimal (i + 1) }
-    ensures told { (kind : ConfigKind) → about (configs.code_of kind) ≡ Some (about_config kind) }
+    ensures report { (kind : ConfigKind) → about (configs.code_of kind) ≡ Some (about_config kind) }
 {}
 
 /// The list of the faults of events, scripts and traces has each of them exactly once, in the order of their numbers, and each is
@@ -46,7 +46,7 @@ pub fn text_faults_are_listed()
         → slice_get text_kinds j ≡ Some kind → i ≡ j }
     ensures order { (i : ℕ) (kind : TextKind) → slice_get text_kinds i ≡ Some kind
         → texts.code_of kind ≡ codes "E" ++ decimal (i + 1) }
-    ensures told { (kind : TextKind) → about (texts.code_of kind) ≡ Some (about_text kind) }
+    ensures report { (kind : TextKind) → about (texts.code_of kind) ≡ Some (about_text kind) }
 {}
 
 /// The table of what the calls do has exactly one row with the name of each call, and no other row.
@@ -63,14 +63,14 @@ pub fn left_out_words_are_listed()
 {}
 
 /// What is left out is told so, and no call and no statement that is read is left out.
-pub fn what_is_left_out_is_told()
-    ensures told { (word : List ℕ) → is_left_out word ≡ true → about word ≡ Some (left_out_line word) }
+pub fn what_is_left_out_is_reported()
+    ensures report { (word : List ℕ) → is_left_out word ≡ true → about word ≡ Some (left_out_line word) }
     ensures calls { (call : Call) → is_left_out (calls.text_of call) ≡ false }
     ensures statements { (name : StatementName) → is_left_out (statements.text_of name) ≡ false }
 {}
 
 /// There is something to tell of each code, of each other answer and of each attribute.
-pub fn answers_and_attributes_are_told()
+pub fn answers_and_attributes_are_reported()
     ensures codes { (code : Code) → is_some (about (name_of code)) ≡ true }
     ensures answers { (answer : Answer) → option_map_or (λ word. is_some (about word)) (word_of answer) true ≡ true }
     ensures attributes { (attribute : Attribute) → is_some (about (attributes.text_of attribute)) ≡ true }

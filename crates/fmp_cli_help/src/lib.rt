@@ -24,8 +24,8 @@ pub use calls::{put_argument, put_call};
 pub use faults::{put_config_advice, put_text_advice};
 pub use fields::word_of as statement_word;
 pub use laws::{
-    answers_and_attributes_are_told, config_faults_are_listed, deeds_are_listed,
-    left_out_words_are_listed, text_faults_are_listed, what_is_left_out_is_told,
+    answers_and_attributes_are_reported, config_faults_are_listed, deeds_are_listed,
+    left_out_words_are_listed, text_faults_are_listed, what_is_left_out_is_reported,
 };
 pub use left_out::is_left_out;
 pub use listing::{about, everything, put_left_out};

@@ -53,7 +53,7 @@ fn frees_of(part: Part) -> usize
     }
 }
 
-/// Adds the parts of a statement, one behind the other.
+/// Adds the parts of a statement, one after the other.
 fn put_parts(out: &mut Vec<u8>, name: StatementName, parts: &[Part]) -> Result<(), AllocError>
     ensures { OnOk result (out.new.items ≡ out.old.items ++ spec.parts_from name 0 parts.now) }
 {
@@ -75,7 +75,7 @@ fn put_statement(out: &mut Vec<u8>, name: StatementName) -> Result<(), AllocErro
     out.extend_from_slice(b"\n")
 }
 
-/// Adds attributes, each behind a blank.
+/// Adds attributes, each after a blank.
 #[tactic(auto, unfolding(crate::specs::Statements::attributes_of))]
 fn put_attributes(out: &mut Vec<u8>, attributes: &[Attribute]) -> Result<(), AllocError>
     ensures { OnOk result (out.new.items ≡ out.old.items ++ spec.attributes_of attributes.now) }

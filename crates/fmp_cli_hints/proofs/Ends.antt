@@ -7,13 +7,13 @@ use Rattle.std.specs.Str.{bytes_eq}
 use Rattle.std.proofs.lemmas.List.{append-nil, take-append-drop}
 use Rattle.fmp_bytes.specs.declared.classes.Class.{Class}
 use Rattle.fmp_bytes.specs.declared.classes.Class.TheVariants.{Blank, Word, Argument, Line}
-use Rattle.fmp_bytes.specs.Bytes.{is_of, prefix, after, behind}
+use Rattle.fmp_bytes.specs.Bytes.{is_of, prefix, after, following}
 use Rattle.fmp_calls.specs.declared.kinds.ArgumentKind.{ArgumentKind}
 use Rattle.fmp_calls.specs.Table.{is_bare, kinds_of, named}
 use Rattle.fmp_codes.specs.declared.calls.Call.{Call}
 use Rattle.fmp_cli_hints.specs.declared.wanted.Wanted.{Wanted}
 use Rattle.fmp_cli_hints.specs.declared.wanted.Wanted.TheVariants as wants
-use Rattle.fmp_cli_hints.specs.Places.{Walk, IsEnd, going, stuck, further, marked, mark, fits, filled, argument, separated, next_argument, arguments, ended, ending, enclosed, behind_name, happening, on_processor, barred, line_place, event_place}
+use Rattle.fmp_cli_hints.specs.Places.{Walk, IsEnd, going, stuck, further, marked, mark, fits, filled, argument, separated, next_argument, arguments, ended, ending, enclosed, after_name, happening, on_processor, barred, line_place, event_place}
 use Rattle.fmp_names.specs.Names.{NameLists}
 use Rattle.fmp_text.specs.Lines.{is_skipped, processor_in, without_return}
 
@@ -41,14 +41,14 @@ given None f d l p q = q
 stepped : (w : Walk) (step : List ℕ → Walk) (l : List ℕ) → IsEnd w.rest l → ((t : List ℕ) → IsEnd (step t).rest t) → IsEnd (further w step).rest l
 stepped w step l p q = given w.wanted (λ _. w) (step w.rest) l (λ _. p) (chained (step w.rest).rest w.rest l (q w.rest) p)
 
-behind_byte : (t : Bool) (b : ℕ) (bytes : List ℕ) (wanted : Wanted) → IsEnd (option_map_or going (if t then Some bytes else None) (stuck (b ∷ bytes) wanted)).rest (b ∷ bytes)
-behind_byte true b bytes wanted = (b ∷ [], refl)
-behind_byte false b bytes wanted = ([], refl)
+after_byte : (t : Bool) (b : ℕ) (bytes : List ℕ) (wanted : Wanted) → IsEnd (option_map_or going (if t then Some bytes else None) (stuck (b ∷ bytes) wanted)).rest (b ∷ bytes)
+after_byte true b bytes wanted = (b ∷ [], refl)
+after_byte false b bytes wanted = ([], refl)
 
 marked_within : (call : Call) (byte : ℕ) (text : List ℕ) → IsEnd (marked call byte text).rest text
-unfolding behind
+unfolding following
 marked_within call byte [] = ([], refl)
-marked_within call byte (b ∷ bytes) = behind_byte (b == byte) b bytes (wants.Mark call byte)
+marked_within call byte (b ∷ bytes) = after_byte (b == byte) b bytes (wants.Mark call byte)
 
 mark_within : (call : Call) (byte : ℕ) (w : Walk) (l : List ℕ) → IsEnd w.rest l → IsEnd (mark call byte w).rest l
 unfolding mark
@@ -93,9 +93,9 @@ enclosed_within names judged call text =
     let full = arguments names judged call 0 (kinds_of call) opened in
     ending_within (wants.CallEnd call) (mark call 41 full) text (mark_within call 41 full text (arguments_within names judged call 0 (kinds_of call) opened text (mark_within call 40 (going text) text (whole text))))
 
-behind_within : (names : NameLists) (call : Call) (text : List ℕ) → IsEnd (behind_name names call text).rest text
-unfolding behind_name
-behind_within names call text =
+after_within : (names : NameLists) (call : Call) (text : List ℕ) → IsEnd (after_name names call text).rest text
+unfolding after_name
+after_within names call text =
     chosen (is_bare call) (ending (wants.CallEnd call) (going text)) _ text (ending_within (wants.CallEnd call) (going text) text (whole text))
     (given (enclosed names false call text).wanted (λ _. enclosed names false call text) (enclosed names true call text) text (λ _. enclosed_within names false call text) (enclosed_within names true call text))
 
@@ -104,8 +104,8 @@ unfolding happening
 happening_within names text =
     chosen (bytes_eq (prefix Word text) (codes "tick") || bytes_eq (prefix Word text) (codes "ipi")) (ending wants.LineEnd (going (after Word text))) _ text
     (ending_within wants.LineEnd (going (after Word text)) text (skipped Word text))
-    (given (named (prefix Word text)) (λ call. behind_name names call (after Word text)) (stuck text wants.Happening) text
-    (λ call. chained _ (after Word text) text (behind_within names call (after Word text)) (skipped Word text)) (whole text))
+    (given (named (prefix Word text)) (λ call. after_name names call (after Word text)) (stuck text wants.Happening) text
+    (λ call. chained _ (after Word text) text (after_within names call (after Word text)) (skipped Word text)) (whole text))
 
 on_within : (names : NameLists) (text : List ℕ) → IsEnd (on_processor names text).rest text
 unfolding on_processor

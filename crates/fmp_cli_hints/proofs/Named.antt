@@ -13,7 +13,7 @@ pub next_name : (names : List (List ℕ)) (i : ℕ) (name : List ℕ) → slice_
 next_name names i name e =
     drop_more names i name (slice_get_within names i name e) ∙ ap (λ x. x ∷ drop (i + 1) names) (get_or_from_slice_get names i name name e)
 
--- the name behind so many, by its number from 1
+-- the name after so many, by its number from 1
 pub named_next : (lists : NameLists) (kind : NameKind) (i : ℕ) (name : List ℕ) → name_of lists kind (i + 1) ≡ Some name → drop i (names_of lists kind) ≡ name ∷ drop (i + 1) (names_of lists kind)
 named_next lists kind i name e =
     let same : i + 1 - 1 ≡ i = omega arith in

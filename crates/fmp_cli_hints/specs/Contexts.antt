@@ -16,7 +16,7 @@ unfoldable pub context_at : NameLists → List ℕ → Walk → Option (List ℕ
 context_at names line walk =
     option_map (λ wanted. excerpt line (column_of line walk) ++ wanted_text names wanted ++ hint names wanted walk.rest) walk.wanted
 
--- the line behind so many line feeds, and what follows its own, where it has one
-unfoldable pub line_behind : ℕ → List ℕ → Option (List ℕ × Option (List ℕ))
-line_behind zero text = Some (cut_at line_feed text)
-line_behind (suc n) text = option_and_then (line_behind n) (cut_at line_feed text).1
+-- the line after so many line feeds, and what follows its own, where it has one
+unfoldable pub line_after : ℕ → List ℕ → Option (List ℕ × Option (List ℕ))
+line_after zero text = Some (cut_at line_feed text)
+line_after (suc n) text = option_and_then (line_after n) (cut_at line_feed text).1

@@ -11,7 +11,7 @@ abbrev pub shown_bytes : List ℕ → List ℕ
 shown_bytes [] = []
 shown_bytes (b ∷ bytes) = shown_byte b ∷ shown_bytes bytes
 
--- what stands before a line, and behind it, whether or not that part of it is cut off
+-- what stands before a line, and after it, whether or not that part of it is cut off
 abbrev pub margin : Bool → List ℕ
 margin true = codes ".."
 margin false = codes "  "

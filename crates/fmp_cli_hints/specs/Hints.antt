@@ -12,7 +12,7 @@ use Rattle.fmp_calls.specs.Table.{named}
 use Rattle.fmp_cli_hints.specs.declared.rows.TheConstants.{CALL_ROWS}
 use Rattle.fmp_cli_hints.specs.declared.wanted.Wanted.{Wanted}
 use Rattle.fmp_cli_hints.specs.declared.wanted.Wanted.TheVariants as wants
-use Rattle.fmp_cli_hints.specs.Rows.{foreign_words, told_of}
+use Rattle.fmp_cli_hints.specs.Rows.{foreign_words, report_of}
 use Rattle.fmp_cli_hints.specs.Ways.{is_code}
 use Rattle.fmp_cli_help.specs.LeftOut.{is_left_out}
 use Rattle.fmp_cli_help.specs.Listing.{left_out_line}
@@ -31,7 +31,7 @@ near_line (Some name) = codes "  near: " ++ name ++ codes "\n"
 unfoldable pub call_hint : List ℕ → List ℕ
 call_hint word =
     if is_left_out word then codes "  " ++ left_out_line word
-    else (if is_name word && is_none (named word) then told_of (map (λ row. (row.0.now, row.1.now)) CALL_ROWS) word ++ near_line (near_call word) else [])
+    else (if is_name word && is_none (named word) then report_of (map (λ row. (row.0.now, row.1.now)) CALL_ROWS) word ++ near_line (near_call word) else [])
 
 -- ---- where an argument has to stand
 

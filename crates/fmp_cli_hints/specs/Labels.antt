@@ -4,7 +4,7 @@ use Rattle.std.specs.List.{list_any}
 use Rattle.std.specs.Option.{option_map_or}
 use Rattle.std.specs.Str.{bytes_eq}
 use Rattle.fmp_bytes.specs.declared.classes.Class.TheVariants.{Argument, Blank, Word}
-use Rattle.fmp_bytes.specs.Bytes.{after, behind, colon, line_feed, pieces_of}
+use Rattle.fmp_bytes.specs.Bytes.{after, following, colon, line_feed, pieces_of}
 use Rattle.fmp_cli_help.specs.Near.{nearest}
 use Rattle.fmp_cli_hints.specs.declared.labels.Jump.{Jump}
 use Rattle.fmp_cli_hints.specs.declared.wanted.Wanted.{Wanted}
@@ -15,24 +15,24 @@ use Rattle.fmp_cli_hints.specs.Likeness.{first_word}
 -- ---- what a line says
 
 -- what follows the first word
-abbrev pub behind_word : List ℕ → List ℕ
-behind_word text = after Word (after Blank text)
+abbrev pub following_word : List ℕ → List ℕ
+following_word text = after Word (after Blank text)
 
 -- a label: the name before a colon
 unfoldable pub label_of : List ℕ → Option (List ℕ)
-label_of line = option_map (λ _. first_word line) (behind colon (after Blank (behind_word line)))
+label_of line = option_map (λ _. first_word line) (following colon (after Blank (following_word line)))
 
--- the name behind `goto`
+-- the name after `goto`
 unfoldable pub goal_of : List ℕ → Option (List ℕ)
-goal_of text = if bytes_eq (first_word text) (codes "goto") then Some (first_word (behind_word text)) else None
+goal_of text = if bytes_eq (first_word text) (codes "goto") then Some (first_word (following_word text)) else None
 
--- what follows an answer: a word, or a word with a value behind its colon
-unfoldable pub behind_answer : List ℕ → List ℕ
-behind_answer text = option_map_or (λ value. after Argument value) (behind colon (behind_word text)) (behind_word text)
+-- what follows an answer: a word, or a word with a value after its colon
+unfoldable pub after_answer : List ℕ → List ℕ
+after_answer text = option_map_or (λ value. after Argument value) (following colon (following_word text)) (following_word text)
 
--- a jump: the name behind the `goto` that begins the line, or that follows `on` and an answer
+-- a jump: the name after the `goto` that begins the line, or that follows `on` and an answer
 unfoldable pub jump_of : List ℕ → Option (List ℕ)
-jump_of line = if bytes_eq (first_word line) (codes "on") then goal_of (behind_answer (behind_word line)) else goal_of line
+jump_of line = if bytes_eq (first_word line) (codes "on") then goal_of (after_answer (following_word line)) else goal_of line
 
 -- the head of a script
 abbrev pub is_head : List ℕ → Bool
@@ -82,7 +82,7 @@ abbrev pub first_without : List (List ℕ) → List Jump → Option Jump
 first_without labels [] = None
 first_without labels (jump ∷ jumps) = if has_label labels jump.name then first_without labels jumps else Some jump
 
--- what stands behind the number of a line that jumps, and behind the name of its label
+-- what stands after the number of a line that jumps, and after the name of its label
 unfoldable pub jumping_words : List ℕ
 jumping_words = codes " jumps to `"
 

@@ -5,7 +5,7 @@ use Rattle.std.specs.List.{list_all}
 use Rattle.std.specs.Option.{option_map_or}
 use Rattle.std.specs.Str.{bytes_eq}
 use Rattle.fmp_bytes.specs.declared.classes.Class.TheVariants.{Blank, Word, Argument, Line}
-use Rattle.fmp_bytes.specs.Bytes.{is_of, prefix, after, behind, close_parenthesis, comma, number_sign, open_parenthesis, slash}
+use Rattle.fmp_bytes.specs.Bytes.{is_of, prefix, after, following, close_parenthesis, comma, number_sign, open_parenthesis, slash}
 use Rattle.fmp_calls.specs.declared.kinds.ArgumentKind.{ArgumentKind}
 use Rattle.fmp_calls.specs.Table.{is_bare, kinds_of, named}
 use Rattle.fmp_codes.specs.declared.calls.Call.{Call}
@@ -37,7 +37,7 @@ further walk step = option_map_or (λ _. walk) walk.wanted (step walk.rest)
 
 -- what follows a byte
 abbrev pub marked : Call → ℕ → List ℕ → Walk
-marked call byte text = option_map_or going (behind byte text) (stuck text (wants.Mark call byte))
+marked call byte text = option_map_or going (following byte text) (stuck text (wants.Mark call byte))
 
 -- blanks, and a byte
 unfoldable pub mark : Call → ℕ → Walk → Walk
@@ -84,8 +84,8 @@ enclosed names judged call text =
     ending (wants.CallEnd call) (mark call close_parenthesis (arguments names judged call 0 (kinds_of call) (mark call open_parenthesis (going text))))
 
 -- what follows a call's name: first its form is judged, and then the values of its arguments
-unfoldable pub behind_name : NameLists → Call → List ℕ → Walk
-behind_name names call text =
+unfoldable pub after_name : NameLists → Call → List ℕ → Walk
+after_name names call text =
     if is_bare call then ending (wants.CallEnd call) (going text)
     else option_map_or (λ _. enclosed names false call text) (enclosed names false call text).wanted (enclosed names true call text)
 
@@ -93,7 +93,7 @@ behind_name names call text =
 unfoldable pub happening : NameLists → List ℕ → Walk
 happening names text =
     if bytes_eq (prefix Word text) (codes "tick") || bytes_eq (prefix Word text) (codes "ipi") then ending wants.LineEnd (going (after Word text))
-    else option_map_or (λ call. behind_name names call (after Word text)) (named (prefix Word text)) (stuck text wants.Happening)
+    else option_map_or (λ call. after_name names call (after Word text)) (named (prefix Word text)) (stuck text wants.Happening)
 
 -- a line that begins with no blank
 unfoldable pub on_processor : NameLists → List ℕ → Walk

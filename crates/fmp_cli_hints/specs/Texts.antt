@@ -9,7 +9,7 @@ use Rattle.fmp_cli_hints.specs.declared.text.TextForm.{TextForm}
 use Rattle.fmp_cli_hints.specs.declared.text.TextForm.TheVariants as forms
 use Rattle.fmp_cli_hints.specs.declared.wanted.Wanted.{Wanted}
 use Rattle.fmp_cli_hints.specs.declared.wanted.Wanted.TheVariants as wants
-use Rattle.fmp_cli_hints.specs.Contexts.{column_of, context_at, line_behind}
+use Rattle.fmp_cli_hints.specs.Contexts.{column_of, context_at, line_after}
 use Rattle.fmp_cli_hints.specs.Excerpts.{excerpt}
 use Rattle.fmp_cli_hints.specs.Labels.{label_hint}
 use Rattle.fmp_cli_hints.specs.Likeness.{text_likeness, without_mark}
@@ -56,15 +56,15 @@ unfoldable pub advised : List ℕ → Walk → TextKind → List ℕ
 advised line walk kind = excerpt line (column_of line walk) ++ advice_line (text_advice kind)
 
 -- the line with a caret, and what is wanted there, or else what to do about such a fault
-unfoldable pub told : NameLists → List ℕ → Walk → TextKind → List ℕ
-told names line walk kind = option_map_or (λ text. text) (context_at names line walk) (advised line walk kind)
+unfoldable pub report : NameLists → List ℕ → Walk → TextKind → List ℕ
+report names line walk kind = option_map_or (λ text. text) (context_at names line walk) (advised line walk kind)
 
 -- the line of a fault, which jump of its script has no label where one has none, and what it looks like where that is no line of the text. A byte order
 -- mark before it is told, and not shown
-unfoldable pub told_line : NameLists → TextForm → List ℕ → TextFault → List ℕ → Option (List ℕ) → List ℕ
-told_line names form text fault line rest =
+unfoldable pub report_line : NameLists → TextForm → List ℕ → TextFault → List ℕ → Option (List ℕ) → List ℕ
+report_line names form text fault line rest =
     let walk = place names form fault.line (without_return line) rest fault.kind in
-    told names (without_mark (without_return line)) walk fault.kind ++ label_hint fault.line text walk.wanted ++ text_likeness form fault.kind line
+    report names (without_mark (without_return line)) walk fault.kind ++ label_hint fault.line text walk.wanted ++ text_likeness form fault.kind line
 
 -- what stands beside a fault without a line, or in a line that is not there
 abbrev pub advice : TextKind → List ℕ
@@ -74,7 +74,7 @@ advice kind = advice_line (text_advice kind)
 unfoldable pub text_context : NameLists → TextForm → List ℕ → TextFault → List ℕ
 text_context names form text fault =
     if fault.line == 0 then advice fault.kind
-    else option_map_or (λ l. told_line names form text fault l.0 l.1) (line_behind (fault.line - 1) text) (advice fault.kind)
+    else option_map_or (λ l. report_line names form text fault l.0 l.1) (line_after (fault.line - 1) text) (advice fault.kind)
 
 -- the column of the caret in the line of a fault, from 1
 unfoldable pub line_spot : NameLists → TextForm → TextFault → List ℕ → Option (List ℕ) → Spot
@@ -84,7 +84,7 @@ line_spot names form fault line rest =
 -- where a fault is, as far as that is known
 unfoldable pub text_spot : NameLists → TextForm → List ℕ → TextFault → Spot
 text_spot names form text fault =
-    if fault.line == 0 then Nowhere else option_map_or (λ l. line_spot names form fault l.0 l.1) (line_behind (fault.line - 1) text) (Line fault.line)
+    if fault.line == 0 then Nowhere else option_map_or (λ l. line_spot names form fault l.0 l.1) (line_after (fault.line - 1) text) (Line fault.line)
 
 -- the word that stands where a function is wanted
 abbrev pub word_wanted_as : Option Wanted → List ℕ → Option (List ℕ)
@@ -98,7 +98,7 @@ word_for_function walk = word_wanted_as walk.wanted walk.rest
 unfoldable pub function_at : NameLists → List ℕ → TextFault → Option (List ℕ)
 function_at names text fault =
     if fault.line == 0 then None
-    else option_and_then (λ l. word_for_function (place names forms.Scripts fault.line (without_return l.0) l.1 fault.kind)) (line_behind (fault.line - 1) text)
+    else option_and_then (λ l. word_for_function (place names forms.Scripts fault.line (without_return l.0) l.1 fault.kind)) (line_after (fault.line - 1) text)
 
 -- the word that stands where a task is wanted
 abbrev pub task_word : Option Wanted → List ℕ → Option (List ℕ)
@@ -112,4 +112,4 @@ word_for_task walk = task_word walk.wanted walk.rest
 unfoldable pub task_at : NameLists → TextForm → List ℕ → TextFault → Option (List ℕ)
 task_at names form text fault =
     if fault.line == 0 then None
-    else option_and_then (λ l. word_for_task (place names form fault.line (without_return l.0) l.1 fault.kind)) (line_behind (fault.line - 1) text)
+    else option_and_then (λ l. word_for_task (place names form fault.line (without_return l.0) l.1 fault.kind)) (line_after (fault.line - 1) text)

@@ -4,7 +4,7 @@ use Rattle.std.specs.Prelude.{decimal}
 use Rattle.std.specs.Option.{option_map_or}
 use Rattle.std.specs.Str.{bytes_eq}
 use Rattle.fmp_bytes.specs.declared.classes.Class.TheVariants.{Word, Printed}
-use Rattle.fmp_bytes.specs.Bytes.{prefix, after, behind, cut_at, pieces_of, close_parenthesis, space}
+use Rattle.fmp_bytes.specs.Bytes.{prefix, after, following, cut_at, pieces_of, close_parenthesis, space}
 use Rattle.fmp_calls.specs.declared.kinds.NameKind.TheVariants.{Object}
 use Rattle.fmp_calls.specs.declared.kinds.ObjectKind.{ObjectKind}
 use Rattle.fmp_calls.specs.declared.kinds.ObjectKind.TheVariants.{Task, Alarm, Cyclic}
@@ -14,7 +14,7 @@ use Rattle.fmp_codes.specs.declared.calls.Call.{Call}
 use Rattle.fmp_codes.specs.declared.records.Record.{Record}
 use Rattle.fmp_cli_hints.specs.declared.wanted.Wanted.{Wanted}
 use Rattle.fmp_cli_hints.specs.declared.wanted.Wanted.TheVariants as wants
-use Rattle.fmp_cli_hints.specs.Places.{Walk, behind_name, further, going, stuck}
+use Rattle.fmp_cli_hints.specs.Places.{Walk, after_name, further, going, stuck}
 use Rattle.fmp_names.specs.Names.{NameLists, number_of}
 use Rattle.fmp_text.specs.declared.fault.TextKind.{TextKind}
 use Rattle.fmp_text.specs.declared.fault.TextKind.TheVariants as kinds
@@ -28,16 +28,16 @@ use Rattle.fmp_trace.specs.Values.{call_text}
 abbrev pub word_in : List ℕ → List ℕ
 word_in text = (cut_at space text).0
 
-abbrev pub behind_word : List ℕ → List ℕ
-behind_word text = drop (length (word_in text)) text
+abbrev pub following_word : List ℕ → List ℕ
+following_word text = drop (length (word_in text)) text
 
 -- a word that passes, or not
 abbrev pub passed : Bool → Wanted → List ℕ → Walk
-passed passes wanted text = if passes then going (behind_word text) else stuck text wanted
+passed passes wanted text = if passes then going (following_word text) else stuck text wanted
 
 -- one blank
 abbrev pub spaced : Wanted → List ℕ → Walk
-spaced wanted text = option_map_or going (behind space text) (stuck text wanted)
+spaced wanted text = option_map_or going (following space text) (stuck text wanted)
 
 -- ---- before the event
 
@@ -63,7 +63,7 @@ is_runner names word =
 unfoldable pub run_by : NameLists → Walk → Walk
 run_by names walk = further (further walk (spaced wants.Runner)) (λ text. passed (is_runner names (word_in text)) wants.Runner text)
 
--- all that stands before the event, with the blank behind it
+-- all that stands before the event, with the blank after it
 unfoldable pub headed : NameLists → ℕ → List ℕ → Walk
 headed names n line = further (run_by names (placed_on names (numbered n line))) (spaced wants.Happening)
 
@@ -79,7 +79,7 @@ agreeing (x ∷ xs) (y ∷ ys) = if x == y then agreeing xs ys + 1 else 0
 unfoldable pub call_part : List ℕ → List ℕ
 call_part text = option_map_or (λ _. take (length (cut_at close_parenthesis text).0 + 1) text) (cut_at close_parenthesis text).1 text
 
--- a call as it is printed, where this is written in the text, which goes on behind that
+-- a call as it is printed, where this is written in the text, which goes on after that
 unfoldable pub compared : List ℕ → Call → List ℕ → List ℕ → Walk
 compared printed call written text =
     if bytes_eq printed written then going (drop (length written) text) else stuck (drop (agreeing written printed) text) (wants.Printed call)
@@ -92,8 +92,8 @@ read_so names (Err kind) written text = stuck text wants.Happening
 -- a call that has arguments: where it cannot be read its first byte at fault, and else the first that is not printed so
 unfoldable pub called : NameLists → Call → List ℕ → Walk
 called names call text =
-    option_map_or (λ wanted. stuck (drop (length (call_part text) - length (behind_name names call (after Word (call_part text))).rest) text) wanted)
-    (behind_name names call (after Word (call_part text))).wanted
+    option_map_or (λ wanted. stuck (drop (length (call_part text) - length (after_name names call (after Word (call_part text))).rest) text) wanted)
+    (after_name names call (after Word (call_part text))).wanted
     (read_so names (call_in names (call_part text)) (call_part text) text)
 
 -- what happens
@@ -105,14 +105,14 @@ happened names text =
 -- ---- the answer, and what follows it
 
 -- what is printed from the event on
-unfoldable pub told_from_event : NameLists → Record → List ℕ
-told_from_event names r = event_text names r.event ++ codes " " ++ answer_text r.answer ++ tail_text names r
+unfoldable pub report_from_event : NameLists → Record → List ℕ
+report_from_event names r = event_text names r.event ++ codes " " ++ answer_text r.answer ++ tail_text names r
 
 -- the text is printed so from the event on, on whatever processor and whoever runs there
 unfoldable pub is_printed : NameLists → List ℕ → Bool
-is_printed names text = option_map_or (λ r. bytes_eq (told_from_event names r) text) (guess_event names None (as_proc 1) text) false
+is_printed names text = option_map_or (λ r. bytes_eq (report_from_event names r) text) (guess_event names None (as_proc 1) text) false
 
--- these words, each behind a blank, behind so many bytes from the event on: the first with which that is not printed so
+-- these words, each after a blank, after so many bytes from the event on: the first with which that is not printed so
 abbrev pub words_from : NameLists → List ℕ → ℕ → Wanted → List (List ℕ) → Walk
 words_from names text count wanted [] = going []
 words_from names text count wanted (word ∷ words) =
@@ -122,7 +122,7 @@ words_from names text count wanted (word ∷ words) =
 -- what follows the event in a text that begins with it
 unfoldable pub answered : NameLists → List ℕ → List ℕ → Walk
 answered names text rest =
-    option_map_or (λ words. words_from names text (length text - length rest) wants.Answer (pieces_of space words)) (behind space rest) (stuck rest wants.Answer)
+    option_map_or (λ words. words_from names text (length text - length rest) wants.Answer (pieces_of space words)) (following space rest) (stuck rest wants.Answer)
 
 -- ---- a line
 

@@ -67,16 +67,16 @@ mark_line byte = codes "  here: `" ++ byte ∷ codes "`\n"
 unfoldable pub end_line : List ℕ
 end_line = codes "  here: the end of the line\n"
 
--- what is wanted, behind its label: of a call its form, and what stands at the place
-unfoldable pub told : NameLists → Wanted → List ℕ
-told names wants.Processor = processors names.processors
-told names (wants.LineNumber n) = number_line n
-told names (wants.Printed call) = printed_line names call
-told names (wants.Mark call byte) = line_of call ++ mark_line byte
-told names (wants.Argument call kind) = line_of call ++ argument_of kind
-told names (wants.CallEnd call) = line_of call ++ end_line
-told names wanted = words wanted
+-- what is wanted, after its label: of a call its form, and what stands at the place
+unfoldable pub report : NameLists → Wanted → List ℕ
+report names wants.Processor = processors names.processors
+report names (wants.LineNumber n) = number_line n
+report names (wants.Printed call) = printed_line names call
+report names (wants.Mark call byte) = line_of call ++ mark_line byte
+report names (wants.Argument call kind) = line_of call ++ argument_of kind
+report names (wants.CallEnd call) = line_of call ++ end_line
+report names wanted = words wanted
 
 -- what is wanted, on the machine of these names
 unfoldable pub wanted_text : NameLists → Wanted → List ℕ
-wanted_text names wanted = label ++ told names wanted
+wanted_text names wanted = label ++ report names wanted

@@ -3,7 +3,7 @@ use Rattle.std.specs.Prelude.{ℕ, Bool, not, ◌&&◌, ◌||◌, ◌==◌, List
 use Rattle.std.specs.List.{list_all, list_any}
 use Rattle.std.specs.Str.{bytes_eq}
 use Rattle.fmp_bytes.specs.declared.classes.Class.TheVariants.{Argument, Blank, Line, Word}
-use Rattle.fmp_bytes.specs.Bytes.{after, behind, colon, is_identifier, is_of, prefix}
+use Rattle.fmp_bytes.specs.Bytes.{after, following, colon, is_identifier, is_of, prefix}
 use Rattle.fmp_bytes.specs.Numerals.{number_of}
 use Rattle.fmp_cli_hints.specs.declared.wanted.Wanted.TheVariants as wants
 use Rattle.fmp_cli_hints.specs.Places.{Walk, barred, ending, going, stuck}
@@ -35,15 +35,15 @@ abbrev pub may_stand : ℕ → Bool
 may_stand b = is_of Line b || b == colon
 
 -- from the first byte on that stands in no line of a script text
-abbrev pub behind_line : List ℕ → List ℕ
-behind_line [] = []
-behind_line (b ∷ bytes) = if may_stand b then behind_line bytes else b ∷ bytes
+abbrev pub after_line : List ℕ → List ℕ
+after_line [] = []
+after_line (b ∷ bytes) = if may_stand b then after_line bytes else b ∷ bytes
 
 -- a line with a byte that may not stand there. A colon may, but in no call
 unfoldable pub barred_place : List ℕ → Walk
 barred_place line =
     if is_of_c (prefix Word (after Blank line)) then stuck (after Blank line) wants.Jumps
-    else (if length (behind_line line) == 0 then barred (after Line line) else byte_place (behind_line line))
+    else (if length (after_line line) == 0 then barred (after Line line) else byte_place (after_line line))
 
 -- a line whose first word may not stand there
 unfoldable pub word_place : List ℕ → Walk
@@ -67,14 +67,14 @@ unfoldable pub value_place : Bool → List ℕ → Walk
 value_place ranged text =
     if ranged || is_none (number_of (prefix Argument text)) then stuck text wants.AnsweredValue else goal_place (after Blank (after Argument text))
 
--- behind `on`: an answer, and what follows it
+-- after `on`: an answer, and what follows it
 abbrev pub turn_with : Bool → List ℕ → Option (List ℕ) → Walk
 turn_with ranged text (Some number) = if is_code (prefix Word text) then value_place ranged number else stuck text wants.Answered
 turn_with ranged text None =
     if bytes_eq (prefix Word text) (codes "refused") || is_code (prefix Word text) then goal_place (after Blank (after Word text)) else stuck text wants.Answered
 
 unfoldable pub turn_place : Bool → List ℕ → Walk
-turn_place ranged text = turn_with ranged text (behind colon (after Word text))
+turn_place ranged text = turn_with ranged text (following colon (after Word text))
 
 -- a label, with what follows its colon
 unfoldable pub label_place : List ℕ → List ℕ → Walk
@@ -93,4 +93,4 @@ line_place names ranged text =
     else (if bytes_eq (prefix Word text) (codes "goto") then name_place (after Blank (after Word text))
     else (if bytes_eq (prefix Word text) (codes "end") && list_all (is_of Blank) (after Word text) then stuck text wants.Labels
     else (if is_taken (prefix Word text) then step_place names text
-    else label_or_step names text (behind colon (after Blank (after Word text))))))
+    else label_or_step names text (following colon (after Blank (after Word text))))))

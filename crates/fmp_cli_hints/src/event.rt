@@ -5,7 +5,7 @@ ghost use Rattle.fmp_cli_hints.specs.Places as spec;
 
 use crate::excerpt::put_excerpt;
 use crate::hints::put_hint;
-use crate::walk::{Walk, behind_name, ending};
+use crate::walk::{Walk, after_name, ending};
 use crate::wanted::{Wanted, put_wanted};
 use fmp_bytes::{Class, all_of, skip, split_prefix};
 use fmp_calls::find_call;
@@ -22,7 +22,7 @@ fn happening<'a>(names: &Names, text: &'a [u8]) -> Walk<'a>
         return ending(Wanted::LineEnd, Walk::going(rest));
     }
     match find_call(word) {
-        Some(call) => behind_name(names, call, rest),
+        Some(call) => after_name(names, call, rest),
         None => Walk::stuck(text, Wanted::Happening),
     }
 }

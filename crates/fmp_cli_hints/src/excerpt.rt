@@ -52,7 +52,7 @@ fn margin(cut: bool) -> &'static [u8]
     if cut { b".." } else { b"  " }
 }
 
-/// What stands behind a line, whether or not its end is cut off.
+/// What stands after a line, whether or not its end is cut off.
 fn tail(cut: bool) -> &'static [u8]
     ensures { result.now ≡ spec.tail cut }
 {
@@ -74,13 +74,13 @@ fn start_of(length: usize, column: usize) -> usize
     }
 }
 
-/// The byte behind those that are shown.
+/// The byte after those that are shown.
 #[tactic(auto, unfolding(crate::specs::Excerpts::end_of))]
 fn end_of(length: usize, start: usize) -> usize
     requires { start ≤ length }
     ensures end { result ≡ spec.end_of length start }
     ensures within { result ≤ length }
-    ensures behind { start ≤ result }
+    ensures following { start ≤ result }
 {
     if length - start <= MOST_SHOWN {
         length

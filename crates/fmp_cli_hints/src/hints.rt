@@ -6,7 +6,7 @@ ghost use Rattle.fmp_cli_hints.specs.Hints as spec;
 ghost use Rattle.fmp_cli_help.specs.Near.{nearest};
 ghost use Rattle.fmp_names.specs.Names.{names_of};
 
-use crate::rows::{CALL_ROWS, foreign_words, told_of};
+use crate::rows::{CALL_ROWS, foreign_words, report_of};
 use crate::wanted::Wanted;
 use crate::way::is_code;
 use fmp_bytes::{Class, spelled_number, split_prefix};
@@ -38,7 +38,7 @@ fn put_call_hint(alloc: Global, out: &mut Vec<u8>, word: &[u8]) -> Result<(), Al
         return put_left_out(out, word);
     }
     if is_name(word) && find_call(word).is_none() {
-        out.extend_from_slice(told_of(&CALL_ROWS, word))?;
+        out.extend_from_slice(report_of(&CALL_ROWS, word))?;
         return put_near(out, near_call(alloc, word)?);
     }
     Ok(())
@@ -138,7 +138,7 @@ fn put_zero_hint(out: &mut Vec<u8>, word: &[u8]) -> Result<(), AllocError>
     }
 }
 
-/// What is told of a name that the configuration defines, behind it.
+/// What is told of a name that the configuration defines, after it.
 #[tactic(auto, unfolding(crate::specs::Hints::defined_words))]
 fn defined_words() -> &'static [u8]
     ensures { result.now ≡ spec.defined_words }
@@ -213,7 +213,7 @@ fn put_argument_hint(
     }
 }
 
-/// What is told of an object in the place of a function, behind its name.
+/// What is told of an object in the place of a function, after its name.
 #[tactic(auto, unfolding(crate::specs::Hints::object_words))]
 fn object_words() -> &'static [u8]
     ensures { result.now ≡ spec.object_words }

@@ -6,7 +6,7 @@ ghost use Rattle.fmp_cli_hints.specs.Labels as spec;
 
 use crate::hints::put_near;
 use crate::wanted::Wanted;
-use fmp_bytes::{Class, behind, cut, skip, split_prefix};
+use fmp_bytes::{Class, cut, following, skip, split_prefix};
 use fmp_cli_help::nearer;
 use itoa::Buffer;
 use std::alloc::{AllocError, Global};
@@ -55,13 +55,13 @@ fn label_of(line: &[u8]) -> Option<&[u8]>
     ensures { option_copied result ≡ spec.label_of line.now }
 {
     let (name, rest) = split_prefix(Class::Word, skip(Class::Blank, line));
-    match behind(b':', skip(Class::Blank, rest)) {
+    match following(b':', skip(Class::Blank, rest)) {
         Some(_) => Some(name),
         None => None,
     }
 }
 
-/// The name behind `goto`, where a text begins with that.
+/// The name after `goto`, where a text begins with that.
 #[tactic(auto, unfolding(crate::specs::Labels::goal_of))]
 fn goal_of(text: &[u8]) -> Option<&[u8]>
     ensures { option_copied result ≡ spec.goal_of text.now }
@@ -74,13 +74,13 @@ fn goal_of(text: &[u8]) -> Option<&[u8]>
     Some(name)
 }
 
-/// What follows an answer: a word, or a word with a value behind its colon.
-#[tactic(auto, unfolding(crate::specs::Labels::behind_answer))]
-fn behind_answer(text: &[u8]) -> &[u8]
-    ensures { result.now ≡ spec.behind_answer text.now }
+/// What follows an answer: a word, or a word with a value after its colon.
+#[tactic(auto, unfolding(crate::specs::Labels::after_answer))]
+fn after_answer(text: &[u8]) -> &[u8]
+    ensures { result.now ≡ spec.after_answer text.now }
 {
     let rest = skip(Class::Word, skip(Class::Blank, text));
-    match behind(b':', rest) {
+    match following(b':', rest) {
         Some(value) => skip(Class::Argument, value),
         None => rest,
     }
@@ -93,7 +93,7 @@ fn jump_of(line: &[u8]) -> Option<&[u8]>
 {
     let (word, rest) = split_prefix(Class::Word, skip(Class::Blank, line));
     if word == b"on".as_slice() {
-        goal_of(behind_answer(rest))
+        goal_of(after_answer(rest))
     } else {
         goal_of(line)
     }
@@ -224,7 +224,7 @@ fn marks_before<'t>(alloc: Global, line: u32, text: &'t [u8]) -> Result<Marks<'t
     Ok(marks)
 }
 
-/// What stands behind the number of a line that jumps.
+/// What stands after the number of a line that jumps.
 #[tactic(auto, unfolding(crate::specs::Labels::jumping_words))]
 fn jumping_words() -> &'static [u8]
     ensures { result.now ≡ spec.jumping_words }
@@ -232,7 +232,7 @@ fn jumping_words() -> &'static [u8]
     b" jumps to `"
 }
 
-/// What stands behind the name of a label that is not there.
+/// What stands after the name of a label that is not there.
 #[tactic(auto, unfolding(crate::specs::Labels::missing_words))]
 fn missing_words() -> &'static [u8]
     ensures { result.now ≡ spec.missing_words }

@@ -4,7 +4,7 @@ ghost use Rattle.std.specs.Option.{option_copied};
 ghost use Rattle.fmp_cli_hints.specs.Likeness as spec;
 
 use crate::text::TextForm;
-use fmp_bytes::{Class, are_digits, behind, skip, split_prefix};
+use fmp_bytes::{Class, are_digits, following, skip, split_prefix};
 use fmp_config_statements::{ConfigKind, find_statement};
 use fmp_names::is_processor_word;
 use fmp_text::TextKind;
@@ -24,18 +24,18 @@ pub enum Likeness {
 }
 
 /// What follows a byte order mark in UTF-8, where the line begins with one.
-#[tactic(auto, unfolding(crate::specs::Likeness::behind_mark))]
-fn behind_mark(line: &[u8]) -> Option<&[u8]>
-    ensures { option_copied result ≡ spec.behind_mark line.now }
+#[tactic(auto, unfolding(crate::specs::Likeness::after_mark))]
+fn after_mark(line: &[u8]) -> Option<&[u8]>
+    ensures { option_copied result ≡ spec.after_mark line.now }
 {
-    behind(0xBF, behind(0xBB, behind(0xEF, line)?)?)
+    following(0xBF, following(0xBB, following(0xEF, line)?)?)
 }
 
 /// A line without the byte order mark before it, if it has one.
 pub fn without_mark(line: &[u8]) -> &[u8]
     ensures { result.now ≡ spec.without_mark line.now }
 {
-    behind_mark(line).unwrap_or(line)
+    after_mark(line).unwrap_or(line)
 }
 
 /// What a line with these first two words looks like, if anything.
@@ -62,7 +62,7 @@ fn likeness_by(first: &[u8], second: &[u8]) -> Option<Likeness>
 fn looks_like(line: &[u8]) -> Option<Likeness>
     ensures { result ≡ spec.looks_like line.now }
 {
-    if behind_mark(line).is_some() {
+    if after_mark(line).is_some() {
         return Some(Likeness::Marked);
     }
     let (first, rest) = split_prefix(Class::Word, skip(Class::Blank, line));
@@ -71,8 +71,8 @@ fn looks_like(line: &[u8]) -> Option<Likeness>
 }
 
 /// What is told of a line that looks so.
-fn told(likeness: Likeness) -> &'static [u8]
-    ensures { result.now ≡ spec.told likeness }
+fn report(likeness: Likeness) -> &'static [u8]
+    ensures { result.now ≡ spec.report likeness }
 {
     match likeness {
         Likeness::Marked => {
@@ -129,7 +129,7 @@ pub(crate) fn put_text_likeness(
         return Ok(());
     }
     match looks_like(line) {
-        Some(found) if !is_own(form, found) => out.extend_from_slice(told(found)),
+        Some(found) if !is_own(form, found) => out.extend_from_slice(report(found)),
         _ => Ok(()),
     }
 }
@@ -155,7 +155,7 @@ pub fn put_config_likeness(
     }
     match looks_like(line) {
         Some(found) if !matches!(found, Likeness::Configuration) => {
-            out.extend_from_slice(told(found))
+            out.extend_from_slice(report(found))
         }
         _ => Ok(()),
     }

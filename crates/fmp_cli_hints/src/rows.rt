@@ -42,8 +42,8 @@ pub const FOREIGN_ROWS: [(&[u8], &[u8]); 6] = [
 ];
 
 /// What the first of these rows tells that has the word, or nothing.
-pub fn told_of<'a>(rows: &[(&[u8], &'a [u8])], word: &[u8]) -> &'a [u8]
-    ensures { result.now ≡ spec.told_of (map (λ row. (row.0.now, row.1.now)) rows.now) word.now }
+pub fn report_of<'a>(rows: &[(&[u8], &'a [u8])], word: &[u8]) -> &'a [u8]
+    ensures { result.now ≡ spec.report_of (map (λ row. (row.0.now, row.1.now)) rows.now) word.now }
 {
     for row in rows {
         if row.0 == word {
@@ -54,8 +54,8 @@ pub fn told_of<'a>(rows: &[(&[u8], &'a [u8])], word: &[u8]) -> &'a [u8]
 }
 
 /// What the first of these rows tells with which the text begins, or nothing.
-pub(crate) fn told_at<'a>(rows: &[(&[u8], &'a [u8])], text: &[u8]) -> &'a [u8]
-    ensures { result.now ≡ spec.told_at (map (λ row. (row.0.now, row.1.now)) rows.now) text.now }
+pub(crate) fn report_at<'a>(rows: &[(&[u8], &'a [u8])], text: &[u8]) -> &'a [u8]
+    ensures { result.now ≡ spec.report_at (map (λ row. (row.0.now, row.1.now)) rows.now) text.now }
 {
     for row in rows {
         if text.starts_with(row.0) {
@@ -69,5 +69,5 @@ pub(crate) fn told_at<'a>(rows: &[(&[u8], &'a [u8])], text: &[u8]) -> &'a [u8]
 pub fn foreign_words(text: &[u8]) -> &'static [u8]
     ensures { result.now ≡ spec.foreign_words text.now }
 {
-    told_at(&FOREIGN_ROWS, text)
+    report_at(&FOREIGN_ROWS, text)
 }

@@ -8,9 +8,9 @@ use crate::event::{context_at, event_place};
 use crate::excerpt::put_excerpt;
 use crate::labels::put_label_hint;
 use crate::likeness::{put_text_likeness, without_mark};
-use crate::line::line_behind;
+use crate::line::line_after;
 use crate::trace::{partial_place, trace_place};
-use crate::walk::{Walk, behind_name, ending};
+use crate::walk::{Walk, after_name, ending};
 use crate::wanted::Wanted;
 use crate::way::{barred_place, line_place, word_place};
 use fmp_bytes::{Class, all_of, is_identifier, skip, split_prefix};
@@ -30,7 +30,7 @@ pub enum TextForm {
     Partial,
 }
 
-/// A function's name, or what stands behind it.
+/// A function's name, or what stands after it.
 #[tactic(auto, unfolding(crate::specs::Steps::function_place))]
 fn function_place<'a>(text: &'a [u8]) -> Walk<'a>
     ensures { result ≡ steps.function_place text.now }
@@ -56,7 +56,7 @@ pub(crate) fn step_place<'a>(names: &Names, text: &'a [u8]) -> Walk<'a>
         return ending(Wanted::LineEnd, Walk::going(rest));
     }
     match find_call(word) {
-        Some(call) => behind_name(names, call, rest),
+        Some(call) => after_name(names, call, rest),
         None => Walk::stuck(text, Wanted::Step),
     }
 }
@@ -131,15 +131,15 @@ fn advised(
 }
 
 /// The line with a caret, and what is wanted there, or else what to do about such a fault.
-#[tactic(auto, unfolding(crate::specs::Texts::told))]
-fn told(
+#[tactic(auto, unfolding(crate::specs::Texts::report))]
+fn report(
     alloc: Global,
     names: &Names,
     line: &[u8],
     walk: &Walk<'_>,
     kind: TextKind,
 ) -> Result<Vec<u8>, AllocError>
-    ensures { IfOk result (λ out. out.items ≡ spec.told names.now line.now walk.now kind) }
+    ensures { IfOk result (λ out. out.items ≡ spec.report names.now line.now walk.now kind) }
 {
     match context_at(alloc, names, line, walk)? {
         Some(text) => Ok(text),
@@ -148,8 +148,8 @@ fn told(
 }
 
 /// What is told of a line of a text with this fault, with what follows its line feed, if it has one.
-#[tactic(auto, unfolding(crate::specs::Texts::told_line))]
-fn told_line(
+#[tactic(auto, unfolding(crate::specs::Texts::report_line))]
+fn report_line(
     alloc: Global,
     names: &Names,
     form: TextForm,
@@ -158,11 +158,11 @@ fn told_line(
     line: &[u8],
     after: Option<&[u8]>,
 ) -> Result<Vec<u8>, AllocError>
-    ensures { IfOk result (λ out. out.items ≡ spec.told_line names.now form text.now fault line.now (option_copied after.entry)) }
+    ensures { IfOk result (λ out. out.items ≡ spec.report_line names.now form text.now fault line.now (option_copied after.entry)) }
 {
     let whole = without_return(line);
     let walk = place(alloc, names, form, whole, after, fault)?;
-    let mut out = told(alloc, names, without_mark(whole), &walk, fault.kind)?;
+    let mut out = report(alloc, names, without_mark(whole), &walk, fault.kind)?;
     put_label_hint(alloc, &mut out, fault.line, text, walk.wanted())?;
     put_text_likeness(&mut out, form, fault.kind, line)?;
     Ok(out)
@@ -193,8 +193,8 @@ pub fn text_context(
     if fault.line == 0 {
         return text_advice(alloc, fault.kind);
     }
-    match line_behind(fault.line - 1, text) {
-        Some((line, after)) => told_line(alloc, names, form, text, fault, line, after),
+    match line_after(fault.line - 1, text) {
+        Some((line, after)) => report_line(alloc, names, form, text, fault, line, after),
         None => text_advice(alloc, fault.kind),
     }
 }
@@ -232,7 +232,7 @@ pub fn text_spot(
     if fault.line == 0 {
         return Ok(Spot::Nowhere);
     }
-    match line_behind(fault.line - 1, text) {
+    match line_after(fault.line - 1, text) {
         Some((line, after)) => line_spot(alloc, names, form, fault, line, after),
         None => Ok(Spot::Line(fault.line as usize)),
     }
@@ -278,7 +278,7 @@ pub fn task_at<'a>(
     if fault.line == 0 {
         return Ok(None);
     }
-    let Some((line, after)) = line_behind(fault.line - 1, text) else {
+    let Some((line, after)) = line_after(fault.line - 1, text) else {
         return Ok(None);
     };
     let walk = place(alloc, names, form, without_return(line), after, fault)?;
@@ -298,7 +298,7 @@ pub fn function_at<'a>(
     if fault.line == 0 {
         return Ok(None);
     }
-    let Some((line, after)) = line_behind(fault.line - 1, text) else {
+    let Some((line, after)) = line_after(fault.line - 1, text) else {
         return Ok(None);
     };
     let walk = place(

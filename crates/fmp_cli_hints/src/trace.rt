@@ -6,9 +6,9 @@ ghost use Rattle.fmp_text.specs.Reading.{call_in};
 ghost use Rattle.fmp_cli_hints.specs.declared.wanted.Wanted.TheVariants.{Answer as WantsAnswer};
 ghost use Rattle.fmp_cli_hints.specs.Traces as spec;
 
-use crate::walk::{Walk, behind_name};
+use crate::walk::{Walk, after_name};
 use crate::wanted::Wanted;
-use fmp_bytes::{Class, behind, cut, skip, split_prefix};
+use fmp_bytes::{Class, cut, following, skip, split_prefix};
 use fmp_calls::{NameKind, ObjectKind, find_call, form};
 use fmp_codes::{Call, Event, Proc, Record};
 use fmp_text::{Names, TextKind, processor_in, read_call};
@@ -44,7 +44,7 @@ fn passed<'a>(passes: bool, wanted: Wanted, text: &'a [u8]) -> Walk<'a>
 fn spaced<'a>(wanted: Wanted, text: &'a [u8]) -> Walk<'a>
     ensures { result ≡ spec.spaced wanted text.now }
 {
-    match behind(b' ', text) {
+    match following(b' ', text) {
         Some(rest) => Walk::going(rest),
         None => Walk::stuck(text, wanted),
     }
@@ -113,7 +113,7 @@ fn run_by<'a>(names: &Names, walk: Walk<'a>) -> Walk<'a>
     passed(is_runner(names, word), Wanted::Runner, text)
 }
 
-/// Goes on over all that stands before the event in the line of this number, with the blank behind it.
+/// Goes on over all that stands before the event in the line of this number, with the blank after it.
 #[tactic(auto, unfolding(crate::specs::Traces::headed))]
 fn headed<'a>(names: &Names, n: u32, line: &'a [u8]) -> Walk<'a>
     ensures { result ≡ spec.headed names.now n line.now }
@@ -198,7 +198,7 @@ fn called<'a>(
     ensures within { IfOk result (λ w. length w.rest ≤ length text.now) }
 {
     let written = call_part(text);
-    let walk = behind_name(names, call, skip(Class::Word, written));
+    let walk = after_name(names, call, skip(Class::Word, written));
     match walk.wanted() {
         Some(wanted) => {
             let place = written.len().saturating_sub(walk.rest().len());
@@ -226,9 +226,9 @@ fn happened<'a>(alloc: Global, names: &Names, text: &'a [u8]) -> Result<Walk<'a>
 }
 
 /// Adds what is printed from the event on.
-#[tactic(auto, unfolding(crate::specs::Traces::told_from_event, fmp_trace::specs::Lines::tail_text))]
+#[tactic(auto, unfolding(crate::specs::Traces::report_from_event, fmp_trace::specs::Lines::tail_text))]
 fn put_from_event(out: &mut Vec<u8>, names: &Names, entry: &Record) -> Result<(), AllocError>
-    ensures { OnOk result (out.new.items ≡ out.old.items ++ spec.told_from_event names.now entry.now) }
+    ensures { OnOk result (out.new.items ≡ out.old.items ++ spec.report_from_event names.now entry.now) }
 {
     put_event(out, names, entry.event)?;
     out.push(b' ')?;
@@ -252,7 +252,7 @@ fn is_printed(alloc: Global, names: &Names, text: &[u8]) -> Result<bool, AllocEr
     Ok(printed.as_slice() == text)
 }
 
-/// Goes on over words, each behind a blank, that follow so many bytes from the event on: up to the first with which that is not
+/// Goes on over words, each after a blank, that follow so many bytes from the event on: up to the first with which that is not
 /// printed so.
 fn words_from<'a>(
     alloc: Global,
@@ -282,7 +282,7 @@ fn words_from<'a>(
 }
 
 /// Goes on over what follows the event in a text that begins with it.
-#[tactic(auto, unfolding(crate::specs::Traces::answered, fmp_bytes::specs::Bytes::behind))]
+#[tactic(auto, unfolding(crate::specs::Traces::answered, fmp_bytes::specs::Bytes::following))]
 fn answered<'a>(
     alloc: Global,
     names: &Names,

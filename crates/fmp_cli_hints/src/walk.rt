@@ -3,7 +3,7 @@ ghost use Rattle.std.specs.Prelude.{◌≡◌, [], Some, None};
 ghost use Rattle.fmp_cli_hints.specs.Places as spec;
 
 use crate::wanted::Wanted;
-use fmp_bytes::{Class, behind, skip, split_prefix};
+use fmp_bytes::{Class, following, skip, split_prefix};
 use fmp_calls::{ArgumentKind, form};
 use fmp_codes::Call;
 use fmp_text::{Names, is_argument, value_at};
@@ -69,7 +69,7 @@ fn mark<'a>(call: Call, byte: u8, walk: Walk<'a>) -> Walk<'a>
         return walk;
     }
     let text = skip(Class::Blank, walk.rest());
-    match behind(byte, text) {
+    match following(byte, text) {
         Some(rest) => Walk::going(rest),
         None => Walk::stuck(text, Wanted::Mark(call, byte)),
     }
@@ -171,9 +171,9 @@ fn enclosed<'a>(names: &Names, judged: bool, call: Call, text: &'a [u8]) -> Walk
 }
 
 /// What follows a call's name: first its form is judged, and then the values of its arguments.
-#[tactic(auto, unfolding(crate::specs::Places::behind_name))]
-pub(crate) fn behind_name<'a>(names: &Names, call: Call, text: &'a [u8]) -> Walk<'a>
-    ensures { result ≡ spec.behind_name names.now call text.now }
+#[tactic(auto, unfolding(crate::specs::Places::after_name))]
+pub(crate) fn after_name<'a>(names: &Names, call: Call, text: &'a [u8]) -> Walk<'a>
+    ensures { result ≡ spec.after_name names.now call text.now }
 {
     if form(call).bare {
         return ending(Wanted::CallEnd(call), Walk::going(text));

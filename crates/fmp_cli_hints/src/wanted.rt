@@ -193,10 +193,10 @@ fn put_end(out: &mut Vec<u8>) -> Result<(), AllocError>
     out.extend_from_slice(b"  here: the end of the line\n")
 }
 
-/// Adds what is wanted, behind its label.
-#[tactic(auto, unfolding(crate::specs::Wanted::told))]
-fn put_told(out: &mut Vec<u8>, names: &Names, wanted: Wanted) -> Result<(), AllocError>
-    ensures { OnOk result (out.new.items ≡ out.old.items ++ spec.told names.now wanted) }
+/// Adds what is wanted, after its label.
+#[tactic(auto, unfolding(crate::specs::Wanted::report))]
+fn put_reported(out: &mut Vec<u8>, names: &Names, wanted: Wanted) -> Result<(), AllocError>
+    ensures { OnOk result (out.new.items ≡ out.old.items ++ spec.report names.now wanted) }
 {
     match wanted {
         Wanted::Processor => put_processors(out, names.processors()),
@@ -224,5 +224,5 @@ pub fn put_wanted(out: &mut Vec<u8>, names: &Names, wanted: Wanted) -> Result<()
     ensures { OnOk result (out.new.items ≡ out.old.items ++ spec.wanted_text names.now wanted) }
 {
     out.extend_from_slice(label())?;
-    put_told(out, names, wanted)
+    put_reported(out, names, wanted)
 }

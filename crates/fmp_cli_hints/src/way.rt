@@ -6,7 +6,7 @@ use crate::event::barred;
 use crate::text::step_place;
 use crate::walk::{Walk, ending};
 use crate::wanted::Wanted;
-use fmp_bytes::{Class, all_of, behind, is_identifier, skip, spelled_number, split_prefix};
+use fmp_bytes::{Class, all_of, following, is_identifier, skip, spelled_number, split_prefix};
 use fmp_codes::Code;
 use fmp_text::Names;
 
@@ -62,8 +62,8 @@ fn may_stand(byte: u8) -> bool
 }
 
 /// From the first byte on that stands in no line of a script text.
-fn behind_line(line: &[u8]) -> &[u8]
-    ensures { result.now ≡ spec.behind_line line.now }
+fn after_line(line: &[u8]) -> &[u8]
+    ensures { result.now ≡ spec.after_line line.now }
 {
     for (index, byte) in line.iter().enumerate() {
         if !may_stand(*byte) {
@@ -79,7 +79,7 @@ pub(crate) fn barred_place<'a>(line: &'a [u8]) -> Walk<'a>
     ensures { result ≡ spec.barred_place line.now }
 {
     let (word, _rest) = split_prefix(Class::Word, skip(Class::Blank, line));
-    let rest = behind_line(line);
+    let rest = after_line(line);
     if is_of_c(word) {
         return Walk::stuck(skip(Class::Blank, line), Wanted::Jumps);
     }
@@ -90,7 +90,7 @@ pub(crate) fn barred_place<'a>(line: &'a [u8]) -> Walk<'a>
     }
 }
 
-/// A line whose first word may not stand there: a word of C, a jump that stands behind no call, one that begins another script, or another.
+/// A line whose first word may not stand there: a word of C, a jump that stands after no call, one that begins another script, or another.
 #[tactic(auto, unfolding(crate::specs::Ways::word_place))]
 pub(crate) fn word_place<'a>(text: &'a [u8]) -> Walk<'a>
     ensures { result ≡ spec.word_place text.now }
@@ -153,7 +153,7 @@ fn turn_place<'a>(ranged: bool, text: &'a [u8]) -> Walk<'a>
     ensures { result ≡ spec.turn_place ranged text.now }
 {
     let (word, rest) = split_prefix(Class::Word, text);
-    match behind(b':', rest) {
+    match following(b':', rest) {
         Some(number) => {
             if is_code(word) {
                 value_place(ranged, number)
@@ -205,7 +205,7 @@ pub(crate) fn line_place<'a>(names: &Names, ranged: bool, text: &'a [u8]) -> Wal
     if is_taken(word) {
         return step_place(names, text);
     }
-    match behind(b':', skip(Class::Blank, rest)) {
+    match following(b':', skip(Class::Blank, rest)) {
         Some(after) => label_place(text, after),
         None => step_place(names, text),
     }

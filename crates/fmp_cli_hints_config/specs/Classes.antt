@@ -1,6 +1,6 @@
 -- The class that is nearest to a word.
 use Rattle.std.specs.Prelude.{ℕ, Bool, not, ◌&&◌, false, List, [], ◌∷◌, take, Option, None, if◌then◌else◌}
-use Rattle.fmp_cli_hints_config.specs.Opened.{Opened, awaits_class, behind_token, is_inside}
+use Rattle.fmp_cli_hints_config.specs.Opened.{Opened, awaits_class, after_token, is_inside}
 use Rattle.fmp_cli_help.specs.Near.{nearer}
 use Rattle.fmp_config_tokens.specs.Lexing.{Lexeme, lexed_text}
 
@@ -12,7 +12,7 @@ nearer_class word best inside opened t = if not inside && awaits_class opened th
 abbrev pub nearest_from : List ℕ → Option (List ℕ) → Bool → Option Opened → List Lexeme → Option (List ℕ)
 nearest_from word best inside opened [] = best
 nearest_from word best inside opened (t ∷ ts) =
-    nearest_from word (nearer_class word best inside opened t) (is_inside inside t) (behind_token inside opened t) ts
+    nearest_from word (nearer_class word best inside opened t) (is_inside inside t) (after_token inside opened t) ts
 
 -- the nearest of the classes that a text defines
 unfoldable pub near_class : List ℕ → List ℕ → Option (List ℕ)

@@ -4,7 +4,7 @@ use Rattle.std.specs.Prelude.{if◌then◌else◌}
 use Rattle.std.specs.Option.{option_map_or}
 use Rattle.fmp_bytes.specs.Bytes.{cut_at, line_feed}
 use Rattle.fmp_config.specs.declared.fault.ConfigFault.{ConfigFault}
-use Rattle.fmp_cli_hints.specs.Contexts.{line_behind}
+use Rattle.fmp_cli_hints.specs.Contexts.{line_after}
 use Rattle.fmp_cli_hints.specs.Excerpts.{excerpt}
 use Rattle.fmp_cli_hints.specs.Likeness.{config_likeness}
 use Rattle.fmp_cli_hints_config.specs.Hints.{word_hint}
@@ -58,7 +58,7 @@ form_of (Some name) = label ++ about name
 unfoldable pub form_at : List ℕ → ℕ → ConfigFault → List ℕ
 form_at text place fault = if wants_form fault.kind && not (is_stray text place) then form_of (statement_at text place fault.word.bytes) else []
 
--- a byte that is missing behind what stands before a place, and the form of its statement
+-- a byte that is missing after what stands before a place, and the form of its statement
 unfoldable pub missed : List ℕ → ℕ → StatementName × ℕ → List ℕ
 missed text place missing = placed text (end_of_text (take place text)) ++ form_of (Some missing.0)
 
@@ -67,15 +67,15 @@ unfoldable pub refused : List ℕ → ℕ → ConfigFault → List ℕ
 refused text place fault = placed text place ++ form_at text place fault
 
 -- what is told of the token, of what is missing there, or of a character that no token has
-unfoldable pub told : List ℕ → ConfigFault → List ℕ
-told text fault =
+unfoldable pub report : List ℕ → ConfigFault → List ℕ
+report text fault =
     option_map_or (λ place. option_map_or (λ missing. mark_line missing.1) (missing_at text place fault.kind) (word_hint text place fault))
     (place_of text fault.left) (words_at text fault.line)
 
 -- that, or else what to do about such a fault
-abbrev pub told_or_advice : List ℕ → ConfigKind → List ℕ
-told_or_advice [] kind = advice_line (config_advice kind)
-told_or_advice (b ∷ bytes) kind = b ∷ bytes
+abbrev pub report_or_advice : List ℕ → ConfigKind → List ℕ
+report_or_advice [] kind = advice_line (config_advice kind)
+report_or_advice (b ∷ bytes) kind = b ∷ bytes
 
 -- the line of a fault, with a caret where a token is at fault, or where one is missing
 unfoldable pub shown : List ℕ → ConfigFault → List ℕ
@@ -85,12 +85,12 @@ shown text fault =
 
 -- what the line of this number looks like, where it has such a fault
 unfoldable pub likeness_at : List ℕ → ℕ → ConfigKind → List ℕ
-likeness_at text line kind = if line == 0 then [] else option_map_or (λ l. config_likeness kind l.0) (line_behind (line - 1) text) []
+likeness_at text line kind = if line == 0 then [] else option_map_or (λ l. config_likeness kind l.0) (line_after (line - 1) text) []
 
 -- and what is told of it
 unfoldable pub config_context : List ℕ → ConfigFault → List ℕ
 config_context text fault =
-    shown text fault ++ told_or_advice (told text fault) fault.kind ++ likeness_at text fault.line fault.kind ++ project_line text fault
+    shown text fault ++ report_or_advice (report text fault) fault.kind ++ likeness_at text fault.line fault.kind ++ project_line text fault
 
 -- how many line feeds there are, with so many before them
 abbrev pub line_feeds : ℕ → List ℕ → ℕ

@@ -7,12 +7,12 @@ use Rattle.fmp_bytes.specs.Bytes.{is_of}
 use Rattle.fmp_cli_diagnostics.specs.Diagnostics.{of_line}
 use Rattle.fmp_cli_diagnostics.specs.declared.diagnostic.Spot.{Spot}
 use Rattle.fmp_cli_diagnostics.specs.declared.diagnostic.Spot.TheVariants.{Column}
-use Rattle.fmp_cli_hints.specs.Contexts.{line_behind}
+use Rattle.fmp_cli_hints.specs.Contexts.{line_after}
 use Rattle.fmp_cli_hints.specs.Excerpts.{excerpt, line_shown}
 use Rattle.fmp_cli_hints.specs.Likeness.{without_mark}
 use Rattle.fmp_cli_hints.specs.Rows.{foreign_words}
 
--- printed ASCII or a tab, and neither a quotation mark nor a slash, behind which a string or a comment may begin
+-- printed ASCII or a tab, and neither a quotation mark nor a slash, after which a string or a comment may begin
 abbrev pub is_plain : ℕ → Bool
 is_plain b = (is_of Printed b || b == 9) && (not (b == 34) && not (b == 47))
 
@@ -25,7 +25,7 @@ foreign_column line = option_and_then (λ i. if nat_lt (get_or line i 0) 128 the
 
 -- the line of this number from 1, without a byte order mark before it
 unfoldable pub line_at : List ℕ → ℕ → Option (List ℕ)
-line_at text line = if line == 0 then None else option_map (λ l. without_mark l.0) (line_behind (line - 1) text)
+line_at text line = if line == 0 then None else option_map (λ l. without_mark l.0) (line_after (line - 1) text)
 
 -- a line, with a caret under that byte
 unfoldable pub line_shown_so : List ℕ → List ℕ

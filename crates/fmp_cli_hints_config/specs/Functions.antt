@@ -29,8 +29,8 @@ unfoldable pub function_line : List ℕ → List ℕ → List ℕ
 function_line task function = codes "  " ++ task ++ task_words ++ function ++ codes ".\n"
 
 -- told of a name, where a task has it
-unfoldable pub told_function : Setup → List ℕ → List ℕ
-told_function c name = option_map_or (function_line name) (function_of c name) []
+unfoldable pub report_function : Setup → List ℕ → List ℕ
+report_function c name = option_map_or (function_line name) (function_of c name) []
 
 -- the nearest function to a name that is none
 unfoldable pub near_function : Setup → List ℕ → List ℕ
@@ -38,12 +38,12 @@ near_function c word =
     if is_name word && is_none (number_of c.names Function word) then near_line (nearest word None c.names.functions) else []
 
 -- told of a word that stands where a function is wanted
-unfoldable pub told_word : Setup → List ℕ → List ℕ
-told_word c word = if is_object c.names word then told_function c word else near_function c word
+unfoldable pub report_word : Setup → List ℕ → List ℕ
+report_word c word = if is_object c.names word then report_function c word else near_function c word
 
 -- and of a fault of scripts, where it is there
 unfoldable pub script_hint : Setup → List ℕ → TextFault → List ℕ
-script_hint c text fault = option_map_or (told_word c) (function_at c.names text fault) []
+script_hint c text fault = option_map_or (report_word c) (function_at c.names text fault) []
 
 -- a task has the function of this number
 abbrev pub has_main : ℕ → TaskSetup → Bool
@@ -63,12 +63,12 @@ unfoldable pub main_line : List ℕ → List ℕ → List ℕ
 main_line function task = codes "  " ++ function ++ main_words ++ task ++ codes ".\n"
 
 -- told of a word that is the function of a task
-unfoldable pub told_task : Setup → List ℕ → List ℕ
-told_task c word = option_map_or (main_line word) (task_of c word) []
+unfoldable pub report_task : Setup → List ℕ → List ℕ
+report_task c word = option_map_or (main_line word) (task_of c word) []
 
 -- where it stands in the place of a task
 unfoldable pub task_hint : Setup → TextForm → List ℕ → TextFault → List ℕ
-task_hint c form text fault = option_map_or (told_task c) (task_at c.names form text fault) []
+task_hint c form text fault = option_map_or (report_task c) (task_at c.names form text fault) []
 
 abbrev pub is_scripts : TextForm → Bool
 is_scripts forms.Scripts = true

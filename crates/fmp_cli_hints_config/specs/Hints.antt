@@ -1,6 +1,6 @@
 -- What is told of the word of a configuration that is at fault.
 use Rattle.std.specs.Prelude.{ℕ, List, [], ◌++◌, take, Option, Some, None, is_some, codes, if◌then◌else◌}
-use Rattle.fmp_bytes.specs.Bytes.{behind, number_sign}
+use Rattle.fmp_bytes.specs.Bytes.{following, number_sign}
 use Rattle.fmp_config.specs.declared.fault.ConfigFault.{ConfigFault}
 use Rattle.fmp_cli_hints_config.specs.Classes.{near_class}
 use Rattle.fmp_cli_hints_config.specs.Numbers.{number_hint}
@@ -27,7 +27,7 @@ attribute_hint statement word = []
 -- of a name that is no statement that it is left out, or the nearest that is not. A directive is for another program
 unfoldable pub statement_hint : List ℕ → List ℕ
 statement_hint word =
-    if is_some (behind number_sign word) then codes "  Let the C preprocessor do its part before: `cpp -P`, or `tools/from-toppers`.\n"
+    if is_some (following number_sign word) then codes "  Let the C preprocessor do its part before: `cpp -P`, or `tools/from-toppers`.\n"
     else (if is_left_out word then codes "  " ++ left_out_line word ++ codes "  Leave the statement out, as `tools/from-toppers` does.\n" else near_line (near_statement word))
 
 -- what may be written for a word of a statement
@@ -38,15 +38,15 @@ written items.Member = codes ", a number or the name of one, without parentheses
 written item = codes "\n"
 
 -- of a token that does not fit which word has to stand in its place, where it has to be a word
-abbrev pub told_item : Option (StatementName × Item) → List ℕ
-told_item None = []
-told_item (Some (name, item)) = codes "  here: " ++ word_of name item ++ written item
+abbrev pub report_item : Option (StatementName × Item) → List ℕ
+report_item None = []
+report_item (Some (name, item)) = codes "  here: " ++ word_of name item ++ written item
 
 -- of a token that does not fit that a `;` stands where no statement is open, or which word has to stand there
 unfoldable pub syntax_hint : List ℕ → ℕ → List ℕ
 syntax_hint text place =
     if is_stray text place then codes "  No `;` stands here: a class ends with its `}`, and each statement with one `;`.\n"
-    else told_item (item_in (take place text))
+    else report_item (item_in (take place text))
 
 -- what is told of the word at a place, with this fault
 abbrev pub hint_as : ConfigKind → List ℕ → ℕ → List ℕ → List ℕ

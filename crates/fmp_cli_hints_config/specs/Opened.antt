@@ -3,7 +3,7 @@ use Rattle.std.specs.Prelude.{ℕ, ◌+◌, Bool, true, false, ◌&&◌, ◌||�
 use Rattle.std.specs.Prelude.{◌==◌, if◌then◌else◌}
 use Rattle.std.specs.Option.{option_map_or}
 use Rattle.fmp_bytes.specs.declared.classes.Class.TheVariants.{Space}
-use Rattle.fmp_bytes.specs.Bytes.{behind, is_of, close_parenthesis, comma}
+use Rattle.fmp_bytes.specs.Bytes.{following, is_of, close_parenthesis, comma}
 use Rattle.fmp_config_statements.specs.declared.fault.ConfigKind.{ConfigKind}
 use Rattle.fmp_config_statements.specs.declared.fault.ConfigKind.TheVariants as kinds
 use Rattle.fmp_config_statements.specs.declared.parts.Item.{Item}
@@ -21,7 +21,7 @@ use Rattle.fmp_config_tokens.specs.declared.tokens.TokenKind.{TokenKind}
 use Rattle.fmp_config_tokens.specs.declared.tokens.TokenKind.TheVariants as tokens
 use Rattle.fmp_config_tokens.specs.Lexing.{Lexeme, lexed_text}
 
--- a statement that is open: what has to follow of the part that is being read, and the parts behind it
+-- a statement that is open: what has to follow of the part that is being read, and the parts after it
 pub record Opened : Type 0 where
   pub name : StatementName
   pub scan : Scan
@@ -39,7 +39,7 @@ entered o (part ∷ rest) t = option_map_or (λ scan. record { name = o.name; sc
 unfoldable pub advanced : Opened → Lexeme → Opened
 advanced o t = option_map_or (λ scan. record o { scan = scan }) (next_of o.scan t) (entered o o.rest t)
 
--- none is open behind the last part
+-- none is open after the last part
 unfoldable pub settled : Opened → Option Opened
 settled o = if length o.rest == 0 && is_nothing o.scan then None else Some o
 
@@ -52,7 +52,7 @@ stepped (Some o) t = settled (advanced o t)
 abbrev pub depth_in : Option Opened → ℕ
 depth_in opened = option_map_or (λ o. depth_of o.scan) opened 0
 
--- what follows a token stands inside a directive: behind its first one, and up to its end
+-- what follows a token stands inside a directive: after its first one, and up to its end
 abbrev pub is_inside_as : Bool → TokenKind → Bool
 is_inside_as inside tokens.Directive = true
 is_inside_as inside tokens.DirectiveEnd = false
@@ -61,16 +61,16 @@ is_inside_as inside kind = inside
 abbrev pub is_inside : Bool → Lexeme → Bool
 is_inside inside t = is_inside_as inside t.kind
 
-abbrev pub behind_token : Bool → Option Opened → Lexeme → Option Opened
-behind_token inside opened t = if inside || is_directive_kind t.kind then opened else stepped opened t
+abbrev pub after_token : Bool → Option Opened → Lexeme → Option Opened
+after_token inside opened t = if inside || is_directive_kind t.kind then opened else stepped opened t
 
--- the statement that is open behind these tokens, the first of which stand inside a directive or not
-abbrev pub opened_behind : Bool → Option Opened → List Lexeme → Option Opened
-opened_behind inside opened [] = opened
-opened_behind inside opened (t ∷ ts) = opened_behind (is_inside inside t) (behind_token inside opened t) ts
+-- the statement that is open after these tokens, the first of which stand inside a directive or not
+abbrev pub opened_after : Bool → Option Opened → List Lexeme → Option Opened
+opened_after inside opened [] = opened
+opened_after inside opened (t ∷ ts) = opened_after (is_inside inside t) (after_token inside opened t) ts
 
 abbrev pub opened_in : List ℕ → Option Opened
-opened_in text = opened_behind false None (lexed_text text).lexemes
+opened_in text = opened_after false None (lexed_text text).lexemes
 
 -- the byte that the first of these parts is
 abbrev pub first_mark : List Part → Option ℕ
@@ -103,7 +103,7 @@ item_at (Next byte item) rest = Some item
 item_at Nothing rest = first_item rest
 item_at scan rest = None
 
--- the statement that is open behind a text, and the word that has to follow there
+-- the statement that is open after a text, and the word that has to follow there
 unfoldable pub item_in : List ℕ → Option (StatementName × Item)
 item_in text = option_and_then (λ o. option_map (λ item. (o.name, item)) (item_at o.scan o.rest)) (opened_in text)
 
@@ -124,14 +124,14 @@ awaits_name opened = option_map_or (λ o. is_name (item_at o.scan o.rest)) opene
 
 -- a `;` at a place where no statement is open
 unfoldable pub is_stray : List ℕ → ℕ → Bool
-is_stray text place = is_some (behind 59 (drop place text)) && is_none (opened_in (take place text))
+is_stray text place = is_some (following 59 (drop place text)) && is_none (opened_in (take place text))
 
 -- only a token that does not fit tells what is missing before it
 abbrev pub missing_at : List ℕ → ℕ → ConfigKind → Option (StatementName × ℕ)
 missing_at text place kinds.Syntax = missing_in (take place text)
 missing_at text place kind = None
 
--- the place behind the last byte that is no blank, of which the first have come to this place, and the last such was behind this end
+-- the place after the last byte that is no blank, of which the first have come to this place, and the last such was after this end
 abbrev pub end_from : ℕ → ℕ → List ℕ → ℕ
 end_from count end [] = end
 end_from count end (b ∷ bytes) = end_from (count + 1) (if is_of Space b then end else count + 1) bytes

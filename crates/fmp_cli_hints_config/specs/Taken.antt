@@ -3,7 +3,7 @@ use Rattle.std.specs.Prelude.{ℕ, Bool, false, not, ◌&&◌, List, [], ◌∷�
 use Rattle.std.specs.Option.{option_or}
 use Rattle.std.specs.Str.{bytes_eq}
 use Rattle.fmp_cli_hints_config.specs.Numbers.{defined_line}
-use Rattle.fmp_cli_hints_config.specs.Opened.{Opened, awaits_name, behind_token, is_inside}
+use Rattle.fmp_cli_hints_config.specs.Opened.{Opened, awaits_name, after_token, is_inside}
 use Rattle.fmp_config_tokens.specs.Lexing.{Lexeme, lexed_text}
 
 -- the line of an earlier token, or else that of this one, where it is this word in the place of a name
@@ -15,19 +15,19 @@ line_of word line inside opened t =
 abbrev pub named_from : List ℕ → Option ℕ → Bool → Option Opened → List Lexeme → Option ℕ
 named_from word line inside opened [] = line
 named_from word line inside opened (t ∷ ts) =
-    named_from word (line_of word line inside opened t) (is_inside inside t) (behind_token inside opened t) ts
+    named_from word (line_of word line inside opened t) (is_inside inside t) (after_token inside opened t) ts
 
 abbrev pub named_line : List ℕ → List ℕ → Option ℕ
 named_line text word = named_from word None false None (lexed_text text).lexemes
 
--- what stands behind the number of that line
+-- what stands after the number of that line
 unfoldable pub first_words : List ℕ
 first_words = codes " has the name first: choose another one here.\n"
 
-abbrev pub told_line : Option ℕ → List ℕ
-told_line None = []
-told_line (Some line) = codes "  Line " ++ decimal line ++ first_words
+abbrev pub report_line : Option ℕ → List ℕ
+report_line None = []
+report_line (Some line) = codes "  Line " ++ decimal line ++ first_words
 
--- in which line a name stands first: in a statement, or behind `#define`
+-- in which line a name stands first: in a statement, or after `#define`
 unfoldable pub taken_hint : List ℕ → List ℕ → List ℕ
-taken_hint text word = told_line (option_or (named_line text word) (defined_line text word))
+taken_hint text word = report_line (option_or (named_line text word) (defined_line text word))

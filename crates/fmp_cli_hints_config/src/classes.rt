@@ -3,7 +3,7 @@ ghost use Rattle.std.specs.Prelude.{◌≡◌, ◌+◌, ◌<◌, ◌^◌, IfOk, 
 ghost use Rattle.std.specs.Option.{option_copied};
 ghost use Rattle.fmp_cli_hints_config.specs.Classes as spec;
 
-use crate::opened::{Opened, awaits_class, behind_token, is_inside};
+use crate::opened::{Opened, after_token, awaits_class, is_inside};
 use fmp_cli_help::nearer;
 use fmp_config_tokens::{Lexer, Token};
 use std::alloc::{AllocError, Global};
@@ -42,7 +42,7 @@ pub(crate) fn near_class<'a>(
     let mut best = None;
     while let Some(token) = lexer.next_token() {
         best = nearer_class(alloc, word, best, inside, &opened, &token)?;
-        opened = behind_token(inside, opened, &token);
+        opened = after_token(inside, opened, &token);
         inside = is_inside(inside, &token);
     }
     Ok(best)

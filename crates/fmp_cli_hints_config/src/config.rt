@@ -11,7 +11,7 @@ use crate::statements::statement_at;
 use fmp_bytes::cut;
 use fmp_cli_diagnostics::Spot;
 use fmp_cli_help::{put_config_advice, put_statement};
-use fmp_cli_hints::{label, line_behind, put_config_likeness, put_excerpt, put_mark};
+use fmp_cli_hints::{label, line_after, put_config_likeness, put_excerpt, put_mark};
 use fmp_config::{ConfigFault, ConfigKind};
 use fmp_config_statements::StatementName;
 use std::alloc::{AllocError, Global};
@@ -69,7 +69,7 @@ fn wants_form(kind: ConfigKind) -> bool
     )
 }
 
-/// Adds the form of a statement, behind its label, if there is one.
+/// Adds the form of a statement, after its label, if there is one.
 fn put_form(out: &mut Vec<u8>, name: Option<StatementName>) -> Result<(), AllocError>
     ensures { OnOk result (out.new.items ≡ out.old.items ++ spec.form_of name) }
 {
@@ -101,7 +101,7 @@ fn put_form_at(
     }
 }
 
-/// Adds the line in which a byte is missing behind what stands before a place, a caret there, and the form of its statement.
+/// Adds the line in which a byte is missing after what stands before a place, a caret there, and the form of its statement.
 #[tactic(auto, unfolding(crate::specs::Configs::missed))]
 fn put_missed(
     out: &mut Vec<u8>,
@@ -149,15 +149,15 @@ fn put_fault(out: &mut Vec<u8>, text: &[u8], fault: &ConfigFault) -> Result<(), 
 }
 
 /// Adds what is told of the token at fault, of what is missing there, or of a character that no token has.
-#[tactic(auto, unfolding(crate::specs::Configs::told))]
-fn put_told(
+#[tactic(auto, unfolding(crate::specs::Configs::report))]
+fn put_reported(
     alloc: Global,
     out: &mut Vec<u8>,
     text: &[u8],
     fault: &ConfigFault,
 ) -> Result<(), AllocError>
     requires { length text.now ≤ most_bytes }
-    ensures { OnOk result (out.new.items ≡ out.old.items ++ spec.told text.now fault.now) }
+    ensures { OnOk result (out.new.items ≡ out.old.items ++ spec.report text.now fault.now) }
 {
     let Some(place) = place_of(text, fault.left) else {
         return out.extend_from_slice(words_at(text, fault.line));
@@ -169,23 +169,27 @@ fn put_told(
 }
 
 /// What is told of the token at fault.
-fn told(alloc: Global, text: &[u8], fault: &ConfigFault) -> Result<Vec<u8>, AllocError>
+fn report(alloc: Global, text: &[u8], fault: &ConfigFault) -> Result<Vec<u8>, AllocError>
     requires { length text.now ≤ most_bytes }
-    ensures { IfOk result (λ out. out.items ≡ spec.told text.now fault.now) }
+    ensures { IfOk result (λ out. out.items ≡ spec.report text.now fault.now) }
 {
     let mut out = Vec::new(alloc);
-    put_told(alloc, &mut out, text, fault)?;
+    put_reported(alloc, &mut out, text, fault)?;
     Ok(out)
 }
 
 /// Adds what is told of the token at fault, or else what to do about such a fault.
-fn put_told_or_advice(out: &mut Vec<u8>, told: &[u8], kind: ConfigKind) -> Result<(), AllocError>
-    ensures { OnOk result (out.new.items ≡ out.old.items ++ spec.told_or_advice told.now kind) }
+fn put_reported_or_advice(
+    out: &mut Vec<u8>,
+    report: &[u8],
+    kind: ConfigKind,
+) -> Result<(), AllocError>
+    ensures { OnOk result (out.new.items ≡ out.old.items ++ spec.report_or_advice report.now kind) }
 {
-    if told.is_empty() {
+    if report.is_empty() {
         put_config_advice(out, kind)
     } else {
-        out.extend_from_slice(told)
+        out.extend_from_slice(report)
     }
 }
 
@@ -202,7 +206,7 @@ fn put_likeness_at(
     if line == 0 {
         return Ok(());
     }
-    match line_behind(line - 1, text) {
+    match line_after(line - 1, text) {
         Some((line, _after)) => put_config_likeness(out, kind, line),
         None => Ok(()),
     }
@@ -222,8 +226,8 @@ pub fn config_context(
 {
     let mut out = Vec::new(alloc);
     put_fault(&mut out, text, fault)?;
-    let told = told(alloc, text, fault)?;
-    put_told_or_advice(&mut out, told.as_slice(), fault.kind)?;
+    let report = report(alloc, text, fault)?;
+    put_reported_or_advice(&mut out, report.as_slice(), fault.kind)?;
     put_likeness_at(&mut out, text, fault.line, fault.kind)?;
     put_project_line(&mut out, text, fault)?;
     Ok(out)

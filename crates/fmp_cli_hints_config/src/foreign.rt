@@ -5,10 +5,10 @@ ghost use Rattle.fmp_cli_hints_config.specs.Foreign as spec;
 
 use fmp_bytes::Class;
 use fmp_cli_diagnostics::Spot;
-use fmp_cli_hints::{foreign_words, line_behind, put_excerpt, put_line, without_mark};
+use fmp_cli_hints::{foreign_words, line_after, put_excerpt, put_line, without_mark};
 use std::alloc::AllocError;
 
-/// Whether a byte is printed ASCII or a tab, and neither a quotation mark nor a slash, behind which a string or a comment may begin.
+/// Whether a byte is printed ASCII or a tab, and neither a quotation mark nor a slash, after which a string or a comment may begin.
 fn is_plain(byte: u8) -> bool
     ensures { result ≡ spec.is_plain byte }
 {
@@ -44,7 +44,7 @@ fn line_at(text: &[u8], line: u32) -> Option<&[u8]>
     if line == 0 {
         return None;
     }
-    let (line, _after) = line_behind(line - 1, text)?;
+    let (line, _after) = line_after(line - 1, text)?;
     Some(without_mark(line))
 }
 

@@ -44,9 +44,9 @@ fn put_function_line(out: &mut Vec<u8>, task: &[u8], function: &[u8]) -> Result<
 }
 
 /// Adds which function a task with this name has, if there is one.
-#[tactic(auto, unfolding(crate::specs::Functions::told_function))]
+#[tactic(auto, unfolding(crate::specs::Functions::report_function))]
 fn put_function_of(out: &mut Vec<u8>, config: &Config, name: &[u8]) -> Result<(), AllocError>
-    ensures { OnOk result (out.new.items ≡ out.old.items ++ spec.told_function config.now name.now) }
+    ensures { OnOk result (out.new.items ≡ out.old.items ++ spec.report_function config.now name.now) }
 {
     match function_of(config, name) {
         Some(function) => put_function_line(out, name, function),
@@ -90,14 +90,14 @@ fn put_near_function(
 
 /// Adds what is told of a word that stands where a function is wanted: of an object which function it has, where it is a task, and of
 /// another name the nearest function.
-#[tactic(auto, unfolding(crate::specs::Functions::told_word))]
+#[tactic(auto, unfolding(crate::specs::Functions::report_word))]
 fn put_word(
     alloc: Global,
     out: &mut Vec<u8>,
     config: &Config,
     word: &[u8],
 ) -> Result<(), AllocError>
-    ensures { OnOk result (out.new.items ≡ out.old.items ++ spec.told_word config.now word.now) }
+    ensures { OnOk result (out.new.items ≡ out.old.items ++ spec.report_word config.now word.now) }
 {
     if config.names().contains_object(word) {
         put_function_of(out, config, word)
@@ -170,9 +170,9 @@ fn put_main_line(out: &mut Vec<u8>, function: &[u8], task: &[u8]) -> Result<(), 
 }
 
 /// Adds which task a word has that is its function.
-#[tactic(auto, unfolding(crate::specs::Functions::told_task))]
+#[tactic(auto, unfolding(crate::specs::Functions::report_task))]
 fn put_task_of(out: &mut Vec<u8>, config: &Config, word: &[u8]) -> Result<(), AllocError>
-    ensures { OnOk result (out.new.items ≡ out.old.items ++ spec.told_task config.now word.now) }
+    ensures { OnOk result (out.new.items ≡ out.old.items ++ spec.report_task config.now word.now) }
 {
     match task_of(config, word) {
         Some(task) => put_main_line(out, word, task),

@@ -8,7 +8,7 @@ use crate::numbers::put_number_hint;
 use crate::opened::{is_stray, item_in};
 use crate::statements::statement_at;
 use crate::taken::put_taken_hint;
-use fmp_bytes::behind;
+use fmp_bytes::following;
 use fmp_cli_help::{is_left_out, near_attribute, near_statement, put_left_out, statement_word};
 use fmp_cli_hints::put_near;
 use fmp_config::{ConfigFault, ConfigKind};
@@ -35,7 +35,7 @@ fn put_attribute_hint(
 fn put_statement_hint(alloc: Global, out: &mut Vec<u8>, word: &[u8]) -> Result<(), AllocError>
     ensures { OnOk result (out.new.items ≡ out.old.items ++ spec.statement_hint word.now) }
 {
-    if behind(b'#', word).is_some() {
+    if following(b'#', word).is_some() {
         return out.extend_from_slice(
             b"  Let the C preprocessor do its part before: `cpp -P`, or `tools/from-toppers`.\n",
         );
@@ -62,7 +62,7 @@ fn written(item: Item) -> &'static [u8]
 
 /// Adds which word has to stand in the place of a token that does not fit, where it has to be a word.
 fn put_item(out: &mut Vec<u8>, item: Option<(StatementName, Item)>) -> Result<(), AllocError>
-    ensures { OnOk result (out.new.items ≡ out.old.items ++ spec.told_item item) }
+    ensures { OnOk result (out.new.items ≡ out.old.items ++ spec.report_item item) }
 {
     let Some((name, item)) = item else {
         return Ok(());

@@ -20,8 +20,8 @@ pub enum Stage {
 }
 
 /// How much of `#define` stands right before what follows a token.
-fn stage_behind(stage: Stage, token: &Token<'_>) -> Stage
-    ensures { result ≡ spec.stage_behind stage token.now }
+fn stage_after(stage: Stage, token: &Token<'_>) -> Stage
+    ensures { result ≡ spec.stage_after stage token.now }
 {
     if matches!(token.kind(), TokenKind::Directive) {
         Stage::Sign
@@ -32,14 +32,9 @@ fn stage_behind(stage: Stage, token: &Token<'_>) -> Stage
     }
 }
 
-/// The line of a token that is this word behind `#define`, else the line of an earlier one.
-fn line_behind_define(
-    word: &[u8],
-    stage: Stage,
-    line: Option<u32>,
-    token: &Token<'_>,
-) -> Option<u32>
-    ensures { result ≡ spec.line_behind_define word.now stage line token.now }
+/// The line of a token that is this word after `#define`, else the line of an earlier one.
+fn line_after_define(word: &[u8], stage: Stage, line: Option<u32>, token: &Token<'_>) -> Option<u32>
+    ensures { result ≡ spec.line_after_define word.now stage line token.now }
 {
     if matches!(stage, Stage::Define) && token.text() == word {
         Some(token.line())
@@ -57,13 +52,13 @@ pub(crate) fn defined_line(text: &[u8], word: &[u8]) -> Option<u32>
     let mut stage = Stage::Outside;
     let mut line = None;
     while let Some(token) = lexer.next_token() {
-        line = line_behind_define(word, stage, line, &token);
-        stage = stage_behind(stage, &token);
+        line = line_after_define(word, stage, line, &token);
+        stage = stage_after(stage, &token);
     }
     line
 }
 
-/// What is told of a name that has a `#define`, behind the number of its line.
+/// What is told of a name that has a `#define`, after the number of its line.
 #[tactic(auto, unfolding(crate::specs::Numbers::defined_words))]
 fn defined_words() -> &'static [u8]
     ensures { result.now ≡ spec.defined_words }
@@ -73,7 +68,7 @@ fn defined_words() -> &'static [u8]
 
 /// Adds what is told of a name, with the line of its `#define` if it has one.
 fn put_name(out: &mut Vec<u8>, line: Option<u32>) -> Result<(), AllocError>
-    ensures { OnOk result (out.new.items ≡ out.old.items ++ spec.told_name line) }
+    ensures { OnOk result (out.new.items ≡ out.old.items ++ spec.report_name line) }
 {
     let Some(line) = line else {
         return out.extend_from_slice(
@@ -88,7 +83,7 @@ fn put_name(out: &mut Vec<u8>, line: Option<u32>) -> Result<(), AllocError>
 
 /// Adds what is told of digits, where they are no number.
 fn put_digits(out: &mut Vec<u8>, is_number: bool) -> Result<(), AllocError>
-    ensures { OnOk result (out.new.items ≡ out.old.items ++ spec.told_digits is_number) }
+    ensures { OnOk result (out.new.items ≡ out.old.items ++ spec.report_digits is_number) }
 {
     if is_number {
         return Ok(());
@@ -99,10 +94,10 @@ fn put_digits(out: &mut Vec<u8>, is_number: bool) -> Result<(), AllocError>
 }
 
 /// Adds what is told of a word where a number has to stand.
-#[tactic(auto, unfolding(crate::specs::Numbers::told_word))]
+#[tactic(auto, unfolding(crate::specs::Numbers::report_word))]
 fn put_word(out: &mut Vec<u8>, text: &[u8], word: &[u8]) -> Result<(), AllocError>
     requires { length text.now + 1 < 2 ^ 32 }
-    ensures { OnOk result (out.new.items ≡ out.old.items ++ spec.told_word text.now word.now) }
+    ensures { OnOk result (out.new.items ≡ out.old.items ++ spec.report_word text.now word.now) }
 {
     if is_identifier(word) {
         put_name(out, defined_line(text, word))

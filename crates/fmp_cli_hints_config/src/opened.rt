@@ -4,12 +4,12 @@ ghost use Rattle.fmp_config.specs.Limits.{most_bytes};
 ghost use Rattle.fmp_cli_hints_config.specs.Opened as spec;
 ghost use Rattle.fmp_config_statements.specs.Parts.{depth_of};
 
-use fmp_bytes::{Class, behind};
+use fmp_bytes::{Class, following};
 use fmp_config_statements::{ConfigKind, Item, Part, Scan, StatementName, find_statement};
 use fmp_config_tokens::{Lexer, Token, TokenKind};
 use std::marker::Model;
 
-/// A statement that is open: what has to follow of the part that is being read, and the parts behind it.
+/// A statement that is open: what has to follow of the part that is being read, and the parts after it.
 #[derive(Drop)]
 pub(crate) struct Opened {
     name: StatementName,
@@ -25,7 +25,7 @@ impl Model for Opened {
     ghost view = { λ o. record { name = o.name; scan = o.scan; rest = o.rest.now } };
 }
 
-/// A statement behind its first word.
+/// A statement after its first word.
 fn begun(name: StatementName) -> Opened
     ensures { result ≡ spec.begun name }
 {
@@ -80,7 +80,7 @@ fn settled(opened: Opened) -> Option<Opened>
     }
 }
 
-/// The open statement behind a token outside directives.
+/// The open statement after a token outside directives.
 fn stepped(opened: Option<Opened>, token: &Token<'_>) -> Option<Opened>
     requires { spec.depth_in opened + 1 < 2 ^ 64 }
     ensures value { result ≡ spec.stepped opened token.now }
@@ -103,14 +103,10 @@ pub(crate) fn is_inside(inside: bool, token: &Token<'_>) -> bool
     }
 }
 
-/// The open statement behind a token inside or outside a directive.
-pub(crate) fn behind_token(
-    inside: bool,
-    opened: Option<Opened>,
-    token: &Token<'_>,
-) -> Option<Opened>
+/// The open statement after a token inside or outside a directive.
+pub(crate) fn after_token(inside: bool, opened: Option<Opened>, token: &Token<'_>) -> Option<Opened>
     requires { spec.depth_in opened + 1 < 2 ^ 64 }
-    ensures value { result ≡ spec.behind_token inside opened token.now }
+    ensures value { result ≡ spec.after_token inside opened token.now }
     ensures depth { spec.depth_in result ≤ spec.depth_in opened + 1 }
 {
     if inside || matches!(token.kind(), TokenKind::Directive) {
@@ -129,7 +125,7 @@ fn opened_in(text: &[u8]) -> Option<Opened>
     let mut opened = None;
     let mut inside = false;
     while let Some(token) = lexer.next_token() {
-        opened = behind_token(inside, opened, &token);
+        opened = after_token(inside, opened, &token);
         inside = is_inside(inside, &token);
     }
     opened
@@ -221,7 +217,7 @@ pub(crate) fn is_stray(text: &[u8], place: usize) -> bool
     requires few { length text.now ≤ most_bytes }
     ensures { result ≡ spec.is_stray text.now place }
 {
-    behind(b';', &text[place..]).is_some() && opened_in(&text[..place]).is_none()
+    following(b';', &text[place..]).is_some() && opened_in(&text[..place]).is_none()
 }
 
 /// The statement that is open at the end of a text, and the word that has to follow, where it has to be a word.
@@ -247,7 +243,7 @@ pub(crate) fn missing_at(text: &[u8], place: usize, kind: ConfigKind) -> Option<
     }
 }
 
-/// The place behind the last byte that is no blank.
+/// The place after the last byte that is no blank.
 pub(crate) fn end_of_text(text: &[u8]) -> usize
     ensures place { result ≡ spec.end_of_text text.now }
     ensures within { result ≤ length text.now }

@@ -3,7 +3,7 @@ ghost use Rattle.std.specs.Prelude.{◌≡◌, ◌≤◌, ◌++◌, ◌+◌, ◌
 ghost use Rattle.fmp_config.specs.Limits.{most_bytes};
 ghost use Rattle.fmp_cli_hints_config.specs.Projects as spec;
 
-use fmp_bytes::behind;
+use fmp_bytes::following;
 use fmp_cli_help::{is_class_word, is_project_word};
 use fmp_config::{ConfigFault, ConfigKind};
 use fmp_config_tokens::Lexer;
@@ -22,8 +22,8 @@ pub enum Origin {
 }
 
 /// Where a text is from, by one word more.
-fn origin_behind(origin: Origin, word: &[u8]) -> Origin
-    ensures { result ≡ spec.origin_behind origin word.now }
+fn origin_after(origin: Origin, word: &[u8]) -> Origin
+    ensures { result ≡ spec.origin_after origin word.now }
 {
     if matches!(origin, Origin::Project) || is_project_word(word) {
         Origin::Project
@@ -44,7 +44,7 @@ fn origin_of(text: &[u8]) -> Origin
     let mut lexer = Lexer::new(text);
     let mut origin = Origin::Unknown;
     while let Some(token) = lexer.next_token() {
-        origin = origin_behind(origin, token.text());
+        origin = origin_after(origin, token.text());
     }
     origin
 }
@@ -73,7 +73,7 @@ pub(crate) fn put_project_line(
     requires { length text.now ≤ most_bytes }
     ensures { OnOk result (out.new.items ≡ out.old.items ++ spec.project_line text.now fault.now) }
 {
-    if !may_be_of_project(fault.kind) || behind(b'#', fault.word.as_bytes()).is_some() {
+    if !may_be_of_project(fault.kind) || following(b'#', fault.word.as_bytes()).is_some() {
         return Ok(());
     }
     match origin_of(text) {

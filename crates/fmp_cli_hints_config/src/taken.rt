@@ -3,7 +3,7 @@ ghost use Rattle.std.specs.Prelude.{◌≡◌, ◌++◌, ◌+◌, ◌<◌, ◌^�
 ghost use Rattle.fmp_cli_hints_config.specs.Taken as spec;
 
 use crate::numbers::defined_line;
-use crate::opened::{Opened, awaits_name, behind_token, is_inside};
+use crate::opened::{Opened, after_token, awaits_name, is_inside};
 use fmp_config_tokens::{Lexer, Token};
 use itoa::Buffer;
 use std::alloc::AllocError;
@@ -36,13 +36,13 @@ fn named_line(text: &[u8], word: &[u8]) -> Option<u32>
     let mut line = None;
     while let Some(token) = lexer.next_token() {
         line = line_of(word, line, inside, &opened, &token);
-        opened = behind_token(inside, opened, &token);
+        opened = after_token(inside, opened, &token);
         inside = is_inside(inside, &token);
     }
     line
 }
 
-/// What stands behind the number of the line in which a name stands first.
+/// What stands after the number of the line in which a name stands first.
 #[tactic(auto, unfolding(crate::specs::Taken::first_words))]
 fn first_words() -> &'static [u8]
     ensures { result.now ≡ spec.first_words }
@@ -52,7 +52,7 @@ fn first_words() -> &'static [u8]
 
 /// Adds in which line the name stands first, if it stands in one.
 fn put_line(out: &mut Vec<u8>, line: Option<u32>) -> Result<(), AllocError>
-    ensures { OnOk result (out.new.items ≡ out.old.items ++ spec.told_line line) }
+    ensures { OnOk result (out.new.items ≡ out.old.items ++ spec.report_line line) }
 {
     let Some(line) = line else {
         return Ok(());
@@ -63,7 +63,7 @@ fn put_line(out: &mut Vec<u8>, line: Option<u32>) -> Result<(), AllocError>
     out.extend_from_slice(first_words())
 }
 
-/// Adds in which line of a text a name stands first: in a statement, or behind `#define`.
+/// Adds in which line of a text a name stands first: in a statement, or after `#define`.
 #[tactic(auto, unfolding(crate::specs::Taken::taken_hint))]
 pub(crate) fn put_taken_hint(out: &mut Vec<u8>, text: &[u8], word: &[u8]) -> Result<(), AllocError>
     requires { length text.now + 1 < 2 ^ 32 }

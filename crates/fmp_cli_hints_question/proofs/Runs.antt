@@ -35,8 +35,8 @@ fewer_runs rest None word e f = rw e (omega arith)
 fewer_runs rest (Some after) word e f = let lt = shorter word after (rw f refl) in rw e (omega arith)
 
 -- what is told of the first run stands before what is told of the others
-pub run_told : (names : NameLists) (out word total : List ℕ) → out ++ hints_of names (runs_of word) ≡ total →
+pub run_reported : (names : NameLists) (out word total : List ℕ) → out ++ hints_of names (runs_of word) ≡ total →
     (out ++ run_hint names (cut_run word).0) ++ hints_of names (runs_left (cut_run word).1) ≡ total
-run_told names out word total so_far =
+run_reported names out word total so_far =
     let one : out ++ hints_of names (runs_of word) ≡ out ++ (run_hint names (cut_run word).0 ++ hints_of names (runs_left (cut_run word).1)) = rw (runs_cut word) refl in
     append_assoc out (run_hint names (cut_run word).0) (hints_of names (runs_left (cut_run word).1)) ∙ (sym one ∙ so_far)

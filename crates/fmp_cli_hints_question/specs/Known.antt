@@ -8,7 +8,7 @@ use Rattle.fmp_cli_help.specs.Near.{near_answer, nearest}
 use Rattle.fmp_cli_hints_question.specs.declared.known.TheConstants.{LINE_WORDS}
 use Rattle.fmp_cli_hints_question.specs.declared.rows.TheConstants.{QUESTION_ROWS}
 use Rattle.fmp_cli_hints.specs.Hints.{near_line}
-use Rattle.fmp_cli_hints.specs.Rows.{told_of}
+use Rattle.fmp_cli_hints.specs.Rows.{report_of}
 use Rattle.fmp_cli_hints.specs.Things.{near_thing}
 use Rattle.fmp_cli_hints.specs.Wanted.{processors}
 use Rattle.fmp_names.specs.Names.{NameLists, is_object, is_processor_word, is_taken}
@@ -49,7 +49,7 @@ row_or_name names run (b ∷ row) = b ∷ row
 unfoldable pub run_hint : NameLists → List ℕ → List ℕ
 run_hint names run =
     if is_settled names run then []
-    else (if is_processor_word run then processor_hint names run else row_or_name names run (told_of (map (λ row. (row.0.now, row.1.now)) QUESTION_ROWS) run))
+    else (if is_processor_word run then processor_hint names run else row_or_name names run (report_of (map (λ row. (row.0.now, row.1.now)) QUESTION_ROWS) run))
 
 abbrev pub hints_of : NameLists → List (List ℕ) → List ℕ
 hints_of names [] = []

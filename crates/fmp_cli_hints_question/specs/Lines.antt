@@ -1,8 +1,8 @@
--- What is told of a word of a question that no line has behind the words before it.
+-- What is told of a word of a question that no line has after the words before it.
 use Rattle.std.specs.Prelude.{ℕ, Bool, true, false, List, [], ◌∷◌, ◌++◌, Option, Some, None, is_some, map, if◌then◌else◌, codes}
 use Rattle.fmp_bytes.specs.Bytes.{comma, cut_at}
 use Rattle.fmp_calls.specs.Table.{named}
-use Rattle.fmp_cli_hints.specs.Rows.{told_of}
+use Rattle.fmp_cli_hints.specs.Rows.{report_of}
 use Rattle.fmp_cli_hints_question.specs.declared.rows.TheConstants.{LINE_ROWS}
 
 -- what is told of the name of a call without its arguments
@@ -34,4 +34,4 @@ row_or_form word (b ∷ row) = b ∷ row
 
 -- a row of the table, or else what its form tells
 unfoldable pub line_hint : List ℕ → List ℕ
-line_hint word = row_or_form word (told_of (map (λ row. (row.0.now, row.1.now)) LINE_ROWS) word)
+line_hint word = row_or_form word (report_of (map (λ row. (row.0.now, row.1.now)) LINE_ROWS) word)

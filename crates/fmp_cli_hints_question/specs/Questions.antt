@@ -22,7 +22,7 @@ words question.UnknownName =
 words question.TooLong = codes "at most 255 steps, and at most 1024 bytes in a pattern\n"
 words question.NoLine = codes "a word that stands behind those before it in some line of a trace or of a state, or a `*` for the words between\n"
 
--- the number of a fault, and its words behind it
+-- the number of a fault, and its words after it
 abbrev pub code_of : QuestionFault → List ℕ
 code_of question.BadWord = codes "E1"
 code_of question.BadForm = codes "E2"

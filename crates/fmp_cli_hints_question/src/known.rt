@@ -9,7 +9,7 @@ ghost use Rattle.fmp_search_words.specs.Words as words;
 use crate::rows::QUESTION_ROWS;
 use fmp_bytes::Class;
 use fmp_cli_help::{near_answer, nearer};
-use fmp_cli_hints::{near_thing, put_near, put_processors, told_of};
+use fmp_cli_hints::{near_thing, put_near, put_processors, report_of};
 use fmp_names::is_processor_word;
 use fmp_text::{Names, processor_in};
 use std::alloc::{AllocError, Global};
@@ -115,7 +115,7 @@ fn is_settled(names: &Names, run: &[u8]) -> bool
     has_star(run) || begins_with_digit(run) || names.contains_object(run)
 }
 
-/// What is told of a function, behind its name.
+/// What is told of a function, after its name.
 #[tactic(auto, unfolding(crate::specs::Known::function_words))]
 fn function_words() -> &'static [u8]
     ensures { result.now ≡ spec.function_words }
@@ -179,7 +179,7 @@ fn put_run_hint(
     if is_processor_word(run) {
         return put_processor_hint(out, names, run);
     }
-    let row = told_of(&QUESTION_ROWS, run);
+    let row = report_of(&QUESTION_ROWS, run);
     if row.is_empty() {
         put_name_hint(alloc, out, names, run)
     } else {

@@ -1,11 +1,11 @@
-//! What is told of a word of a question that no line has behind the words before it.
+//! What is told of a word of a question that no line has after the words before it.
 ghost use Rattle.std.specs.Prelude.{◌≡◌, ◌++◌, OnOk};
 ghost use Rattle.fmp_cli_hints_question.specs.Lines as spec;
 
 use crate::rows::LINE_ROWS;
 use fmp_bytes::cut;
 use fmp_calls::find_call;
-use fmp_cli_hints::told_of;
+use fmp_cli_hints::report_of;
 use std::alloc::AllocError;
 
 /// Adds what is told of the name of a call without its arguments.
@@ -68,10 +68,10 @@ fn put_row_or_form(out: &mut Vec<u8>, word: &[u8], row: &[u8]) -> Result<(), All
     }
 }
 
-/// Adds what is told of a word that no line has behind the words before it.
+/// Adds what is told of a word that no line has after the words before it.
 #[tactic(auto, unfolding(crate::specs::Lines::line_hint))]
 pub(crate) fn put_line_hint(out: &mut Vec<u8>, word: &[u8]) -> Result<(), AllocError>
     ensures { OnOk result (out.new.items ≡ out.old.items ++ spec.line_hint word.now) }
 {
-    put_row_or_form(out, word, told_of(&LINE_ROWS, word))
+    put_row_or_form(out, word, report_of(&LINE_ROWS, word))
 }

@@ -42,7 +42,7 @@ pub fn question_code(fault: QuestionFault) -> &'static str
     }
 }
 
-/// The fault in words, as it is printed behind its number.
+/// The fault in words, as it is printed after its number.
 pub fn question_words(fault: QuestionFault) -> &'static str
     ensures { result.now ≡ spec.words_of fault }
 {

@@ -36,7 +36,7 @@ pub const QUESTION_ROWS: [(&[u8], &[u8]); 15] = [
 
 const DIGITS: &[u8] = b"  A number is written in digits, as in `3 times`.\n";
 
-/// What is told of a word of a question that no line has behind the words before it.
+/// What is told of a word of a question that no line has after the words before it.
 pub const LINE_ROWS: [(&[u8], &[u8]); 17] = [
     (
         b"tick",

@@ -16,7 +16,7 @@ module _ (rows : List Row) (number : ℕ) (text : List ℕ) where
   one_line : rows_of rows number (pieces_of line_feed text) ≡ or_fault (number + 1) first.0 first.1 others
   one_line = ap (rows_of rows number) (pieces_of-cut line_feed text)
 
-  -- after a line that is right those behind it are read
+  -- after a line that is right those after it are read
   pub line_read : first.1 ≡ None → rows_of rows number (pieces_of line_feed text) ≡ others
   line_read is = one_line ∙ ap (λ k. or_fault (number + 1) first.0 k others) is
 

@@ -61,8 +61,8 @@ words_of (Shown lines) = codes "shown in " ++ decimal lines ++ codes " lines"
 words_of (NotWithin lines) = codes "not within " ++ decimal lines
 
 -- a name, and the answer
-abbrev pub told : Reply → List ℕ
-told reply = reply.row.name ++ codes ": " ++ words_of reply.answer
+abbrev pub report : Reply → List ℕ
+report reply = reply.row.name ++ codes ": " ++ words_of reply.answer
 
 abbrev pub grade : Judgement → List ℕ
 grade Right = codes "ok "
@@ -70,7 +70,7 @@ grade Wrong = codes "not ok "
 grade Unknown = codes "not known "
 
 abbrev pub plain_line : Reply → List ℕ
-plain_line reply = grade (judgement reply) ++ told reply ++ codes "\n"
+plain_line reply = grade (judgement reply) ++ report reply ++ codes "\n"
 
 -- the same in the form of TAP, where what is not known is not ok, with a comment
 abbrev pub tap_head : ℕ → List ℕ
@@ -87,7 +87,7 @@ tap_end Wrong = codes "\n"
 tap_end Unknown = codes " # not known\n"
 
 abbrev pub tap_line : ℕ → Reply → List ℕ
-tap_line number reply = tap_grade (judgement reply) ++ decimal number ++ codes " - " ++ told reply ++ tap_end (judgement reply)
+tap_line number reply = tap_grade (judgement reply) ++ decimal number ++ codes " - " ++ report reply ++ tap_end (judgement reply)
 
 -- ---- all in an XML text, as JUnit has it
 

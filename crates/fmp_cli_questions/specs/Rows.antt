@@ -33,15 +33,15 @@ abbrev pub is_silent : List ℕ → Bool
 is_silent [] = true
 is_silent (b ∷ bytes) = b == number_sign
 
--- the first word, and what follows the blanks behind it
+-- the first word, and what follows the blanks after it
 abbrev pub is_solid : ℕ → Bool
 is_solid b = not (is_of Blank b)
 
 abbrev pub first_word : List ℕ → List ℕ
 first_word text = take_while is_solid text
 
-abbrev pub behind_word : List ℕ → List ℕ
-behind_word text = after Blank (drop (prefix_len is_solid text) text)
+abbrev pub following_word : List ℕ → List ℕ
+following_word text = after Blank (drop (prefix_len is_solid text) text)
 
 -- a name: 1 to 64 letters, digits, `_`, `-` and `.`, the first neither `-` nor `.`
 abbrev pub full_stop : ℕ
@@ -67,7 +67,7 @@ row_of line name (Some e) [] = None
 row_of line name (Some e) (q ∷ qs) = if is_name name then Some (record { line = line; name = name; expected = e; question = q ∷ qs }) else None
 
 unfoldable pub row_in : ℕ → List ℕ → Option Row
-row_in line text = row_of line (first_word text) (expected_in (first_word (behind_word text))) (behind_word (behind_word text))
+row_in line text = row_of line (first_word text) (expected_in (first_word (following_word text))) (following_word (following_word text))
 
 -- ---- lines
 

@@ -33,8 +33,8 @@ pub(crate) fn put_words(out: &mut Vec<u8>, answer: Answer) -> Result<(), AllocEr
 }
 
 /// Adds the name of a question, and its answer.
-fn put_told(out: &mut Vec<u8>, reply: &Reply) -> Result<(), AllocError>
-    ensures { OnOk result (out.new.items ≡ out.old.items ++ spec.told reply.now) }
+fn put_reported(out: &mut Vec<u8>, reply: &Reply) -> Result<(), AllocError>
+    ensures { OnOk result (out.new.items ≡ out.old.items ++ spec.report reply.now) }
 {
     out.extend_from_slice(reply.row.name())?;
     out.extend_from_slice(b": ")?;
@@ -57,7 +57,7 @@ pub fn plain_line(alloc: Global, reply: &Reply) -> Result<Vec<u8>, AllocError>
     ensures { IfOk result (λ line. line.items ≡ spec.plain_line reply.now) }
 {
     let mut line = Vec::from_slice(alloc, grade(reply.judgement()))?;
-    put_told(&mut line, reply)?;
+    put_reported(&mut line, reply)?;
     line.push(b'\n')?;
     Ok(line)
 }
@@ -99,7 +99,7 @@ pub fn tap_line(alloc: Global, number: usize, reply: &Reply) -> Result<Vec<u8>, 
     let mut line = Vec::from_slice(alloc, tap_grade(reply.judgement()))?;
     put_number(&mut line, number)?;
     line.extend_from_slice(b" - ")?;
-    put_told(&mut line, reply)?;
+    put_reported(&mut line, reply)?;
     line.extend_from_slice(tap_end(reply.judgement()))?;
     Ok(line)
 }

@@ -67,7 +67,7 @@ fn has_row(rows: &[Row], name: &[u8]) -> bool
 /// Adds the question of a line, and tells what is wrong with the line, if something is. Then nothing is added.
 fn add_row(rows: &mut Vec<Row>, row: Option<Row>) -> Result<Option<RowKind>, AllocError>
     ensures rows { OnOk result (rows.new.items ≡ (spec.with_row rows.old.items row).0) }
-    ensures told { IfOk result (λ kind. kind ≡ (spec.with_row rows.old.items row).1) }
+    ensures report { IfOk result (λ kind. kind ≡ (spec.with_row rows.old.items row).1) }
 {
     let Some(row) = row else {
         return Ok(Some(RowKind::Form));
@@ -92,7 +92,7 @@ fn add_line(
     line: &[u8],
 ) -> Result<Option<RowKind>, AllocError>
     ensures rows { OnOk result (rows.new.items ≡ (spec.with_line rows.old.items number line.now).0) }
-    ensures told { IfOk result (λ kind. kind ≡ (spec.with_line rows.old.items number line.now).1) }
+    ensures report { IfOk result (λ kind. kind ≡ (spec.with_line rows.old.items number line.now).1) }
 {
     let text = trimmed(line);
     if is_silent(text) {

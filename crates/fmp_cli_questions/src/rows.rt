@@ -75,10 +75,10 @@ fn split_word(text: &[u8]) -> (&[u8], &[u8])
     text.split_at(end)
 }
 
-/// The first word of a text, and what follows the blanks behind it.
+/// The first word of a text, and what follows the blanks after it.
 fn first_word(text: &[u8]) -> (&[u8], &[u8])
     ensures word { result.0.now ≡ spec.first_word text.now }
-    ensures rest { result.1.now ≡ spec.behind_word text.now }
+    ensures rest { result.1.now ≡ spec.following_word text.now }
 {
     let (word, rest) = split_word(text);
     (word, skip(Class::Blank, rest))

@@ -1,9 +1,10 @@
 //! What `fmpsim explore` does.
-ghost use Rattle.std.specs.Prelude.{◌≡◌, ◌≢◌, ◌+◌, ◌-◌, ◌^◌, ◌<◌, [], false, length, ◌↔◌, OnOk, IfOk, IfErr, Err, if◌then◌else◌};
+ghost use Rattle.std.specs.Prelude.{◌≡◌, ◌-◌, ◌^◌, ◌<◌, length, ◌↔◌, IfOk, IfErr, Err};
 ghost use Rattle.fmp_text.specs.Limits.{most_bytes};
 ghost use Rattle.fmp_run_devices.specs.Devices.{IsKnown, bytes_of};
-ghost use Rattle.fmp_run_texts.specs.Faults.{failed_write, is_thread_fault};
-ghost use Rattle.fmp_run_texts.specs.Texts.{CountsReads};
+ghost use Rattle.fmp_run_devices.specs.Ends.{sink_ends, source_ends};
+ghost use Rattle.fmp_run_texts.specs.Owed.{WritesOut};
+ghost use Rattle.fmp_run_explore.specs.Faults.{OwesSearch};
 ghost use Rattle.fmp_run_explore.specs.Explored as spec;
 ghost use Rattle.fmp_run_explore.specs.Explored.{IsBegun, IsEndedBy, IsExplored};
 ghost use Rattle.fmp_run_explore.specs.Faults as faults;
@@ -46,39 +47,24 @@ pub fn search<R: Source, S: Source, W: Sink, P: Progress>(
     requires script_calls { S.failures scripts.old < 2 ^ 64 - 1 }
     requires output_calls { W.failures output.old < 2 ^ 64 - 1 }
 
-    // Both texts were read to their ends, and what is written says what is known of all orders by these rules. None of it is held back.
-    ensures explored { IsKnown (R.left config.old) → IsKnown (S.left scripts.old) → IsKnown (W.written output.old)
-        → IfOk result (λ o. IsExplored (bytes_of (R.left config.old)) (bytes_of (S.left scripts.old)) request.now.question.now
-        (asked.rules_of request.now) request.now.bounds.turns (request.now.bounds.places - 1) (bytes_of (W.written output.old))
-        (bytes_of (W.written output.new)) o.finding) }
+    // What it owes to both texts, to its question and to its devices, whatever it writes.
+    ensures owes { OwesSearch faults.IsScriptFault (λ text. faults.IsQuestionFault text request.now.question.now)
+        (source_ends R.left R.failures config.old config.new) (source_ends S.left S.failures scripts.old scripts.new)
+        (sink_ends W.written W.buffered W.failures output.old output.new) result }
+
+    // What it writes: what is known of all orders by these rules.
+    ensures writes { WritesOut (λ c s old new o. IsExplored c s request.now.question.now (asked.rules_of request.now) request.now.bounds.turns (request.now.bounds.places - 1) old new o.finding)
+        (λ c s. IsBegun c s request.now.question.now (asked.rules_of request.now) request.now.bounds.turns (request.now.bounds.places - 1)) (ExploreFault.Run RunFault.Write)
+        (source_ends R.left R.failures config.old config.new) (source_ends S.left S.failures scripts.old scripts.new)
+        (sink_ends W.written W.buffered W.failures output.old output.new) result }
+
+    // Less is known than was asked for, with room that is left, only where the search was ended.
     ensures ended { IfOk result (λ o. IsEndedBy (P.over progress.new) o.finding) }
+
+    // Beside that it gives the orders from which a search is to go on.
     ensures layer { IsKnown (R.left config.old) → IsKnown (S.left scripts.old)
         → IfOk result (λ o. LeavesLayer (bytes_of (R.left config.old)) (bytes_of (S.left scripts.old)) request.now.question.now
         (asked.rules_of request.now) request.now.bounds.turns o.finding o.layer) }
-    ensures known { IsKnown (W.written output.old) → IsKnown (W.written output.new) }
-    ensures passed { OnOk result (W.buffered output.new ≡ []) }
-    ensures config_read { IsKnown (R.left config.old) → OnOk result (bytes_of (R.left config.new) ≡ []) }
-    ensures scripts_read { IsKnown (S.left scripts.old) → OnOk result (bytes_of (S.left scripts.new) ≡ []) }
-
-    // A fault of a text or of the question is its first one.
-    ensures config_fault { IsKnown (R.left config.old) → IfErr result (faults.IsConfigFault (bytes_of (R.left config.old))) }
-    ensures text_fault { IsKnown (R.left config.old) → IsKnown (S.left scripts.old)
-        → IfErr result (faults.IsScriptFault (bytes_of (R.left config.old)) (bytes_of (S.left scripts.old))) }
-    ensures question_fault { IsKnown (R.left config.old) → IfErr result (faults.IsQuestionFault (bytes_of (R.left config.old)) request.now.question.now) }
-
-    // After a failed write or flush a beginning of what tells it is out, and after any other fault nothing is.
-    ensures write { IsKnown (R.left config.old) → IsKnown (S.left scripts.old) → IsKnown (W.written output.old) → (result ≡ Err (ExploreFault.Run RunFault.Write))
-        → IsBegun (bytes_of (R.left config.old)) (bytes_of (S.left scripts.old)) request.now.question.now (asked.rules_of request.now) request.now.bounds.turns
-        (request.now.bounds.places - 1) (bytes_of (W.written output.old)) (bytes_of (W.written output.new)) }
-    ensures unwritten { IsKnown (W.written output.old)
-        → IfErr result (λ fault. fault ≢ ExploreFault.Run RunFault.Write → bytes_of (W.written output.new) ≡ bytes_of (W.written output.old)) }
-
-    // No thread was started.
-    ensures no_thread_fault { IfErr (faults.as_run result) (λ fault. is_thread_fault fault ≡ false) }
-
-    // Which calls of the devices failed.
-    ensures reads { CountsReads (faults.as_run result) (R.failures config.old) (R.failures config.new) (S.failures scripts.old) (S.failures scripts.new) }
-    ensures writes { W.failures output.new ≡ W.failures output.old + (if failed_write (faults.as_run result) then 1 else 0) }
 {
     let question = request.question.as_bytes();
     let rules = rules_of(request);
@@ -103,41 +89,24 @@ pub fn search_from<R: Source, S: Source, W: Sink, P: Progress>(
     requires script_calls { S.failures scripts.old < 2 ^ 64 - 1 }
     requires output_calls { W.failures output.old < 2 ^ 64 - 1 }
 
-    // Both texts were read to their ends, and what is written says what is known of all orders by these rules that go on from the
-    // trace. None of it is held back.
-    ensures explored { IsKnown (R.left config.old) → IsKnown (S.left scripts.old) → IsKnown (W.written output.old)
-        → IfOk result (λ status. (finding : AnyFinding) × (status ≡ spec.status_of finding) × IsEndedBy (P.over progress.new) finding
-        × IsExploredFrom (bytes_of (R.left config.old)) (bytes_of (S.left scripts.old)) begun.now request.now.question.now
-        (asked.rules_of request.now) request.now.bounds.turns (request.now.bounds.places - 1) (bytes_of (W.written output.old))
-        (bytes_of (W.written output.new)) finding) }
-    ensures known { IsKnown (W.written output.old) → IsKnown (W.written output.new) }
-    ensures passed { OnOk result (W.buffered output.new ≡ []) }
-    ensures config_read { IsKnown (R.left config.old) → OnOk result (bytes_of (R.left config.new) ≡ []) }
-    ensures scripts_read { IsKnown (S.left scripts.old) → OnOk result (bytes_of (S.left scripts.new) ≡ []) }
+    // What it owes to both texts, to its question and to its devices, whatever it writes.
+    ensures owes { from_faults.OwesSearchFrom (λ text. from_faults.IsQuestionFault text request.now.question.now)
+        (source_ends R.left R.failures config.old config.new) (source_ends S.left S.failures scripts.old scripts.new)
+        (sink_ends W.written W.buffered W.failures output.old output.new) result }
 
-    // A fault of a text or of the question is its first one, and so is a line of the trace that no order has.
-    ensures config_fault { IsKnown (R.left config.old) → IfErr result (from_faults.IsConfigFault (bytes_of (R.left config.old))) }
-    ensures text_fault { IsKnown (R.left config.old) → IsKnown (S.left scripts.old)
-        → IfErr result (from_faults.IsScriptFault (bytes_of (R.left config.old)) (bytes_of (S.left scripts.old))) }
-    ensures question_fault { IsKnown (R.left config.old) → IfErr result (from_faults.IsQuestionFault (bytes_of (R.left config.old)) request.now.question.now) }
+    // What it writes: what is known of all orders by these rules that go on from the trace. The status says which that is.
+    ensures writes { WritesOut (λ c s old new status. (finding : AnyFinding) × (status ≡ spec.status_of finding) × IsEndedBy (P.over progress.new) finding
+        × IsExploredFrom c s begun.now request.now.question.now (asked.rules_of request.now) request.now.bounds.turns (request.now.bounds.places - 1) old new finding)
+        (λ c s. IsBegunFrom c s begun.now request.now.question.now (asked.rules_of request.now) request.now.bounds.turns (request.now.bounds.places - 1)) (FromFault.Explore (ExploreFault.Run RunFault.Write))
+        (source_ends R.left R.failures config.old config.new) (source_ends S.left S.failures scripts.old scripts.new)
+        (sink_ends W.written W.buffered W.failures output.old output.new) result }
+
+    // A line of the trace that no order has is the first one.
     ensures stray { IsKnown (R.left config.old) → IsKnown (S.left scripts.old)
         → IfErr result (from_faults.IsStrayFault (bytes_of (R.left config.old)) (bytes_of (S.left scripts.old)) (asked.rules_of request.now) begun.now) }
+
+    // A trace is too long whatever the texts are.
     ensures long { (result ≡ Err FromFault.Long) ↔ (most_bytes < length begun.now) }
-
-    // After a failed write or flush a beginning of what tells it is out, and after any other fault nothing is.
-    ensures write { IsKnown (R.left config.old) → IsKnown (S.left scripts.old) → IsKnown (W.written output.old)
-        → (result ≡ Err (FromFault.Explore (ExploreFault.Run RunFault.Write)))
-        → IsBegunFrom (bytes_of (R.left config.old)) (bytes_of (S.left scripts.old)) begun.now request.now.question.now
-        (asked.rules_of request.now) request.now.bounds.turns (request.now.bounds.places - 1) (bytes_of (W.written output.old)) (bytes_of (W.written output.new)) }
-    ensures unwritten { IsKnown (W.written output.old)
-        → IfErr result (λ fault. fault ≢ FromFault.Explore (ExploreFault.Run RunFault.Write) → bytes_of (W.written output.new) ≡ bytes_of (W.written output.old)) }
-
-    // No thread was started.
-    ensures no_thread_fault { IfErr (from_faults.as_run result) (λ fault. is_thread_fault fault ≡ false) }
-
-    // Which calls of the devices failed.
-    ensures reads { CountsReads (from_faults.as_run result) (R.failures config.old) (R.failures config.new) (S.failures scripts.old) (S.failures scripts.new) }
-    ensures writes { W.failures output.new ≡ W.failures output.old + (if failed_write (from_faults.as_run result) then 1 else 0) }
 {
     let question = request.question.as_bytes();
     let rules = rules_of(request);

@@ -1,8 +1,10 @@
 //! What `fmpsim smp` does.
-ghost use Rattle.std.specs.Prelude.{◌≡◌, ◌≢◌, ◌+◌, ◌-◌, ◌^◌, ◌<◌, [], false, OnOk, IfSome, IfOk, IfErr, Err, if◌then◌else◌};
-ghost use Rattle.fmp_run_devices.specs.Devices.{IsKnown, bytes_of};
-ghost use Rattle.fmp_run_texts.specs.Faults.{failed_write, is_thread_fault};
-ghost use Rattle.fmp_run_texts.specs.Texts.{CountsReads, FirstConfigFault, FirstScriptFault};
+ghost use Rattle.std.specs.Prelude.{◌≡◌, ◌+◌, ◌-◌, ◌^◌, ◌<◌, false, IfSome, IfOk, IfErr};
+ghost use Rattle.fmp_run_devices.specs.Ends.{sink_ends, source_ends};
+ghost use Rattle.fmp_run_texts.specs.Owed.{OwesTexts, WritesOut};
+ghost use Rattle.fmp_run_explore.specs.Faults.{OwesSearch};
+ghost use Rattle.fmp_run_texts.specs.Faults.{is_thread_fault};
+ghost use Rattle.fmp_run_texts.specs.Texts.{FirstConfigFault, FirstScriptFault};
 ghost use Rattle.fmp_run_explore.specs.Faults as faults;
 ghost use Rattle.fmp_run_seeds.specs.Found as seeds;
 ghost use Rattle.fmp_run_seeds.specs.Found.{IsEndedBy, IsSought};
@@ -44,35 +46,21 @@ pub fn play<T: Threads + Wait + Sync, R: Source, S: Source, W: Sink>(
     requires script_calls { S.failures scripts.old < 2 ^ 64 - 1 }
     requires trace_calls { W.failures trace.old < 2 ^ 64 - 1 }
 
-    // Both texts were read to their ends, and what is written is the trace of a run with the limits that were asked for, in the order
-    // of the seed where one was given. None of it is held back. The status says how the run ended, and the lines that are told are
-    // those of the tasks that wait there.
-    ensures played { IsKnown (R.left config.old) → IsKnown (S.left scripts.old) → IsKnown (W.written trace.old)
-        → IfOk result (λ played. (ended : AnyEnded) × (played.status ≡ spec.status_by request.now.strict ended played.waiting.items)
-        × IsPlayedToEnd request.now.seed (bytes_of (R.left config.old)) (bytes_of (S.left scripts.old)) request.now.limits.ticks request.now.limits.turns
-        (bytes_of (W.written trace.old)) (bytes_of (W.written trace.new)) ended played.waiting.items) }
-    ensures known { IsKnown (W.written trace.old) → IsKnown (W.written trace.new) }
-    ensures passed { OnOk result (W.buffered trace.new ≡ []) }
-    ensures config_read { IsKnown (R.left config.old) → OnOk result (bytes_of (R.left config.new) ≡ []) }
-    ensures scripts_read { IsKnown (S.left scripts.old) → OnOk result (bytes_of (S.left scripts.new) ≡ []) }
+    // What it owes to both texts and to its devices, whatever it writes.
+    ensures owes { OwesTexts FirstConfigFault FirstScriptFault
+        (source_ends R.left R.failures config.old config.new) (source_ends S.left S.failures scripts.old scripts.new)
+        (sink_ends W.written W.buffered W.failures trace.old trace.new) result result }
+
+    // What it writes: the trace of a run with the limits that were asked for, in the order of the seed where one was given. The status says how the run
+    // ended, and the lines that are told are those of the tasks that wait there.
+    ensures writes { WritesOut (λ c s old new played. (ended : AnyEnded) × (played.status ≡ spec.status_by request.now.strict ended played.waiting.items)
+        × IsPlayedToEnd request.now.seed c s request.now.limits.ticks request.now.limits.turns old new ended played.waiting.items)
+        (λ c s. IsPlayBegun c s request.now.limits.ticks request.now.limits.turns) RunFault.Write
+        (source_ends R.left R.failures config.old config.new) (source_ends S.left S.failures scripts.old scripts.new)
+        (sink_ends W.written W.buffered W.failures trace.old trace.new) result }
 
     // Where a seed was given no thread was started.
     ensures no_thread_fault { IfSome request.now.seed (λ seed. IfErr result (λ fault. is_thread_fault fault ≡ false)) }
-
-    // A fault of a text is its first one.
-    ensures config_fault { IsKnown (R.left config.old) → IfErr result (FirstConfigFault (bytes_of (R.left config.old))) }
-    ensures text_fault { IsKnown (R.left config.old) → IsKnown (S.left scripts.old)
-        → IfErr result (FirstScriptFault (bytes_of (R.left config.old)) (bytes_of (S.left scripts.old))) }
-
-    // After a failed write or flush a beginning of the trace is out, and after any other fault nothing is.
-    ensures write { IsKnown (R.left config.old) → IsKnown (S.left scripts.old) → IsKnown (W.written trace.old) → (result ≡ Err RunFault.Write)
-        → IsPlayBegun (bytes_of (R.left config.old)) (bytes_of (S.left scripts.old)) request.now.limits.ticks request.now.limits.turns (bytes_of (W.written trace.old))
-        (bytes_of (W.written trace.new)) }
-    ensures unwritten { IsKnown (W.written trace.old) → IfErr result (λ fault. fault ≢ RunFault.Write → bytes_of (W.written trace.new) ≡ bytes_of (W.written trace.old)) }
-
-    // Which calls of the devices failed.
-    ensures reads { CountsReads result (R.failures config.old) (R.failures config.new) (S.failures scripts.old) (S.failures scripts.new) }
-    ensures writes { W.failures trace.new ≡ W.failures trace.old + (if failed_write result then 1 else 0) }
 {
     let ticks = request.limits.ticks;
     let turns = request.limits.turns;
@@ -122,39 +110,20 @@ pub fn seek<R: Source, S: Source, W: Sink, P: SeedProgress>(
     requires script_calls { S.failures scripts.old < 2 ^ 64 - 1 }
     requires trace_calls { W.failures trace.old < 2 ^ 64 - 1 }
 
-    // Both texts were read to their ends, and what is told is the first of these seeds whose run is looked for, by the orders and with the limits that
-    // were asked for, and the line where it is, and what is written its trace up to there; or there is none such, and nothing is written. None of it
-    // is held back.
-    ensures sought { IsKnown (R.left config.old) → IsKnown (S.left scripts.old) → IsKnown (W.written trace.old)
-        → IfOk result (IsSought (bytes_of (R.left config.old)) (bytes_of (S.left scripts.old)) (asked.question_of request.now) (asked.runs_of request.now) first last
-        (bytes_of (W.written trace.old)) (bytes_of (W.written trace.new))) }
+    // What it owes to both texts, to its question and to its devices, whatever it writes.
+    ensures owes { OwesSearch faults.IsScriptFault (λ text. seeds.IsQuestionFault text (asked.question_of request.now))
+        (source_ends R.left R.failures config.old config.new) (source_ends S.left S.failures scripts.old scripts.new)
+        (sink_ends W.written W.buffered W.failures trace.old trace.new) result }
+
+    // What it tells, the first of these seeds whose run is looked for, by the orders and with the limits that were asked for, and the line where it is;
+    // and what it writes, its trace up to there. Or there is none such, and nothing is written.
+    ensures writes { WritesOut (λ c s. IsSought c s (asked.question_of request.now) (asked.runs_of request.now) first last)
+        (λ c s. seeds.IsBegun c s (asked.question_of request.now) (asked.runs_of request.now) first last) (ExploreFault.Run RunFault.Write)
+        (source_ends R.left R.failures config.old config.new) (source_ends S.left S.failures scripts.old scripts.new)
+        (sink_ends W.written W.buffered W.failures trace.old trace.new) result }
 
     // Seeds are left only where the search was ended.
     ensures ended { IfOk result (IsEndedBy (P.over progress.new)) }
-    ensures known { IsKnown (W.written trace.old) → IsKnown (W.written trace.new) }
-    ensures passed { OnOk result (W.buffered trace.new ≡ []) }
-    ensures config_read { IsKnown (R.left config.old) → OnOk result (bytes_of (R.left config.new) ≡ []) }
-    ensures scripts_read { IsKnown (S.left scripts.old) → OnOk result (bytes_of (S.left scripts.new) ≡ []) }
-
-    // A fault of a text or of the question is its first one.
-    ensures config_fault { IsKnown (R.left config.old) → IfErr result (faults.IsConfigFault (bytes_of (R.left config.old))) }
-    ensures text_fault { IsKnown (R.left config.old) → IsKnown (S.left scripts.old)
-        → IfErr result (faults.IsScriptFault (bytes_of (R.left config.old)) (bytes_of (S.left scripts.old))) }
-    ensures question_fault { IsKnown (R.left config.old) → IfErr result (seeds.IsQuestionFault (bytes_of (R.left config.old)) (asked.question_of request.now)) }
-
-    // After a failed write or flush a beginning of the trace is out, and after any other fault nothing is.
-    ensures write { IsKnown (R.left config.old) → IsKnown (S.left scripts.old) → IsKnown (W.written trace.old) → (result ≡ Err (ExploreFault.Run RunFault.Write))
-        → seeds.IsBegun (bytes_of (R.left config.old)) (bytes_of (S.left scripts.old)) (asked.question_of request.now) (asked.runs_of request.now) first last
-        (bytes_of (W.written trace.old)) (bytes_of (W.written trace.new)) }
-    ensures unwritten { IsKnown (W.written trace.old)
-        → IfErr result (λ fault. fault ≢ ExploreFault.Run RunFault.Write → bytes_of (W.written trace.new) ≡ bytes_of (W.written trace.old)) }
-
-    // No thread was started.
-    ensures no_thread_fault { IfErr (faults.as_run result) (λ fault. is_thread_fault fault ≡ false) }
-
-    // Which calls of the devices failed.
-    ensures reads { CountsReads (faults.as_run result) (R.failures config.old) (R.failures config.new) (S.failures scripts.old) (S.failures scripts.new) }
-    ensures writes { W.failures trace.new ≡ W.failures trace.old + (if failed_write (faults.as_run result) then 1 else 0) }
 {
     let question = match request.find {
         Some(text) => Some(text.as_bytes()),

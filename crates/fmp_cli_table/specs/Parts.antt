@@ -77,6 +77,7 @@ rule_in id (form.Number low high) = number_rule id low high
 rule_in id form.Seed = seed_rule id
 rule_in id form.Flag = flag_rule id
 rule_in id (form.Choice other) = choice_rule id
+rule_in id (form.OneOfThree second third) = choice_rule id
 
 abbrev pub rule_by : Part → Rule
 rule_by p = rule_in p.id.now p.form
@@ -91,6 +92,7 @@ HasForm a id (form.Number low high) = IsNumber a id low high
 HasForm a id form.Seed = IsOptional a id
 HasForm a id form.Flag = IsOptional a id
 HasForm a id (form.Choice other) = a.id.now ≡ id
+HasForm a id (form.OneOfThree second third) = a.id.now ≡ id
 
 -- the argument is what this part says
 pub record IsArg (p : Part) (a : Arg) : Type 0 where

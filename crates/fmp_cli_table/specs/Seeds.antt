@@ -12,7 +12,7 @@ range_of None last = Other
 range_of (Some a) None = Other
 range_of (Some a) (Some b) = if nat_le a b then Range a b else Other
 
--- none without a text, and of a text those from the number before its first two dots to the number behind them
+-- none without a text, and of a text those from the number before its first two dots to the number after them
 abbrev pub AreSeeds : Option Text → Seeds → Type 0
 AreSeeds None seeds = seeds ≡ Unasked
 AreSeeds (Some t) seeds =

@@ -1,8 +1,8 @@
 //! The parts of a command line, as a table, and the command that clap makes of them.
-ghost use Rattle.std.specs.Prelude.{◌≡◌, IfOk};
+ghost use Rattle.std.specs.Prelude.{◌≡◌, IfOk, false};
 ghost use Rattle.clap.specs.Words.{app_of, rule_of};
 ghost use Rattle.fmp_cli_table.specs.Parts.{IsArg, IsLine, IsNumber, IsOptional, IsRequired, IsStart, IsTaking, AddsParts};
-ghost use Rattle.fmp_cli_table.specs.Parts.{flag_rule, name_rule, number_rule, path_rule, seed_rule, value_rule, wanted_rule};
+ghost use Rattle.fmp_cli_table.specs.Parts.{choice_rule, flag_rule, name_rule, number_rule, path_rule, seed_rule, value_rule, wanted_rule};
 
 use clap::builder::ValueParser;
 use clap::{Arg, ArgAction, Command};
@@ -27,6 +27,8 @@ pub enum Form<'a> {
     Flag,
     /// As an option without a value, which goes without the part of this id.
     Choice(&'a str),
+    /// As an option without a value, which goes without the parts of these ids.
+    OneOfThree(&'a str, &'a str),
 }
 
 /// A part of a command line.
@@ -160,6 +162,22 @@ fn flag<'a>(alloc: Global, id: &'a str, about: &'a str) -> Arg<'a>
         .help(about)
 }
 
+/// An option without a value, which goes without the other two.
+fn one_of_three<'a>(
+    alloc: Global,
+    id: &'a str,
+    second: &'a str,
+    third: &'a str,
+    about: &'a str,
+) -> Result<Arg<'a>, AllocError>
+    ensures kind { IfOk result (λ a. (a.id.now ≡ id.entry.now) × (a.global ≡ false)) }
+    ensures rule { IfOk result (λ a. rule_of a ≡ choice_rule id.entry.now) }
+{
+    flag(alloc, id, about)
+        .conflicts_with(second)?
+        .conflicts_with(third)
+}
+
 /// The argument that a part is.
 fn arg_of<'a>(alloc: Global, part: Part<'a>) -> Result<Arg<'a>, AllocError>
     ensures { IfOk result (IsArg part.entry) }
@@ -174,6 +192,7 @@ fn arg_of<'a>(alloc: Global, part: Part<'a>) -> Result<Arg<'a>, AllocError>
         Form::Seed => Ok(seed(alloc, id, about)),
         Form::Flag => Ok(flag(alloc, id, about)),
         Form::Choice(other) => flag(alloc, id, about).conflicts_with(other),
+        Form::OneOfThree(second, third) => one_of_three(alloc, id, second, third, about),
     }
 }
 

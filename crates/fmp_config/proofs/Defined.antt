@@ -25,8 +25,8 @@ use Rattle.fmp_setup.proofs.Growing.{defined_added}
 pub new_and_room : (c : Setup) (room : Bool) (line : ℕ) (name : Word) → new_name c room line name ≡ Ok tt → (is_refused c name.text ≡ false) × (room ≡ true)
 unfolding new_name
 new_and_room c room line name e =
-    let (new, behind) = refused (is_refused c name.text) (if room then Ok tt else Err (fault_in TooMany line name)) (fault_at NameTaken name) tt e in
-    (new, (passed room (Ok tt) (fault_in TooMany line name) tt behind).0)
+    let (new, following) = refused (is_refused c name.text) (if room then Ok tt else Err (fault_in TooMany line name)) (fault_at NameTaken name) tt e in
+    (new, (passed room (Ok tt) (fault_in TooMany line name) tt following).0)
 
 -- the class that is open is still one where all classes and processors stay, and the text has come as far
 pub still_open : (d e : Draft) (o : Option OpenClass) → d.setup.classes ≡ e.setup.classes → d.setup.processors ≡ e.setup.processors → (is_body d.phase ≡ true → is_body e.phase ≡ true) → IsSoundOpen d o → IsSoundOpen e o

@@ -65,13 +65,13 @@ count_sound d next f sound start e =
     subst IsSound (ok_is (record d { setup = with_processors d.setup n.first; phase = phases.Head }) next same) (processors_counted d n.first sound start least most)
 
 timer_chosen : (d : Draft) (timer : Timer) → IsSound d → is_start d.phase ≡ false → is_body d.phase ≡ false → IsTimerOf d.setup.processors timer → IsSound (record d { setup = with_timer d.setup timer; timer_stood = true })
-timer_chosen d timer sound behind head is_timer =
+timer_chosen d timer sound following head is_timer =
     let objects = sound.before_classes head in
     record {
       valid = timer_set d.setup sound.valid timer is_timer objects.cyclics objects.alarms;
       open_class = still_open d (record d { setup = with_timer d.setup timer; timer_stood = true }) d.open_class refl refl (λ body. body) sound.open_class;
       before_classes = λ head. record { tasks = objects.tasks; cyclics = objects.cyclics; alarms = objects.alarms };
-      before_processors = λ start. never (is_start d.phase) behind start;
+      before_processors = λ start. never (is_start d.phase) following start;
     }
 
 timer_in : (c : Setup) (word : Word) (timer : Timer) (b : Bool) → IsValid c → (if b then Ok timers.Local else (number_within c.names (record { least = 1; most = c.processors }) word >>= λ n. Ok (timers.Global (as_proc n)))) ≡ Ok timer → IsTimerOf c.processors timer
@@ -83,14 +83,14 @@ timer_in c word timer false valid e =
 
 choose_sound : (d next : Draft) (f : Form) → IsSound d → is_start d.phase ≡ false → is_body d.phase ≡ false → choose_timer d f ≡ Ok next → IsSound next
 unfolding choose_timer timer_of
-choose_sound d next f sound behind head e =
+choose_sound d next f sound following head e =
     let (timer, is_timer, same) = bound (timer_of d.setup f.pieces.first) (λ t. Ok (record d { setup = with_timer d.setup t; timer_stood = true })) next e in
     subst IsSound (ok_is (record d { setup = with_timer d.setup timer; timer_stood = true }) next same)
-    (timer_chosen d timer sound behind head (timer_in d.setup f.pieces.first timer (length f.pieces.first.text == 0) sound.valid is_timer))
+    (timer_chosen d timer sound following head (timer_in d.setup f.pieces.first timer (length f.pieces.first.text == 0) sound.valid is_timer))
 
 limits_sound : (d next : Draft) (f : Form) → IsSound d → is_start d.phase ≡ false → is_body d.phase ≡ false → set_limits d f ≡ Ok next → IsSound next
 unfolding set_limits
-limits_sound d next f sound behind head e =
+limits_sound d next f sound following head e =
     let (n, are_numbers, same) =
     bound (numbers_of d.setup statements.Limits f.pieces) (λ n. Ok (record d { setup = with_limits d.setup (record { wakeups = n.first; priorities = n.second }); limits_stood = true })) next e in
     let (wakeups, priorities) = numbers_in_range d.setup statements.Limits f.pieces n are_numbers in
@@ -100,7 +100,7 @@ limits_sound d next f sound behind head e =
       valid = limits_set d.setup sound.valid (record { wakeups = n.first; priorities = n.second }) (record { least_wakeups = wakeups.0; most_wakeups = wakeups.1; least_priorities = priorities.0; most_priorities = priorities.1 }) objects.tasks;
       open_class = still_open d (record d { setup = with_limits d.setup (record { wakeups = n.first; priorities = n.second }); limits_stood = true }) d.open_class refl refl (λ body. body) sound.open_class;
       before_classes = λ head. record { tasks = objects.tasks; cyclics = objects.cyclics; alarms = objects.alarms };
-      before_processors = λ start. never (is_start d.phase) behind start;
+      before_processors = λ start. never (is_start d.phase) following start;
     })
 
 -- ---- classes
@@ -126,12 +126,12 @@ class_is_sound c line pieces class e =
 one_class_more : (d : Draft) (name : List ℕ) (class : Class) → IsSound d → is_start d.phase ≡ false → is_name name ≡ true → is_refused d.setup name ≡ false → length d.setup.classes < 32
     → is_class_of d.setup.processors class ≡ true → IsSound (record d { setup = with_class d.setup name class })
 unfolding with_class
-one_class_more d name class sound behind named new room is_class =
+one_class_more d name class sound following named new room is_class =
     record {
       valid = class_added d.setup sound.valid name class named new room is_class;
       open_class = among d.open_class sound.open_class;
       before_classes = λ head. let objects = sound.before_classes head in record { tasks = objects.tasks; cyclics = objects.cyclics; alarms = objects.alarms };
-      before_processors = λ start. never (is_start d.phase) behind start;
+      before_processors = λ start. never (is_start d.phase) following start;
     }
   where
     among : (o : Option OpenClass) → IsSoundOpen d o → IsSoundOpen (record d { setup = with_class d.setup name class }) o
@@ -140,14 +140,14 @@ one_class_more d name class sound behind named new room is_class =
 
 class_sound : (d next : Draft) (f : Form) → IsSound d → is_start d.phase ≡ false → is_name f.pieces.name.text ≡ true → define_class d f ≡ Ok next → IsSound next
 unfolding define_class
-class_sound d next f sound behind named e =
+class_sound d next f sound following named e =
     let (unit, is_new, e1) =
     bound (new_name d.setup (nat_lt (length d.setup.classes) 32) f.line f.pieces.name)
     (λ unit. class_of d.setup f.line f.pieces >>= λ class. Ok (record d { setup = with_class d.setup f.pieces.name.text class })) next e in
     let (class, is_class, same) = bound (class_of d.setup f.line f.pieces) (λ class. Ok (record d { setup = with_class d.setup f.pieces.name.text class })) next e1 in
     let (new, room) = new_and_room d.setup (nat_lt (length d.setup.classes) 32) f.line f.pieces.name is_new in
     subst IsSound (ok_is (record d { setup = with_class d.setup f.pieces.name.text class }) next same)
-    (one_class_more d f.pieces.name.text class sound behind named new (ltb-true (length d.setup.classes) 32 room) (class_is_sound d.setup f.line f.pieces class is_class))
+    (one_class_more d f.pieces.name.text class sound following named new (ltb-true (length d.setup.classes) 32 room) (class_is_sound d.setup f.line f.pieces class is_class))
 
 begin_sound : (d next : Draft) (f : Form) → IsSound d → begin_class d f ≡ Ok next → IsSound next
 unfolding begin_class
@@ -169,8 +169,8 @@ pub judged_sound : (d next : Draft) (name : StatementName) (f : Form) → IsSoun
 unfolding judged
 judged_sound d next statements.Include f sound place named e = subst IsSound (ok_is d next e) sound
 judged_sound d next statements.Processors f sound place named e = count_sound d next f sound (processors_at_start d place) e
-judged_sound d next statements.Timer f sound place named e = let (behind, head) = timer_in_head d place in choose_sound d next f sound behind head e
-judged_sound d next statements.Limits f sound place named e = let (behind, head) = limits_in_head d place in limits_sound d next f sound behind head e
+judged_sound d next statements.Timer f sound place named e = let (following, head) = timer_in_head d place in choose_sound d next f sound following head e
+judged_sound d next statements.Limits f sound place named e = let (following, head) = limits_in_head d place in limits_sound d next f sound following head e
 judged_sound d next statements.DefClass f sound place named e = class_sound d next f sound (class_past_start d place) named e
 judged_sound d next statements.Class f sound place named e = begin_sound d next f sound e
 judged_sound d next (statements.Create kind) f sound place named e = create_sound d next kind f sound e

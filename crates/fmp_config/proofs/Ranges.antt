@@ -37,8 +37,8 @@ number_in_range names (Some range) word n e = within_range names range word n e
 pub numbers_in_range : (c : Setup) (name : StatementName) (pieces : Pieces) (n : Numbers) → numbers_of c name pieces ≡ Ok n → AreInRanges c name n
 unfolding numbers_of
 numbers_in_range c name pieces n e =
-    let (first, at_first, behind) = bound (number_at c.names (first_range name c.processors c.limits.priorities) pieces.first) (λ first. number_at c.names (second_range name) pieces.second >>= λ second. Ok (record { first = first; second = second })) n e in
-    let (second, at_second, here) = bound (number_at c.names (second_range name) pieces.second) (λ second. Ok (record { first = first; second = second })) n behind in
+    let (first, at_first, following) = bound (number_at c.names (first_range name c.processors c.limits.priorities) pieces.first) (λ first. number_at c.names (second_range name) pieces.second >>= λ second. Ok (record { first = first; second = second })) n e in
+    let (second, at_second, here) = bound (number_at c.names (second_range name) pieces.second) (λ second. Ok (record { first = first; second = second })) n following in
     subst (AreInRanges c name) (ok_is (record { first = first; second = second }) n here) (number_in_range c.names (first_range name c.processors c.limits.priorities) pieces.first first at_first, number_in_range c.names (second_range name) pieces.second second at_second)
 
 pub fit : (c : Setup) (kind : ObjectKind) (n : Numbers) → AreInRanges c (statements.Create kind) n → c.limits.priorities ≤ 32 → counts_fit kind n ≡ true → Fit kind n

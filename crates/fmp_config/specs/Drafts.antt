@@ -29,7 +29,7 @@ abbrev pub is_start : Phase → Bool
 is_start phases.Start = true
 is_start _ = false
 
--- behind the head of the first class
+-- after the head of the first class
 abbrev pub is_body : Phase → Bool
 is_body phases.Body = true
 is_body _ = false

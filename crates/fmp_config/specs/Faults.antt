@@ -22,22 +22,22 @@ abbrev pub shown : Bool → List ℕ → List ℕ
 shown marked text = if is_identifier text then (if is_utf8 text then fitting marked text else []) else []
 
 -- a fault that is told has the kind, the line and the word
-pub record IsTold (told : ConfigFault) (fault : Fault) : Type 0 where
-  pub kind : told.kind ≡ fault.kind
-  pub line : told.line ≡ fault.line
-  pub word : told.word.bytes ≡ shown fault.marked fault.word
+pub record IsReported (report : ConfigFault) (fault : Fault) : Type 0 where
+  pub kind : report.kind ≡ fault.kind
+  pub line : report.line ≡ fault.line
+  pub word : report.word.bytes ≡ shown fault.marked fault.word
 
 -- want of memory, which has no line and no word
 abbrev pub IsMemory : ConfigFault → Type 0
-IsMemory told = (told.kind ≡ Memory) × (told.line ≡ 0) × (told.word.bytes ≡ [])
+IsMemory report = (report.kind ≡ Memory) × (report.line ≡ 0) × (report.word.bytes ≡ [])
 
 abbrev pub Tells : ConfigFault → ReadError → Type 0
-Tells told errors.Memory = IsMemory told
-Tells told (errors.Fault fault) = IsTold told fault
+Tells report errors.Memory = IsMemory report
+Tells report (errors.Fault fault) = IsReported report fault
 
 -- the fault that reading gives
 abbrev pub FaultIs : {Y : Type 0} → ConfigFault → Result Y Fault → Type 0
-FaultIs told read = (fault : Fault) × (read ≡ Err fault) × IsTold told fault
+FaultIs report read = (fault : Fault) × (read ≡ Err fault) × IsReported report fault
 
 -- what a reader returned is what reading gives, or memory ran out
 abbrev pub GivesOrFails : {Y : Type 0} → Result Y ConfigFault → Result Y Fault → Type 0
@@ -46,9 +46,9 @@ GivesOrFails (Err e) read = FaultIs e read ⊎ IsMemory e
 
 -- the first fault of a text, or want of memory
 abbrev pub IsFirstFault : List ℕ → ConfigFault → Type 0
-IsFirstFault text told = FaultIs told (config_in text) ⊎ IsMemory told
+IsFirstFault text report = FaultIs report (config_in text) ⊎ IsMemory report
 
--- the word at fault behind a blank, where there is one
+-- the word at fault after a blank, where there is one
 abbrev pub with_blank : List ℕ → List ℕ
 with_blank [] = []
 with_blank (c ∷ cs) = codes " " ++ c ∷ cs

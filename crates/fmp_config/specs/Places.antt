@@ -7,7 +7,7 @@ use Rattle.fmp_config_statements.specs.declared.table.StatementName.{StatementNa
 use Rattle.fmp_config_statements.specs.declared.table.StatementName.TheVariants as statements
 use Rattle.fmp_config.specs.Drafts.{Draft, is_start, is_body}
 
--- outside a class, behind the number of processors: the kind of fault of a statement that may not stand there
+-- outside a class, after the number of processors: the kind of fault of a statement that may not stand there
 abbrev pub fault_outside : Draft → StatementName → Option ConfigKind
 fault_outside d statements.Include = None
 fault_outside d statements.Processors = Some TooMany

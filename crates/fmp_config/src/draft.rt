@@ -29,7 +29,7 @@ pub enum Phase {
     Start,
     /// Before the first class is opened.
     Head,
-    /// Behind that.
+    /// After that.
     Body,
 }
 
@@ -280,7 +280,7 @@ impl Draft {
         matches!(self.phase, Phase::Start)
     }
 
-    /// Outside a class, behind the number of processors: the kind of fault of a statement that may not stand there.
+    /// Outside a class, after the number of processors: the kind of fault of a statement that may not stand there.
     fn fault_outside(&self, name: StatementName) -> Option<ConfigKind>
         ensures { result ≡ places.fault_outside (draft_of self.now) name }
     {

@@ -33,7 +33,7 @@ module _ (lists : NameLists) where
       let within : n - 1 < length lists.functions = slice_get_within lists.functions (n - 1) name at.1 in
       omega (arith, within, at.0)
 
-  -- the functions from it on are that one, and those behind it
+  -- the functions from it on are that one, and those after it
   next_function : (n : ℕ) (name : List ℕ) → name_of lists Function n ≡ Some name → drop (n - 1) lists.functions ≡ name ∷ drop n lists.functions
   next_function n name is =
       let at = numbered lists Function n name is in
@@ -42,7 +42,7 @@ module _ (lists : NameLists) where
       ∙ ap (λ (x : List ℕ). x ∷ drop (suc (n - 1)) lists.functions) (get_or_from_slice_get lists.functions (n - 1) name name at.1)
       ∙ ap (λ (k : ℕ). name ∷ drop k lists.functions) same
 
-  -- one line more, before those of the functions behind it
+  -- one line more, before those of the functions after it
   pub function_more : (n : ℕ) (name out new all : List ℕ) → name_of lists Function n ≡ Some name → new ≡ out ++ function_line n name
       → out ++ functions_from n (drop (n - 1) lists.functions) ≡ all → new ++ functions_from (n + 1) (drop ((n + 1) - 1) lists.functions) ≡ all
   function_more n name out new all is line made =

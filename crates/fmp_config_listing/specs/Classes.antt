@@ -5,7 +5,7 @@ use Rattle.std.specs.Cmp.Lexicographic.{pointwise}
 use Rattle.fmp_setup.specs.Setup.{Setup}
 use Rattle.fmp_setup.specs.declared.setup.Class.{Class}
 
--- a processor behind a blank
+-- a processor after a blank
 unfoldable pub processor_text : ℕ → List ℕ
 processor_text n = codes " P" ++ decimal n
 
@@ -32,7 +32,7 @@ class_lines (name ∷ names) (class ∷ classes) = class_line name class ++ clas
 abbrev pub is_alike : Class → Class → Bool
 is_alike a b = (a.initial.number == b.initial.number) && pointwise beq a.members b.members
 
--- its name behind this byte, where it is alike
+-- its name after this byte, where it is alike
 abbrev pub alike_text : ℕ → List ℕ → Bool → List ℕ
 alike_text lead name is = if is then lead ∷ name else []
 
@@ -40,7 +40,7 @@ alike_text lead name is = if is then lead ∷ name else []
 abbrev pub next_lead : ℕ → Bool → ℕ
 next_lead lead is = if is then 124 else lead
 
--- the names of those of these classes that are alike, the first behind this byte and each other behind a bar
+-- the names of those of these classes that are alike, the first after this byte and each other after a bar
 abbrev pub alike_from : ℕ → List (List ℕ) → List Class → Class → List ℕ
 alike_from lead [] classes class = []
 alike_from lead (name ∷ names) [] class = []

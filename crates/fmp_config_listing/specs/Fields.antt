@@ -1,4 +1,4 @@
--- What stands behind the number and the name of an object: the fields of its statement under their names.
+-- What stands after the number and the name of an object: the fields of its statement under their names.
 use Rattle.std.specs.Prelude.{ℕ, Bool, if◌then◌else◌, unwrap_or, option_map, slice_get, List, [], ◌++◌, codes, decimal}
 use Rattle.fmp_calls.specs.declared.kinds.ObjectKind.{ObjectKind}
 use Rattle.fmp_calls.specs.declared.kinds.ObjectKind.TheVariants.{Task, Semaphore, Eventflag, DataQueue, Pool, Cyclic, Alarm, SpinLock}
@@ -18,7 +18,7 @@ use Rattle.fmp_config_statements.specs.declared.attributes.Attribute.TheVariants
 use Rattle.fmp_config_listing.specs.Classes.{class_field}
 use Rattle.fmp_config_listing.specs.Functions.{function_name}
 
--- a word and a text, each behind a blank
+-- a word and a text, each after a blank
 unfoldable pub field : List ℕ → List ℕ → List ℕ
 field word text = codes " " ++ word ++ codes " " ++ text
 

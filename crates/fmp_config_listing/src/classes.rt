@@ -6,7 +6,7 @@ use fmp_setup::{Class, Config, NamedClass};
 use fmp_trace::put_number;
 use std::alloc::AllocError;
 
-/// Adds a processor behind a blank.
+/// Adds a processor after a blank.
 #[tactic(auto, unfolding(crate::specs::Classes::processor_text))]
 pub fn put_processor(out: &mut Vec<u8>, number: u64) -> Result<(), AllocError>
     ensures { OnOk result (out.new.items ≡ out.old.items ++ spec.processor_text number) }
@@ -15,7 +15,7 @@ pub fn put_processor(out: &mut Vec<u8>, number: u64) -> Result<(), AllocError>
     put_number(out, number)
 }
 
-/// Adds the processor of a number behind a blank, where it is a member.
+/// Adds the processor of a number after a blank, where it is a member.
 fn put_member(out: &mut Vec<u8>, number: u64, is_member: bool) -> Result<(), AllocError>
     ensures { OnOk result (out.new.items ≡ out.old.items ++ spec.member_text number is_member) }
 {
@@ -26,7 +26,7 @@ fn put_member(out: &mut Vec<u8>, number: u64, is_member: bool) -> Result<(), All
     }
 }
 
-/// Adds the members, each behind a blank. The first of the list is processor 1.
+/// Adds the members, each after a blank. The first of the list is processor 1.
 fn put_members(out: &mut Vec<u8>, members: &[bool]) -> Result<(), AllocError>
     ensures { OnOk result (out.new.items ≡ out.old.items ++ spec.members_from 1 members.now) }
 {
@@ -61,7 +61,7 @@ pub fn put_classes(out: &mut Vec<u8>, classes: &[NamedClass]) -> Result<(), Allo
     Ok(())
 }
 
-/// Adds the name of a class behind a byte, where the two have the same processors and begin on the same one. Says what stands before the
+/// Adds the name of a class after a byte, where the two have the same processors and begin on the same one. Says what stands before the
 /// next name.
 fn put_if_alike(
     out: &mut Vec<u8>,
@@ -80,7 +80,7 @@ fn put_if_alike(
     Ok(lead)
 }
 
-/// Adds the names of those classes that have the same processors and begin on the same one, the first behind a blank.
+/// Adds the names of those classes that have the same processors and begin on the same one, the first after a blank.
 fn put_alike(out: &mut Vec<u8>, classes: &[NamedClass], class: Class) -> Result<(), AllocError>
     ensures { OnOk result (out.new.items ≡ out.old.items ++ spec.alike_from 32 (map (λ c. c.name.items) classes.now) (map (λ c. c.class) classes.now) class) }
 {
@@ -91,7 +91,7 @@ fn put_alike(out: &mut Vec<u8>, classes: &[NamedClass], class: Class) -> Result<
     Ok(())
 }
 
-/// Adds the class of an object behind a blank.
+/// Adds the class of an object after a blank.
 #[tactic(auto, unfolding(crate::specs::Classes::class_field))]
 pub fn put_class(out: &mut Vec<u8>, config: &Config, class: Class) -> Result<(), AllocError>
     ensures { OnOk result (out.new.items ≡ out.old.items ++ spec.class_field config.now class) }

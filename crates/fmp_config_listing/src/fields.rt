@@ -1,4 +1,4 @@
-//! What stands behind the number and the name of an object.
+//! What stands after the number and the name of an object.
 ghost use Rattle.std.specs.Prelude.{◌≡◌, ◌++◌, decimal, OnOk};
 ghost use Rattle.fmp_config_listing.specs.Fields as spec;
 
@@ -13,7 +13,7 @@ use fmp_setup::{
 use fmp_trace::put_number;
 use std::alloc::AllocError;
 
-/// Adds a word and a text, each behind a blank.
+/// Adds a word and a text, each after a blank.
 #[tactic(auto, unfolding(crate::specs::Fields::field))]
 fn put_field(out: &mut Vec<u8>, word: &[u8], text: &[u8]) -> Result<(), AllocError>
     ensures { OnOk result (out.new.items ≡ out.old.items ++ spec.field word.now text.now) }
@@ -24,7 +24,7 @@ fn put_field(out: &mut Vec<u8>, word: &[u8], text: &[u8]) -> Result<(), AllocErr
     out.extend_from_slice(text)
 }
 
-/// Adds a word and a number, each behind a blank.
+/// Adds a word and a number, each after a blank.
 #[tactic(auto, unfolding(crate::specs::Fields::field))]
 pub fn put_count(out: &mut Vec<u8>, word: &[u8], number: u64) -> Result<(), AllocError>
     ensures { OnOk result (out.new.items ≡ out.old.items ++ spec.field word.now (decimal number)) }
@@ -78,7 +78,7 @@ fn waiters(many: bool) -> Attribute
     }
 }
 
-/// Adds the attribute behind a bar, where a release clears the eventflag.
+/// Adds the attribute after a bar, where a release clears the eventflag.
 fn put_clear(out: &mut Vec<u8>, clears: bool) -> Result<(), AllocError>
     ensures { OnOk result (out.new.items ≡ out.old.items ++ spec.clear clears) }
 {

@@ -1,7 +1,7 @@
 //! What was read of a configuration, as a text: a line for its processors, its timer and its limits, for each class, for each object with its
 //! number and name, and for each function.
 //!
-//! [`listing_text`] makes it. `specs/Listing` says it as a function of what the configuration says, `Fields` what stands behind an object's
+//! [`listing_text`] makes it. `specs/Listing` says it as a function of what the configuration says, `Fields` what stands after an object's
 //! name, and `Classes` how classes are told. docs/FORMATS.md has its form.
 //!
 //! What is told of kinds of objects, their order, words and numbers, a page of a trace tells in the same way ([`KINDS`], [`word`],

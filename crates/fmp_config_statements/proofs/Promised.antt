@@ -108,13 +108,13 @@ module _ (test : Item → Bool) (kept_word : Pieces → Word)
       let shorter : there f.pieces (is_part_of test part || list_any (is_part_of test) rest) ≡ true = rw (at, none) at so in
       rw (sym same) (refl, through (scan_of part) next t f.pieces (list_any (is_part_of test) rest) here (rw (same_part part) shorter))
 
-  behind : (f g : Form) (parts : List Part) (t : Lexeme) → may_end f.scan ≡ true → f.rest ≡ parts → next_part f parts t ≡ Ok g → stays f ≡ true → (g.name ≡ f.name) × (stays g ≡ true)
+  following : (f g : Form) (parts : List Part) (t : Lexeme) → may_end f.scan ≡ true → f.rest ≡ parts → next_part f parts t ≡ Ok g → stays f ≡ true → (g.name ≡ f.name) × (stays g ≡ true)
   unfolding next_part
-  behind f g [] t ends at e so = absurd (false≢true (ap (λ r. is_ok r) e))
-  behind f g (part ∷ rest) t ends at e so = entered f g part rest t (next_of (scan_of part) t) refl ends at e so
+  following f g [] t ends at e so = absurd (false≢true (ap (λ r. is_ok r) e))
+  following f g (part ∷ rest) t ends at e so = entered f g part rest t (next_of (scan_of part) t) refl ends at e so
 
   by_end : (f g : Form) (t : Lexeme) (b : Bool) → may_end f.scan ≡ b → (if b then next_part f f.rest t else Err (misfit t)) ≡ Ok g → stays f ≡ true → (g.name ≡ f.name) × (stays g ≡ true)
-  by_end f g t true ends e so = behind f g f.rest t ends refl e so
+  by_end f g t true ends e so = following f g f.rest t ends refl e so
   by_end f g t false ends e so = absurd (false≢true (ap (λ r. is_ok r) e))
 
   by_next : (f g : Form) (t : Lexeme) (o : Option Scan) → next_of f.scan t ≡ o

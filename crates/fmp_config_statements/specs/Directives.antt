@@ -11,11 +11,11 @@ use Rattle.fmp_config_statements.specs.Faults.{Fault, fault_of_line, unknown_dir
 use Rattle.fmp_config_statements.specs.Numbers.{numeral}
 use Rattle.fmp_config_statements.specs.Words.{Word, word_of, is_identifier_kind}
 
--- the number behind the name of a `#define`
+-- the number after the name of a `#define`
 unfoldable pub defined_number : Lexeme → Option ℕ
 defined_number t = option_and_then (λ n. if nat_le n 4294967295 then Some n else None) (numeral t.text)
 
--- the first word behind the `#`
+-- the first word after the `#`
 unfoldable pub named : ℕ → Lexeme → Result Directive Fault
 named line t =
     if is_identifier_kind t.kind

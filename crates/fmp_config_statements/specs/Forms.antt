@@ -13,7 +13,7 @@ use Rattle.fmp_config_statements.specs.Pieces.{Pieces, no_pieces, kept_from}
 use Rattle.fmp_config_statements.specs.Table.{parts_of}
 use Rattle.fmp_config_statements.specs.Words.{word_of}
 
--- a statement: its name, the line of its first word, the part that is being read, the parts behind it, and the words that were read
+-- a statement: its name, the line of its first word, the part that is being read, the parts after it, and the words that were read
 pub record Form : Type 0 where
   pub name : StatementName
   pub line : ℕ
@@ -21,7 +21,7 @@ pub record Form : Type 0 where
   pub rest : List Part
   pub pieces : Pieces
 
--- behind its first word
+-- after its first word
 abbrev pub begun : StatementName → ℕ → Form
 begun name line = record { name = name; line = line; scan = Nothing; rest = parts_of name; pieces = no_pieces }
 

@@ -48,7 +48,7 @@ next_free depth t =
     else (if is_mark open_parenthesis t then Some (Free (depth + 1) true) else
     (if is_mark close_parenthesis t then Some (Free (depth - 1) true) else Some (Free depth true)))
 
--- what has to follow behind the word of a timer
+-- what has to follow after the word of a timer
 unfoldable pub next_method : Lexeme → Option Scan
 next_method t = if bytes_eq t.text (codes "LOCAL") then Some Nothing else (if bytes_eq t.text (codes "GLOBAL") then Some Master else None)
 
@@ -60,7 +60,7 @@ scan_of (parts.Series byte item) = Next byte item
 scan_of parts.Free = Free 0 false
 scan_of parts.Method = Method
 
--- what has to follow behind a token that goes on with the part
+-- what has to follow after a token that goes on with the part
 unfoldable pub next_of : Scan → Lexeme → Option Scan
 next_of (Mark byte) t = if is_mark byte t then Some Nothing else None
 next_of (One item) t = if is_item item t then Some Nothing else None

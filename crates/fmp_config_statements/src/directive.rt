@@ -28,7 +28,7 @@ pub enum Directive<'a> {
     Skipped,
 }
 
-/// The number behind the name of a `#define`, where it is one.
+/// The number after the name of a `#define`, where it is one.
 #[tactic(auto, unfolding(crate::specs::Directives::defined_number))]
 fn defined_number(token: &Token<'_>) -> Option<u64>
     ensures { result ≡ spec.defined_number token.now }
@@ -41,7 +41,7 @@ fn defined_number(token: &Token<'_>) -> Option<u64>
     }
 }
 
-/// What the first word behind the `#` says.
+/// What the first word after the `#` says.
 #[tactic(auto, unfolding(crate::specs::Directives::named))]
 fn named<'a>(line: u32, token: &Token<'a>) -> Result<Directive<'a>, Fault<'a>>
     ensures { result ≡ spec.named line token.now }

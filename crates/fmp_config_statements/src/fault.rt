@@ -63,7 +63,7 @@ impl ConfigKind {
         }
     }
 
-    /// The fault in words, as it is printed behind its number.
+    /// The fault in words, as it is printed after its number.
     pub const fn words(self) -> &'static str
         ensures { result.now ≡ words_of self }
     {

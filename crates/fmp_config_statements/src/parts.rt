@@ -47,12 +47,12 @@ pub enum Scan {
     One(Item),
     /// One word of a series.
     Next(u8, Item),
-    /// One more word of a series, behind its mark, or nothing.
+    /// One more word of a series, after its mark, or nothing.
     More(u8, Item),
-    /// Any tokens, in so many open parentheses, behind others or not.
+    /// Any tokens, in so many open parentheses, after others or not.
     Free(u64, bool),
     Method,
-    /// The comma behind `GLOBAL`.
+    /// The comma after `GLOBAL`.
     Master,
     Nothing,
 }
@@ -108,7 +108,7 @@ fn next_free(depth: u64, token: &Token<'_>) -> Option<Scan>
     }
 }
 
-/// What has to follow behind the word of a timer.
+/// What has to follow after the word of a timer.
 #[tactic(auto, unfolding(crate::specs::Parts::next_method))]
 fn next_method(token: &Token<'_>) -> Option<Scan>
     ensures value { result ≡ spec.next_method token.now }
@@ -141,7 +141,7 @@ impl Scan {
         }
     }
 
-    /// What has to follow behind a token, or None where the token does not go on with the part.
+    /// What has to follow after a token, or None where the token does not go on with the part.
     #[tactic(auto, unfolding(crate::specs::Parts::next_of))]
     pub fn next(self, token: &Token<'_>) -> Option<Scan>
         requires { spec.depth_of self + 1 < 2 ^ 64 }

@@ -60,7 +60,7 @@ ended_in (modes.Block place began) line = ended (ends.CutShort began)
 ended_in (modes.Star place began) line = ended (ends.CutShort began)
 ended_in modes.Continued line = ended_at places.Directive line
 
--- a step at the beginning of a text, and what is read behind its first byte
+-- a step at the beginning of a text, and what is read after its first byte
 abbrev pub stepped : Step → List ℕ → (Mode → Lexed) → Lexed
 stepped (Pass next) bytes others = others next
 stepped (Give kind line next) bytes others = with_lexeme (record { kind = kind; text = text_of kind bytes; line = line }) (others next)

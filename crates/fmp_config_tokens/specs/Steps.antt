@@ -19,10 +19,10 @@ is_next c [] = false
 is_next c (b ∷ bytes) = b == c
 
 -- where a token leaves the reader
-abbrev pub behind : Place → Place
-behind places.LineStart = places.Code
-behind places.Code = places.Code
-behind places.Directive = places.Directive
+abbrev pub following : Place → Place
+following places.LineStart = places.Code
+following places.Code = places.Code
+following places.Directive = places.Directive
 
 -- a line end outside comments and strings ends a directive
 unfoldable pub at_line_end : Place → ℕ → Step
@@ -45,8 +45,8 @@ single places.Directive line b rest = if b == backslash && is_next line_feed res
 -- a byte that is no blank and begins no comment
 unfoldable pub begun : Place → ℕ → ℕ → List ℕ → Step
 begun place line b rest =
-    if is_of class.Letter b then Give kinds.Identifier line (modes.Word (behind place))
-    else (if is_of class.Digit b then Give kinds.Digits line (modes.Word (behind place)) else single place line b rest)
+    if is_of class.Letter b then Give kinds.Identifier line (modes.Word (following place))
+    else (if is_of class.Digit b then Give kinds.Digits line (modes.Word (following place)) else single place line b rest)
 
 -- a byte between tokens
 unfoldable pub in_gap : Place → ℕ → ℕ → List ℕ → Step
@@ -74,12 +74,12 @@ in_line_comment place line b rest =
     if b == line_feed then at_line_end place line
     else (if goes_on place b rest then Pass modes.Continued else Pass (modes.LineComment place))
 
--- a byte of a comment `/* .. */`, and one behind a `*` of it
+-- a byte of a comment `/* .. */`, and one after a `*` of it
 abbrev pub in_block : Place → ℕ → ℕ → Step
 in_block place began b = if b == asterisk then Pass (modes.Star place began) else Pass (modes.Block place began)
 
-abbrev pub behind_star : Place → ℕ → ℕ → Step
-behind_star place began b = if b == slash then Pass (modes.Gap place) else in_block place began b
+abbrev pub after_star : Place → ℕ → ℕ → Step
+after_star place began b = if b == slash then Pass (modes.Gap place) else in_block place began b
 
 -- what a byte does, by what stands before it and what follows it
 unfoldable pub step_of : Mode → ℕ → ℕ → List ℕ → Step
@@ -90,7 +90,7 @@ step_of (modes.Escaped began) line b rest = Pass (modes.Quoted began)
 step_of (modes.LineComment place) line b rest = in_line_comment place line b rest
 step_of (modes.Opening place began) line b rest = Pass (modes.Block place began)
 step_of (modes.Block place began) line b rest = in_block place began b
-step_of (modes.Star place began) line b rest = behind_star place began b
+step_of (modes.Star place began) line b rest = after_star place began b
 step_of modes.Continued line b rest = Pass (modes.Gap places.Directive)
 
 -- a line feed begins a line

@@ -6,7 +6,7 @@ ghost use Rattle.fmp_config_tokens.specs.declared.modes.Mode.TheVariants as mode
 use crate::modes::{Mode, Place};
 use memchr::memchr2;
 
-/// The rest of a text behind what a comment `// ..` passes over: from a line feed or a backslash on.
+/// The rest of a text after what a comment `// ..` passes over: from a line feed or a backslash on.
 fn past_line_comment(place: Place, bytes: &[u8]) -> &[u8]
     ensures same { (line : ℕ) → lexed (modes.LineComment place) line bytes.now ≡ lexed (modes.LineComment place) line result.now }
     ensures shorter { length result.now ≤ length bytes.now }
@@ -17,7 +17,7 @@ fn past_line_comment(place: Place, bytes: &[u8]) -> &[u8]
     }
 }
 
-/// The rest of a text behind what a comment `/* .. */` passes over: from a line feed or a `*` on.
+/// The rest of a text after what a comment `/* .. */` passes over: from a line feed or a `*` on.
 fn past_block(place: Place, began: u32, bytes: &[u8]) -> &[u8]
     ensures same { (line : ℕ) → lexed (modes.Block place began) line bytes.now ≡ lexed (modes.Block place began) line result.now }
     ensures shorter { length result.now ≤ length bytes.now }
@@ -28,7 +28,7 @@ fn past_block(place: Place, began: u32, bytes: &[u8]) -> &[u8]
     }
 }
 
-/// The rest of a text behind what stands before it passes over, where that is a comment.
+/// The rest of a text after what stands before it passes over, where that is a comment.
 #[inline(always)]
 pub(crate) fn past_comment(mode: Mode, bytes: &[u8]) -> &[u8]
     ensures same { (line : ℕ) → lexed mode line bytes.now ≡ lexed mode line result.now }

@@ -78,7 +78,7 @@ fn ended_at<'a>(place: Place, line: u32) -> Result<(Token<'a>, Lexer<'a>), End>
     }
 }
 
-/// What the end of the text gives behind what stands before it.
+/// What the end of the text gives after what stands before it.
 #[tactic(auto, unfolding(crate::specs::Lexing::ended_in))]
 fn ended_in<'a>(mode: Mode, line: u32) -> Result<(Token<'a>, Lexer<'a>), End>
     ensures ok { IfOk result (λ r. spec.ended_in mode line ≡ spec.with_lexeme r.0 r.1) }

@@ -3,8 +3,8 @@
 //! Blanks are spaces, tabs, carriage returns and line feeds. A line feed ends a line, and nothing else does: lines are
 //! counted from 1, also by the line feeds in comments and strings.
 //!
-//! A token is an identifier (a letter or `_`, and the letters, digits and `_` behind it), a digit with the letters,
-//! digits and `_` behind it, a string, or one other byte from `!` to `~`. A string goes from `"` to the next `"`, over
+//! A token is an identifier (a letter or `_`, and the letters, digits and `_` after it), a digit with the letters,
+//! digits and `_` after it, a string, or one other byte from `!` to `~`. A string goes from `"` to the next `"`, over
 //! line ends too; it holds any bytes, and a backslash takes the next byte along.
 //!
 //! The comments `/* .. */` and `// ..` hold any bytes and count as one blank. They stand in directives too, but not in
@@ -13,7 +13,7 @@
 //!
 //! A `#` before which only blanks and comments stand in its line begins a directive, where the line feeds in comments
 //! end no line. The directive ends at the next line feed outside comments that has no backslash directly before it, or
-//! with the text. A backslash and the line feed behind it count as one blank, also where a comment `// ..` ends so. In a
+//! with the text. A backslash and the line feed after it count as one blank, also where a comment `// ..` ends so. In a
 //! directive there are no strings, and any byte that is no blank and of no word is a token.
 //!
 //! Elsewhere a byte that is no blank and is not from `!` to `~` is bad, and reading ends before it. Where a comment or
@@ -26,5 +26,5 @@ mod modes;
 mod tokens;
 
 pub use lexer::Lexer;
-pub use modes::{Mode, Place, Step};
+pub use modes::{Mode, Place, Step, step_of};
 pub use tokens::{End, Token, TokenKind};

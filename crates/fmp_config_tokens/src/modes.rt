@@ -58,8 +58,8 @@ fn is_next(byte: u8, text: &[u8]) -> bool
 }
 
 /// Where a token leaves the reader.
-fn behind(place: Place) -> Place
-    ensures { result ≡ spec.behind place }
+fn following(place: Place) -> Place
+    ensures { result ≡ spec.following place }
 {
     match place {
         Place::LineStart | Place::Code => Place::Code,
@@ -115,9 +115,9 @@ fn begun(place: Place, line: u32, byte: u8, rest: &[u8]) -> Step
     ensures { result ≡ spec.begun place line byte rest.now }
 {
     if Class::Letter.has(byte) {
-        Step::Give(TokenKind::Identifier, line, Mode::Word(behind(place)))
+        Step::Give(TokenKind::Identifier, line, Mode::Word(following(place)))
     } else if Class::Digit.has(byte) {
-        Step::Give(TokenKind::Digits, line, Mode::Word(behind(place)))
+        Step::Give(TokenKind::Digits, line, Mode::Word(following(place)))
     } else {
         single(place, line, byte, rest)
     }
@@ -153,7 +153,7 @@ fn in_string(began: u32, byte: u8) -> Step
     }
 }
 
-/// Whether a byte of a comment `// ..` takes the line feed behind it along.
+/// Whether a byte of a comment `// ..` takes the line feed after it along.
 fn goes_on(place: Place, byte: u8, rest: &[u8]) -> bool
     ensures { result ≡ spec.goes_on place byte rest.now }
 {
@@ -188,9 +188,9 @@ fn in_block(place: Place, began: u32, byte: u8) -> Step
     }
 }
 
-/// What a byte does behind a `*` in such a comment.
-fn behind_star(place: Place, began: u32, byte: u8) -> Step
-    ensures { result ≡ spec.behind_star place began byte }
+/// What a byte does after a `*` in such a comment.
+fn after_star(place: Place, began: u32, byte: u8) -> Step
+    ensures { result ≡ spec.after_star place began byte }
 {
     if byte == b'/' {
         Step::Pass(Mode::Gap(place))
@@ -199,9 +199,9 @@ fn behind_star(place: Place, began: u32, byte: u8) -> Step
     }
 }
 
-/// What a byte does in this line, by what stands before it and the bytes behind it.
+/// What a byte does in this line, by what stands before it and the bytes after it.
 #[tactic(auto, unfolding(crate::specs::Steps::step_of))]
-pub(crate) fn step_of(mode: Mode, line: u32, byte: u8, rest: &[u8]) -> Step
+pub fn step_of(mode: Mode, line: u32, byte: u8, rest: &[u8]) -> Step
     ensures { result ≡ spec.step_of mode line byte rest.now }
 {
     match mode {
@@ -212,7 +212,7 @@ pub(crate) fn step_of(mode: Mode, line: u32, byte: u8, rest: &[u8]) -> Step
         Mode::LineComment(place) => in_line_comment(place, line, byte, rest),
         Mode::Opening(place, began) => Step::Pass(Mode::Block(place, began)),
         Mode::Block(place, began) => in_block(place, began, byte),
-        Mode::Star(place, began) => behind_star(place, began, byte),
+        Mode::Star(place, began) => after_star(place, began, byte),
         Mode::Continued => Step::Pass(Mode::Gap(Place::Directive)),
     }
 }

@@ -1,1 +1,1 @@
-pub mod Window  -- What a ring holds after an item is added behind the others, and after the first one goes.
+pub mod Window  -- What a ring holds after an item is added after the others, and after the first one goes.

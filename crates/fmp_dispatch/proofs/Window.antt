@@ -1,4 +1,4 @@
--- What a ring holds after an item is added behind the others, and after the first one goes.
+-- What a ring holds after an item is added after the others, and after the first one goes.
 use Rattle.std.proofs.Common.{◌≡◌, ℕ, ◌+◌, ◌-◌, ◌%◌, ◌<◌, ◌≤◌, ◌⊎◌, List, [], ◌∷◌, ◌++◌, length, get_or, set, ap, ◌∙◌, ap₂, inl, inr, mod-eq_of_lt, arith, length-append, length-drop, length-set, length-take-le, get_or-drop, get_or-take}
 use native.Mathlib.Nat.{mod-eq-sub-mod, mod-add-mod}
 use Rattle.std.proofs.lemmas.List.{same_lists, drop_more, get_or_append_left, get_or-append_right}
@@ -29,7 +29,7 @@ module _ {X : Type 0} (N k n : ℕ) (xs : List X) (start_in_range : k < N) (len_
 
 -- A second block, since these use the lemmas above at other windows.
 module _ {X : Type 0} (N k n : ℕ) (xs : List X) (start_in_range : k < N) (len_fits : n ≤ N) (length_xs : length xs ≡ N) where
-  -- a write behind the last item adds it at the end; the two lists are compared item by item
+  -- a write after the last item adds it at the end; the two lists are compared item by item
   pub window_after_push : (x : X) → n < N → window k (n + 1) (set xs ((k + n) % N) x) ≡ window k n xs ++ x ∷ []
   window_after_push x has_room =
       let ys = set xs ((k + n) % N) x in

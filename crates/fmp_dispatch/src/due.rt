@@ -52,7 +52,7 @@ impl Due {
         list
     }
 
-    /// Adds a handler behind the others.
+    /// Adds a handler after the others.
     pub(crate) fn add(&mut self, handler: Runner)
         requires { length self.old < 64 }
         ensures { self.new ≡ self.old ++ handler ∷ [] }
@@ -96,10 +96,13 @@ impl Part for Due {
         are_equal(self.list().as_slice(), other.list().as_slice())
     }
 
+    /// What the slots hold does not matter where no handler is due.
     fn copy_from(&mut self, other: &Self) {
-        self.slots = other.slots;
-        self.oldest = other.oldest;
         self.len = other.len;
+        if 0 < self.len {
+            self.slots = other.slots;
+            self.oldest = other.oldest;
+        }
     }
 
     fn add_to(&self, digest: &mut Digest) {

@@ -85,7 +85,7 @@ impl Dtq {
         self.values.front().copied()
     }
 
-    /// The value at a place behind the oldest one, if there are so many.
+    /// The value at a place after the oldest one, if there are so many.
     pub fn value(&self, index: usize) -> Option<i64>
         ensures { result ≡ slice_get self.now.values index }
     {
@@ -114,7 +114,7 @@ impl Dtq {
         self.senders.place(task, priority);
     }
 
-    /// A task of this priority waits to receive, behind all others. It leaves the place among the receivers where it stood, if
+    /// A task of this priority waits to receive, after all others. It leaves the place among the receivers where it stood, if
     /// any.
     pub fn place_receiver(&mut self, task: Task, priority: Pri)
         ensures { self.new ≡ record self.old { receivers = joined_by (waiter_of Order.First task priority) self.old.receivers } }

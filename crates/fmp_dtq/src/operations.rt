@@ -132,7 +132,7 @@ impl Dtq {
         self.senders.join(task, priority);
     }
 
-    /// A task that does not wait to receive begins to, behind all others.
+    /// A task that does not wait to receive begins to, after all others.
     pub fn join_receivers(&mut self, task: Task, priority: Pri)
         requires { has_waiter task self.old.receivers ≡ false }
         ensures queue { self.new ≡ record self.old { receivers = put_ranked (waiter_of Order.First task priority) self.old.receivers } }
@@ -150,7 +150,7 @@ impl Dtq {
         self.senders.reorder(task, priority);
     }
 
-    /// A task that waits to receive leaves its place and joins the receivers anew, behind all others.
+    /// A task that waits to receive leaves its place and joins the receivers anew, after all others.
     pub fn reorder_receivers(&mut self, task: Task, priority: Pri)
         requires { has_waiter task self.old.receivers ≡ true }
         ensures queue { self.new ≡ record self.old { receivers = joined_by (waiter_of Order.First task priority) self.old.receivers } }

@@ -22,7 +22,7 @@ use Rattle.fmp_law_lists.specs.Laws.{ListsAreRight}
 use Rattle.fmp_law_lists.proofs.Steps.{lists_refine}
 use Rattle.fmp_law_lists.proofs.SafeLists.{lists_safe, numbers_safe, lists_are_right}
 use Rattle.fmp_kernel.specs.Kept.{IsKept}
-use Rattle.fmp_kernel.proofs.Told.{takes_over, runs_over}
+use Rattle.fmp_kernel.proofs.Report.{takes_over, runs_over}
 
 module _ (k l : World Queues) (e : Event) (r : Record) (kept : IsKept k) (on : (processor_of e).number ≤ length k.processors) (did : (l, r) ≡ step listed k e) where
   on_processor : (m : State) → Stands k m → (processor_of e).number ≤ length m.processors

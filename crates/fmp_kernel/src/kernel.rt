@@ -17,7 +17,7 @@ use fmp_codes::{Answer, Event, Record};
 use fmp_kernel_machine::KernelMachine;
 use fmp_kernel_parts::{Digest, Part};
 use fmp_rules::Config;
-use fmp_step::{boot, step_told};
+use fmp_step::{boot, step_recorded};
 use std::alloc::AllocError;
 use std::marker::Model;
 
@@ -73,47 +73,47 @@ impl Kernel {
         ensures taken { TakesRequest self.old event result self.new }
         ensures top { RunsTop listed self.old event result self.new }
     {
-        let mut told = Record::answer(event, None, Answer::Nothing);
-        self.step_into(event, &mut told);
-        told
+        let mut report = Record::answer(event, None, Answer::Nothing);
+        self.step_into(event, &mut report);
+        report
     }
 
     /// Plays one event on a processor of the machine, and makes a record tell what it answers and did, whatever it told before.
-    pub fn step_into(&mut self, event: Event, told: &mut Record)
+    pub fn step_into(&mut self, event: Event, report: &mut Record)
         requires { (processor_of event).number ≤ length self.old.processors }
         ensures stands { (m : State) → Stands self.old m → Stands self.new (step numbered m event).0 }
-        ensures record { (m : State) → Stands self.old m → told.new ≡ (step numbered m event).1 }
+        ensures record { (m : State) → Stands self.old m → report.new ≡ (step numbered m event).1 }
         ensures processors { length self.new.processors ≡ length self.old.processors }
 
         // As of `step`.
-        ensures same { (self.new, told.new) ≡ step listed self.old event }
+        ensures same { (self.new, report.new) ≡ step listed self.old event }
         ensures safe { Safe listed self.new }
         ensures lists { ListsAreRight self.new }
-        ensures nothing { FindsNothing listed self.old event told.new self.new }
-        ensures taken { TakesRequest self.old event told.new self.new }
-        ensures top { RunsTop listed self.old event told.new self.new }
+        ensures nothing { FindsNothing listed self.old event report.new self.new }
+        ensures taken { TakesRequest self.old event report.new self.new }
+        ensures top { RunsTop listed self.old event report.new self.new }
     {
-        told.event = event;
-        self.step_told(told);
+        report.event = event;
+        self.step_recorded(report);
     }
 
     /// Plays the event that a record tells, on a processor of the machine, and makes the record tell what the event answers and
     /// did, whatever it told of that before.
-    pub fn step_told(&mut self, told: &mut Record)
-        requires { (processor_of told.old.event).number ≤ length self.old.processors }
-        ensures stands { (m : State) → Stands self.old m → Stands self.new (step numbered m told.old.event).0 }
-        ensures record { (m : State) → Stands self.old m → told.new ≡ (step numbered m told.old.event).1 }
+    pub fn step_recorded(&mut self, report: &mut Record)
+        requires { (processor_of report.old.event).number ≤ length self.old.processors }
+        ensures stands { (m : State) → Stands self.old m → Stands self.new (step numbered m report.old.event).0 }
+        ensures record { (m : State) → Stands self.old m → report.new ≡ (step numbered m report.old.event).1 }
         ensures processors { length self.new.processors ≡ length self.old.processors }
 
         // As of `step`.
-        ensures same { (self.new, told.new) ≡ step listed self.old told.old.event }
+        ensures same { (self.new, report.new) ≡ step listed self.old report.old.event }
         ensures safe { Safe listed self.new }
         ensures lists { ListsAreRight self.new }
-        ensures nothing { FindsNothing listed self.old told.old.event told.new self.new }
-        ensures taken { TakesRequest self.old told.old.event told.new self.new }
-        ensures top { RunsTop listed self.old told.old.event told.new self.new }
+        ensures nothing { FindsNothing listed self.old report.old.event report.new self.new }
+        ensures taken { TakesRequest self.old report.old.event report.new self.new }
+        ensures top { RunsTop listed self.old report.old.event report.new self.new }
     {
-        step_told(&mut self.machine, told);
+        step_recorded(&mut self.machine, report);
     }
 
     /// Whether it is the same as another kernel, so that both answer all events alike. Where it says no, contracts may see the

@@ -194,7 +194,7 @@ impl Kernel {
         self.machine.value_count(d)
     }
 
-    /// The value at a place behind the oldest one of a data queue, if there are so many.
+    /// The value at a place after the oldest one of a data queue, if there are so many.
     pub fn value(&self, d: Object, index: usize) -> Option<i64>
         ensures lists { result ≡ slice_get (values self.now d) index }
         ensures model { (m : State) → Stands self.now m → result ≡ slice_get (values m d) index }

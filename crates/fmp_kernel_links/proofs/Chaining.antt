@@ -4,14 +4,14 @@ use Rattle.std.proofs.lemmas.Bool.{cases_eq, cases_lt, eq-eqb, ne_eqb, lt-ltb, l
 use Rattle.std.specs.Prelude.{IfSome}
 use Rattle.fmp_kernel_links.specs.Lists.{has, without, inserted, AreDistinct, first_of}
 use Rattle.fmp_kernel_links.specs.Rings.{IsChain, walk, item_at}
-use Rattle.fmp_kernel_links.proofs.Having.{has_here, has_there, has_behind, has_as, has_wider, has_narrower, lacks, lacks_first, lacks_behind, ne, without_lacking}
+use Rattle.fmp_kernel_links.proofs.Having.{has_here, has_there, has_after, has_as, has_wider, has_narrower, lacks, lacks_first, lacks_after, ne, without_lacking}
 
 -- t is put before b
 pub record Linked (n p m q : ℕ → ℕ) (b t : ℕ) : Type 0 where
   pub before : m (p b) ≡ t
   pub next : m t ≡ b
   pub prev : q t ≡ p b
-  pub behind : q b ≡ t
+  pub following : q b ≡ t
   pub next_rest : (k : ℕ) → (k ≡ p b → ⊥) → (k ≡ t → ⊥) → m k ≡ n k
   pub prev_rest : (k : ℕ) → (k ≡ t → ⊥) → (k ≡ b → ⊥) → q k ≡ p k
 
@@ -32,30 +32,30 @@ frame n p m q a (x ∷ xs) z f g c = (
   frame n p m q x xs z (λ k e. f k (has_there k a (x ∷ xs) e)) (λ k e. g k (has_wider k z x xs e)) c.2,
 )
 
--- who stands before one that is there, and behind one
+-- who stands before one that is there, and after one
 pub prev_there : (n p : ℕ → ℕ) (a : ℕ) (xs : List ℕ) (z b : ℕ) → IsChain n p a xs z → has b (z ∷ xs) ≡ true → has (p b) (a ∷ xs) ≡ true
 prev_there n p a [] z b c h =
-    ⊎_elim (λ (e : b ≡ z). has_as (p b) a (a ∷ []) (ap p e ∙ c.1) (has_here a [])) (λ (e : b ≡ z → ⊥). let out : false ≡ true = has_behind b z [] e h in cc) (cases_eq b z)
+    ⊎_elim (λ (e : b ≡ z). has_as (p b) a (a ∷ []) (ap p e ∙ c.1) (has_here a [])) (λ (e : b ≡ z → ⊥). let out : false ≡ true = has_after b z [] e h in cc) (cases_eq b z)
 prev_there n p a (x ∷ xs) z b c h =
     ⊎_elim (λ (e : b ≡ x). has_as (p b) a (a ∷ x ∷ xs) (ap p e ∙ c.1) (has_here a (x ∷ xs)))
     (λ (e : b ≡ x → ⊥). has_there (p b) a (x ∷ xs) (prev_there n p x xs z b c.2 (has_narrower b z x xs e h))) (cases_eq b x)
 
 pub next_there : (n p : ℕ → ℕ) (a : ℕ) (xs : List ℕ) (z b : ℕ) → IsChain n p a xs z → has b (a ∷ xs) ≡ true → has (n b) (z ∷ xs) ≡ true
 next_there n p a [] z b c h =
-    ⊎_elim (λ (e : b ≡ a). has_as (n b) z (z ∷ []) (ap n e ∙ c.0) (has_here z [])) (λ (e : b ≡ a → ⊥). let out : false ≡ true = has_behind b a [] e h in cc) (cases_eq b a)
+    ⊎_elim (λ (e : b ≡ a). has_as (n b) z (z ∷ []) (ap n e ∙ c.0) (has_here z [])) (λ (e : b ≡ a → ⊥). let out : false ≡ true = has_after b a [] e h in cc) (cases_eq b a)
 next_there n p a (x ∷ xs) z b c h =
     ⊎_elim (λ (e : b ≡ a). has_as (n b) x (z ∷ x ∷ xs) (ap n e ∙ c.0) (has_there x z (x ∷ xs) (has_here x xs)))
-    (λ (e : b ≡ a → ⊥). has_wider (n b) z x xs (next_there n p x xs z b c.2 (has_behind b a (x ∷ xs) e h))) (cases_eq b a)
+    (λ (e : b ≡ a → ⊥). has_wider (n b) z x xs (next_there n p x xs z b c.2 (has_after b a (x ∷ xs) e h))) (cases_eq b a)
 
 pub chain_insert : (n p m q : ℕ → ℕ) (b t a : ℕ) (xs : List ℕ) (z : ℕ) → Linked n p m q b t → IsChain n p a xs z → has b (z ∷ xs) ≡ true →
     AreDistinct (a ∷ xs) → has z xs ≡ false → has t (a ∷ xs) ≡ false → (t ≡ z → ⊥) → IsChain m q a (inserted b t xs) z
 chain_insert n p m q b t a [] z l c h d e out nz =
     let same : b ≡ z = only b z h in
     let from : p b ≡ a = ap p same ∙ c.1 in
-    (ap m (sym from) ∙ l.before, l.prev ∙ from, (l.next ∙ same, ap q (sym same) ∙ l.behind))
+    (ap m (sym from) ∙ l.before, l.prev ∙ from, (l.next ∙ same, ap q (sym same) ∙ l.following))
   where
     only : (b z : ℕ) → has b (z ∷ []) ≡ true → b ≡ z
-    only b z h = ⊎_elim (λ (f : b ≡ z). f) (λ (f : b ≡ z → ⊥). let x : false ≡ true = has_behind b z [] f h in cc) (cases_eq b z)
+    only b z h = ⊎_elim (λ (f : b ≡ z). f) (λ (f : b ≡ z → ⊥). let x : false ≡ true = has_after b z [] f h in cc) (cases_eq b z)
 chain_insert n p m q b t a (x ∷ xs) z l c h d e out nz =
     ⊎_elim (λ (f : x ≡ b).
     let from : p b ≡ a = ap p (sym f) ∙ c.1 in
@@ -64,10 +64,10 @@ chain_insert n p m q b t a (x ∷ xs) z l c h d e out nz =
       l.prev ∙ from,
       (
         l.next ∙ sym f,
-        ap q f ∙ l.behind,
+        ap q f ∙ l.following,
         frame n p m q x xs z
-            (λ k i. l.next_rest k (λ (g : k ≡ p b). ne k a (x ∷ xs) i d.0 (g ∙ from)) (λ (g : k ≡ t). ne k t (x ∷ xs) i (lacks_behind t a (x ∷ xs) out) g))
-            (λ k i. l.prev_rest k (λ (g : k ≡ t). ne k t (z ∷ xs) i (lacks t z xs nz (lacks_behind t x xs (lacks_behind t a (x ∷ xs) out))) g)
+            (λ k i. l.next_rest k (λ (g : k ≡ p b). ne k a (x ∷ xs) i d.0 (g ∙ from)) (λ (g : k ≡ t). ne k t (x ∷ xs) i (lacks_after t a (x ∷ xs) out) g))
+            (λ k i. l.prev_rest k (λ (g : k ≡ t). ne k t (z ∷ xs) i (lacks t z xs nz (lacks_after t x xs (lacks_after t a (x ∷ xs) out))) g)
             (λ (g : k ≡ b). ne k x (z ∷ xs) i (lacks x z xs (λ (y : x ≡ z). lacks_first z x xs e (sym y)) d.1.0) (g ∙ sym f)))
             c.2,
       ),
@@ -77,8 +77,8 @@ chain_insert n p m q b t a (x ∷ xs) z l c h d e out nz =
     let back : has (p b) (x ∷ xs) ≡ true = prev_there n p x xs z b c.2 there in
     rw (ne_eqb x b f) (
       l.next_rest a (λ (g : a ≡ p b). ne (p b) a (x ∷ xs) back d.0 (sym g)) (λ (g : a ≡ t). lacks_first t a (x ∷ xs) out (sym g)) ∙ c.0,
-      l.prev_rest x (λ (g : x ≡ t). lacks_first t x xs (lacks_behind t a (x ∷ xs) out) (sym g)) f ∙ c.1,
-      chain_insert n p m q b t x xs z l c.2 there d.1 (lacks_behind z x xs e) (lacks_behind t a (x ∷ xs) out) nz,
+      l.prev_rest x (λ (g : x ≡ t). lacks_first t x xs (lacks_after t a (x ∷ xs) out) (sym g)) f ∙ c.1,
+      chain_insert n p m q b t x xs z l c.2 there d.1 (lacks_after z x xs e) (lacks_after t a (x ∷ xs) out) nz,
     ))
     (cases_eq x b)
 
@@ -90,15 +90,15 @@ chain_without n p m q t a (x ∷ xs) z u c h d e =
     let from : p t ≡ a = ap p (sym f) ∙ c.1 in
     let lack : has t xs ≡ false = subst (λ y. has y xs ≡ false) f d.1.0 in
     let rest : IsChain n p t xs z = subst (λ y. IsChain n p y xs z) f c.2 in
-    rw (eq-eqb x t f, without_lacking t xs lack) (bridge xs from rest (lacks_behind a x xs d.0) d.1.1 (lacks_behind z x xs e)))
+    rw (eq-eqb x t f, without_lacking t xs lack) (bridge xs from rest (lacks_after a x xs d.0) d.1.1 (lacks_after z x xs e)))
     (λ (f : x ≡ t → ⊥).
-    let there : has t xs ≡ true = has_behind t x xs (λ (g : t ≡ x). f (sym g)) h in
+    let there : has t xs ≡ true = has_after t x xs (λ (g : t ≡ x). f (sym g)) h in
     let back : has (p t) (x ∷ xs) ≡ true = prev_there n p x xs z t c.2 (has_there t z xs there) in
     let on : has (n t) (z ∷ xs) ≡ true = next_there n p x xs z t c.2 (has_there t x xs there) in
     rw (ne_eqb x t f) (
       u.next_rest a (λ (g : a ≡ p t). ne (p t) a (x ∷ xs) back d.0 (sym g)) ∙ c.0,
       u.prev_rest x (λ (g : x ≡ n t). ne (n t) x (z ∷ xs) on (lacks x z xs (λ (y : x ≡ z). lacks_first z x xs e (sym y)) d.1.0) (sym g)) ∙ c.1,
-      chain_without n p m q t x xs z u c.2 there d.1 (lacks_behind z x xs e),
+      chain_without n p m q t x xs z u c.2 there d.1 (lacks_after z x xs e),
     ))
     (cases_eq x t)
   where

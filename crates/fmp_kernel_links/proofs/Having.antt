@@ -19,9 +19,9 @@ has_here k xs = rw (eq-eqb k k refl) refl
 pub has_there : (k x : ℕ) (xs : List ℕ) → has k xs ≡ true → has k (x ∷ xs) ≡ true
 has_there k x xs e = or_second (nat_eq k x) (has k xs) e
 
--- what is there, and is not the first, is behind it
-pub has_behind : (k x : ℕ) (xs : List ℕ) → (k ≡ x → ⊥) → has k (x ∷ xs) ≡ true → has k xs ≡ true
-has_behind k x xs ne e = sym (ap (λ b. b || has k xs) (ne_eqb k x ne)) ∙ e
+-- what is there, and is not the first, is after it
+pub has_after : (k x : ℕ) (xs : List ℕ) → (k ≡ x → ⊥) → has k (x ∷ xs) ≡ true → has k xs ≡ true
+has_after k x xs ne e = sym (ap (λ b. b || has k xs) (ne_eqb k x ne)) ∙ e
 
 pub lacks : (k x : ℕ) (xs : List ℕ) → (k ≡ x → ⊥) → has k xs ≡ false → has k (x ∷ xs) ≡ false
 lacks k x xs ne e = rw (ne_eqb k x ne) e
@@ -31,8 +31,8 @@ lacks_first k x xs e same =
     let out = or_left (nat_eq k x) (has k xs) e in
     let yes : nat_eq k x ≡ true = eq-eqb k x same in cc
 
-pub lacks_behind : (k x : ℕ) (xs : List ℕ) → has k (x ∷ xs) ≡ false → has k xs ≡ false
-lacks_behind k x xs e = or_right (nat_eq k x) (has k xs) e
+pub lacks_after : (k x : ℕ) (xs : List ℕ) → has k (x ∷ xs) ≡ false → has k xs ≡ false
+lacks_after k x xs e = or_right (nat_eq k x) (has k xs) e
 
 pub has_as : (k l : ℕ) (xs : List ℕ) → k ≡ l → has l xs ≡ true → has k xs ≡ true
 has_as k l xs e h = subst (λ y. has y xs ≡ true) (sym e) h
@@ -44,7 +44,7 @@ has_wider k z x xs e = elim (nat_eq k z) as (λ (b : Bool). (b || has k xs) ≡ 
 pub has_narrower : (b z x : ℕ) (xs : List ℕ) → (b ≡ x → ⊥) → has b (z ∷ x ∷ xs) ≡ true → has b (z ∷ xs) ≡ true
 has_narrower b z x xs e h =
     ⊎_elim (λ (f : b ≡ z). subst (λ y. has y (z ∷ xs) ≡ true) (sym f) (has_here z xs))
-    (λ (f : b ≡ z → ⊥). has_there b z xs (has_behind b x xs e (has_behind b z (x ∷ xs) f h))) (cases_eq b z)
+    (λ (f : b ≡ z → ⊥). has_there b z xs (has_after b x xs e (has_after b z (x ∷ xs) f h))) (cases_eq b z)
 
 -- one is there, the other is not
 pub ne : (k l : ℕ) (xs : List ℕ) → has k xs ≡ true → has l xs ≡ false → k ≡ l → ⊥
@@ -79,18 +79,18 @@ distinct-inserted b t [] h out = (refl, tt)
 distinct-inserted b t (x ∷ xs) h out =
     elim (x == b) as (λ c. AreDistinct (cond c (t ∷ x ∷ xs) (x ∷ inserted b t xs))) [
       | true ↦ (out, h)
-      | false ↦ (has_inserted x b t xs ∙ lacks x t xs (λ e. lacks_first t x xs out (sym e)) h.0, distinct-inserted b t xs h.1 (lacks_behind t x xs out))
+      | false ↦ (has_inserted x b t xs ∙ lacks x t xs (λ e. lacks_first t x xs out (sym e)) h.0, distinct-inserted b t xs h.1 (lacks_after t x xs out))
     ]
 
 pub inserted_last : (b t : ℕ) (xs : List ℕ) → has b xs ≡ false → inserted b t xs ≡ xs ++ t ∷ []
 inserted_last b t [] out = refl
 inserted_last b t (x ∷ xs) out =
-    rw (ne_eqb x b (λ e. lacks_first b x xs out (sym e))) (ap (λ ys. x ∷ ys) (inserted_last b t xs (lacks_behind b x xs out)))
+    rw (ne_eqb x b (λ e. lacks_first b x xs out (sym e))) (ap (λ ys. x ∷ ys) (inserted_last b t xs (lacks_after b x xs out)))
 
 pub without_lacking : (t : ℕ) (xs : List ℕ) → has t xs ≡ false → without t xs ≡ xs
 without_lacking t [] out = refl
 without_lacking t (x ∷ xs) out =
-    rw (ne_eqb x t (λ e. lacks_first t x xs out (sym e))) (ap (λ ys. x ∷ ys) (without_lacking t xs (lacks_behind t x xs out)))
+    rw (ne_eqb x t (λ e. lacks_first t x xs out (sym e))) (ap (λ ys. x ∷ ys) (without_lacking t xs (lacks_after t x xs out)))
 
 -- taking out what is nowhere changes nothing
 pub take_out-lacking : (q : List (List ℕ)) (t : ℕ) → ((i : ℕ) → has t (list_at q i) ≡ false) → take_out q t ≡ q

@@ -161,7 +161,7 @@ sound_insert items n p w q i b t s within low free there = record {
       before = get_or-set_other (set n (slice_index p b) t) t (slice_index p b) b 0 (foreign i (slice_index p b) from) ∙ get_or-set_same n (slice_index p b) t 0 first_in;
       next = get_or-set_same (set n (slice_index p b) t) t b 0 (omega (arith, low, s.next_count, length-set n (slice_index p b) t));
       prev = get_or-set_other (set p t (slice_index p b)) b t t 0 (λ (f : t ≡ b). foreign i b there (sym f)) ∙ get_or-set_same p t (slice_index p b) 0 (omega (arith, low, s.prev_count));
-      behind = get_or-set_same (set p t (slice_index p b)) b t 0 (let x = ring_in s i b within there in omega (arith, x, s.prev_count, length-set p t (slice_index p b)));
+      following = get_or-set_same (set p t (slice_index p b)) b t 0 (let x = ring_in s i b within there in omega (arith, x, s.prev_count, length-set p t (slice_index p b)));
       next_rest = λ k e f. get_or-set_other (set n (slice_index p b) t) t k b 0 f ∙ get_or-set_other n (slice_index p b) k t 0 e;
       prev_rest = λ k e f. get_or-set_other (set p t (slice_index p b)) b k t 0 f ∙ get_or-set_other p t k (slice_index p b) 0 e;
     }

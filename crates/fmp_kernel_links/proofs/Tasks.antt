@@ -71,24 +71,24 @@ first_of-map [] = refl
 first_of-map (x ∷ xs) = refl
 
 -- the items of two parts of a list of tasks
-pub record Parts (xs : List ℕ) (t : Task) (behind : List Task) : Type 0 where
+pub record Parts (xs : List ℕ) (t : Task) (following : List Task) : Type 0 where
   pub before_items : List ℕ
-  pub behind_items : List ℕ
-  pub whole : xs ≡ before_items ++ (t.number - 1) ∷ behind_items
-  pub behind_is : map task_at behind_items ≡ behind
+  pub after_items : List ℕ
+  pub whole : xs ≡ before_items ++ (t.number - 1) ∷ after_items
+  pub after_is : map task_at after_items ≡ following
 
-pub parts_of : (xs : List ℕ) (before behind : List Task) (t : Task) → ((u : ℕ) → has u xs ≡ true → u < 64) → map task_at xs ≡ before ++ t ∷ behind → Parts xs t behind
-parts_of [] [] behind t h e = cc
-parts_of [] (u ∷ before) behind t h e = cc
-parts_of (x ∷ xs) [] behind t h e =
+pub parts_of : (xs : List ℕ) (before following : List Task) (t : Task) → ((u : ℕ) → has u xs ≡ true → u < 64) → map task_at xs ≡ before ++ t ∷ following → Parts xs t following
+parts_of [] [] following t h e = cc
+parts_of [] (u ∷ before) following t h e = cc
+parts_of (x ∷ xs) [] following t h e =
     let same : task_at x ≡ t = cc in
-    let rest : map task_at xs ≡ behind = cc in
+    let rest : map task_at xs ≡ following = cc in
     let at : x ≡ t.number - 1 = omega (arith, ap (λ (u : Task). u.number) same, number_at x (h x (has_here x xs))) in
-    record { before_items = []; behind_items = xs; whole = ap (λ (y : ℕ). y ∷ xs) at; behind_is = rest }
-parts_of (x ∷ xs) (u ∷ before) behind t h e =
-    let rest : map task_at xs ≡ before ++ t ∷ behind = cc in
-    let p = parts_of xs before behind t (λ v g. h v (has_there v x xs g)) rest in
-    record { before_items = x ∷ p.before_items; behind_items = p.behind_items; whole = ap (λ (ys : List ℕ). x ∷ ys) p.whole; behind_is = p.behind_is }
+    record { before_items = []; after_items = xs; whole = ap (λ (y : ℕ). y ∷ xs) at; after_is = rest }
+parts_of (x ∷ xs) (u ∷ before) following t h e =
+    let rest : map task_at xs ≡ before ++ t ∷ following = cc in
+    let p = parts_of xs before following t (λ v g. h v (has_there v x xs g)) rest in
+    record { before_items = x ∷ p.before_items; after_items = p.after_items; whole = ap (λ (ys : List ℕ). x ∷ ys) p.whole; after_is = p.after_is }
 
 pub has_task-append : (u t : Task) (ts : List Task) → has_task u (ts ++ t ∷ []) ≡ (has_task u ts || (u.number == t.number))
 has_task-append u t [] = elim (u.number == t.number) as (λ b. (b || false) ≡ (false || b)) [ true ↦ refl | false ↦ refl ]

@@ -72,32 +72,32 @@ impl<const NODES: usize, const ITEMS: usize> Links<NODES, ITEMS> {
     }
 
     /// An item that stands in no list goes before another one in the list of that.
-    pub fn insert_before(&mut self, list: usize, behind: usize, item: usize)
+    pub fn insert_before(&mut self, list: usize, following: usize, item: usize)
         requires list_in { list < NODES - ITEMS }
-        requires node_in { behind < ITEMS }
-        requires behind_in { has behind (list_at self.old list) ≡ true }
+        requires node_in { following < ITEMS }
+        requires after_in { has following (list_at self.old list) ≡ true }
         requires item_in { item < ITEMS }
         requires nowhere { (i : ℕ) → has item (list_at self.old i) ≡ false }
-        ensures { self.new ≡ insert_before self.old list behind item }
+        ensures { self.new ≡ insert_before self.old list following item }
     {
-        self.put(list, behind, item);
+        self.put(list, following, item);
     }
 
     /// Puts an item into a list before a node, one of its items or its head.
-    fn put(&mut self, list: usize, behind: usize, item: usize)
+    fn put(&mut self, list: usize, following: usize, item: usize)
         requires list_in { list < NODES - ITEMS }
-        requires node_in { behind < NODES }
-        requires behind_in { has behind ((ITEMS + list) ∷ list_at self.old list) ≡ true }
+        requires node_in { following < NODES }
+        requires after_in { has following ((ITEMS + list) ∷ list_at self.old list) ≡ true }
         requires item_in { item < ITEMS }
         requires nowhere { (i : ℕ) → has item (list_at self.old i) ≡ false }
-        ensures lists { self.new ≡ insert_before self.old list behind item }
+        ensures lists { self.new ≡ insert_before self.old list following item }
         ensures head_out { has (ITEMS + list) (list_at self.old list) ≡ false }
     {
-        let ahead = self.prev[behind];
+        let ahead = self.prev[following];
         self.next[ahead as usize] = item as u16;
-        self.next[item] = behind as u16;
+        self.next[item] = following as u16;
         self.prev[item] = ahead;
-        self.prev[behind] = item as u16;
+        self.prev[following] = item as u16;
         self.place[item] = list as u16 + 1;
     }
 
@@ -108,9 +108,9 @@ impl<const NODES: usize, const ITEMS: usize> Links<NODES, ITEMS> {
         ensures { self.new ≡ take_out self.old item }
     {
         let ahead = self.prev[item];
-        let behind = self.next[item];
-        self.next[ahead as usize] = behind;
-        self.prev[behind as usize] = ahead;
+        let following = self.next[item];
+        self.next[ahead as usize] = following;
+        self.prev[following as usize] = ahead;
         self.place[item] = 0;
         self.next[item] = item as u16;
     }
@@ -159,10 +159,10 @@ impl<const NODES: usize, const ITEMS: usize> Links<NODES, ITEMS> {
         self.item_at(self.next[ITEMS + list])
     }
 
-    /// The item behind another one in its list.
+    /// The item after another one in its list.
     pub fn next(&self, item: usize) -> Option<usize>
         requires { item < ITEMS }
-        ensures value { (i : ℕ) (before behind : List ℕ) → list_at self.now i ≡ before ++ item ∷ behind → result ≡ first_of behind }
+        ensures value { (i : ℕ) (before following : List ℕ) → list_at self.now i ≡ before ++ item ∷ following → result ≡ first_of following }
         ensures in_range { IfSome result (λ next. next < ITEMS) }
         ensures disjoint { AreDisjoint ITEMS self.now }
     {

@@ -1,5 +1,5 @@
 //! One list of tasks.
-ghost use Rattle.std.specs.Prelude.{◌≡◌, ◌≤◌, false, true, length, List, [], ◌∷◌, ◌++◌};
+ghost use Rattle.std.specs.Prelude.{◌≡◌, ◌≤◌, ◌&&◌, false, true, is_none, length, List, [], ◌∷◌, ◌++◌};
 ghost use Rattle.fmp_codes.specs.declared.numbers.Task.{Task as AnyTask};
 ghost use Rattle.fmp_kernel_links.specs.Lists.{first_of};
 ghost use Rattle.fmp_kernel_links.specs.Tasks.{has_task, without, inserted, AreDistinct};
@@ -48,12 +48,12 @@ impl TaskList {
     }
 
     /// A task that is not there goes before one that is.
-    pub fn insert_before(&mut self, behind: Task, task: Task)
-        requires there { has_task behind self.old ≡ true }
+    pub fn insert_before(&mut self, following: Task, task: Task)
+        requires there { has_task following self.old ≡ true }
         requires nowhere { has_task task self.old ≡ false }
-        ensures { self.new ≡ inserted behind task self.old }
+        ensures { self.new ≡ inserted following task self.old }
     {
-        self.links.insert_before(0, behind.index(), task.index());
+        self.links.insert_before(0, following.index(), task.index());
     }
 
     /// A task is not there any more. Tells whether it was.
@@ -67,6 +67,20 @@ impl TaskList {
         is_there
     }
 
+    /// Whether no task is there.
+    pub fn is_empty(&self) -> bool
+        ensures { result ≡ is_none (first_of self.now) }
+    {
+        self.first().is_none()
+    }
+
+    /// Whether no task is there and in another list neither. Then both are the same, and their links need no look.
+    pub fn are_empty(&self, other: &Self) -> bool
+        ensures { result ≡ (is_none (first_of self.now) && is_none (first_of other.now)) }
+    {
+        self.is_empty() && other.is_empty()
+    }
+
     /// The first task.
     pub fn first(&self) -> Option<Task>
         ensures value { result ≡ first_of self.now }
@@ -76,9 +90,9 @@ impl TaskList {
         Some(Task::from_index(item))
     }
 
-    /// The task behind another one.
+    /// The task after another one.
     pub fn next(&self, task: Task) -> Option<Task>
-        ensures { (before behind : List AnyTask) → self.now ≡ before ++ task ∷ behind → result ≡ first_of behind }
+        ensures { (before following : List AnyTask) → self.now ≡ before ++ task ∷ following → result ≡ first_of following }
     {
         let item = self.links.next(task.index())?;
         Some(Task::from_index(item))
@@ -108,11 +122,13 @@ impl Part for TaskList {
     ghost fits = { λ a b. Unit {0} };
 
     fn is_same(&self, other: &Self) -> bool {
-        self.links.is_same(&other.links)
+        self.are_empty(other) || self.links.is_same(&other.links)
     }
 
     fn copy_from(&mut self, other: &Self) {
-        self.links.copy_from(&other.links);
+        if !self.are_empty(other) {
+            self.links.copy_from(&other.links);
+        }
     }
 
     /// Adds the tasks, the first one first.

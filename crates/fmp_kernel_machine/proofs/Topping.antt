@@ -24,10 +24,10 @@ small_each q xs long each k =
     ⊎_elim (λ (h : k < 8). subst (λ (n : ℕ). n ≤ 64) (sym (each k h)) (number_small (top_at q k)))
     (λ (h : 8 ≤ k). let nothing : slice_index xs k ≡ 0 = get_or_past xs k 0 (omega (arith, h, long)) in omega (arith, nothing)) (cases_lt k 8)
 
-pub tops_told : (w : World Queues) (xs : List ℕ) (n : ℕ) → n ≡ length w.processors → n ≤ 8 → length xs ≡ 8 →
+pub tops_reported : (w : World Queues) (xs : List ℕ) (n : ℕ) → n ≡ length w.processors → n ≤ 8 → length xs ≡ 8 →
     ((k : ℕ) → k < 8 → slice_index xs k ≡ task_number (top_at w.order.ready k)) → map numbered (take n xs) ≡ tops listed w
 unfolding listed
-tops_told w xs n e few long each =
+tops_reported w xs n e few long each =
     numbers-tell (top listed w) xs n (omega (arith, few, long))
     (λ k h.
     let place : k ≡ (as_proc (k + 1)).number - 1 = omega (arith, h, few) in

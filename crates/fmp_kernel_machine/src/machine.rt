@@ -130,7 +130,7 @@ impl KernelMachine {
         self.assigned.alarm_left(a)
     }
 
-    /// The value at a place behind the oldest one of a data queue, if there are so many.
+    /// The value at a place after the oldest one of a data queue, if there are so many.
     pub fn value(&self, d: Object, index: usize) -> Option<i64>
         ensures { result ≡ slice_get (values self.now d) index }
     {

@@ -244,7 +244,7 @@ impl Resources {
         self.data_queues.get(d)?.first_value()
     }
 
-    /// The value at a place behind the oldest one of a data queue, if there are so many.
+    /// The value at a place after the oldest one of a data queue, if there are so many.
     pub fn value(&self, d: Object, index: usize) -> Option<i64>
         ensures { result ≡ slice_get (item [] self.now.contents d.number) index }
     {

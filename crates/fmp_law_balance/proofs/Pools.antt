@@ -40,7 +40,7 @@ use Rattle.fmp_law_balance.proofs.Objects.{object_known, by_object}
 use Rattle.fmp_law_balance.proofs.Called.{refuses, by_called, not_accepted}
 use Rattle.fmp_law_balance.proofs.LeavesCalls.{leaves_call}
 use Rattle.fmp_law_balance.proofs.Ticks.{leaves_tick}
-use Rattle.fmp_law_balance.proofs.Steps.{told, by_step}
+use Rattle.fmp_law_balance.proofs.Steps.{report, by_step}
 
 -- Marks of blocks.
 
@@ -165,10 +165,10 @@ module _ {Q : Type 0} (k : Ordering Q) (w : World Q) (p : Proc) (m : Object) (b 
   named_by id = unwrap_or (object_named w.pools id) (as_object 1)
 
   abbrev CallHands : Call → World Q × Effect → Type 0
-  CallHands c did = Hands w m b did.0 (told (event.Call p c) (runner_of w p) did.1)
+  CallHands c did = Hands w m b did.0 (report (event.Call p c) (runner_of w p) did.1)
 
   refused_hands : (c : Call) (x : Code) → refuses x ≡ true → CallHands c (w, refused x)
-  refused_hands c x e = nothing_handed w m b (told (event.Call p c) (runner_of w p) (refused x)) (not_accepted x e)
+  refused_hands c x e = nothing_handed w m b (report (event.Call p c) (runner_of w p) (refused x)) (not_accepted x e)
 
   abbrev GetBy : ℤ → World Q × Effect → Type 0
   GetBy id did =
@@ -221,5 +221,5 @@ module _ {Q : Type 0} (k : Ordering Q) (w : World Q) (p : Proc) (m : Object) (b 
 pub hands_step : {Q : Type 0} (k : Ordering Q) (m : Object) (b : ℕ) (w : World Q) → length w.pools ≤ 32 → (e : Event) → Hands w m b (step k w e).0 (step k w e).1
 hands_step k m b w few e =
     by_step k w (Hands w m b) (λ v cs r x ps h. h) (λ p c. hands_call k w p m b few c)
-    (λ p c none. nothing_handed w m b (told (event.Call p c) (runner_of w p) (plain answer.Idle)) refl)
-    (λ p. untouched w m b (tick k w p).0 (leaves_tick k w p).pools) (λ e r a no_call no_e. nothing_handed w m b (told e r (plain a)) no_e) e
+    (λ p c none. nothing_handed w m b (report (event.Call p c) (runner_of w p) (plain answer.Idle)) refl)
+    (λ p. untouched w m b (tick k w p).0 (leaves_tick k w p).pools) (λ e r a no_call no_e. nothing_handed w m b (report e r (plain a)) no_e) e

@@ -42,7 +42,7 @@ use Rattle.fmp_law_balance.proofs.Objects.{object_known, by_object}
 use Rattle.fmp_law_balance.proofs.Called.{refuses, by_called, not_accepted}
 use Rattle.fmp_law_balance.proofs.LeavesCalls.{leaves_call}
 use Rattle.fmp_law_balance.proofs.Ticks.{leaves_tick}
-use Rattle.fmp_law_balance.proofs.Steps.{told, by_step}
+use Rattle.fmp_law_balance.proofs.Steps.{report, by_step}
 
 -- the first in a queue waits in it
 abbrev pub WaitersWait : {Q : Type 0} → Ordering Q → Type 0
@@ -172,16 +172,16 @@ module _ {Q : Type 0} (k : Ordering Q) (wait_there : WaitersWait k) (earlier : L
   named_by id = unwrap_or (object_named w.data_queues id) (as_object 1)
 
   abbrev CallMoves : Call → World Q × Effect → Type 0
-  CallMoves c did = Moves earlier w d did.0 (told (event.Call p c) (runner_of w p) did.1)
+  CallMoves c did = Moves earlier w d did.0 (report (event.Call p c) (runner_of w p) did.1)
 
   refused_moves : (c : Call) (x : Code) → refuses x ≡ true → CallMoves c (w, refused x)
-  refused_moves c x e = nothing_moved earlier w d w (told (event.Call p c) (runner_of w p) (refused x)) refl (not_accepted x e)
+  refused_moves c x e = nothing_moved earlier w d w (report (event.Call p c) (runner_of w p) (refused x)) refl (not_accepted x e)
 
   -- a wait begins, or the timeout was 0
   wait_moves : (c : Call) (t : Task) (x : Wait) (timeout : ℤ) → CallMoves c (wait_for k w t x timeout)
   wait_moves c t x timeout =
       cond_both (is_zero timeout) _ _ (CallMoves c) (λ _. refused_moves c code.TimedOut refl)
-      (λ _. nothing_moved earlier w d (begin_wait k w t x (ticks_of timeout)) (told (event.Call p c) (runner_of w p) (plain answer.Wait)) refl refl)
+      (λ _. nothing_moved earlier w d (begin_wait k w t x (ticks_of timeout)) (report (event.Call p c) (runner_of w p) (plain answer.Wait)) refl refl)
 
   abbrev SendBy : ℤ → ℤ → World Q × Effect → Type 0
   SendBy id x did =
@@ -269,5 +269,5 @@ pub moves_step : {Q : Type 0} (k : Ordering Q) → WaitersWait k → (earlier : 
     Moves earlier w d (step k w e).0 (step k w e).1
 moves_step k wait_there earlier w b d e =
     by_step k w (Moves earlier w d) (λ v cs r x ps h. h) (λ p c. moves_call k wait_there earlier w b p d c)
-    (λ p c none. nothing_moved earlier w d w (told (event.Call p c) (runner_of w p) (plain answer.Idle)) refl refl)
-    (λ p. untouched earlier w d (tick k w p).0 (leaves_tick k w p).contents) (λ e r a no_call no_e. nothing_moved earlier w d w (told e r (plain a)) refl no_e) e
+    (λ p c none. nothing_moved earlier w d w (report (event.Call p c) (runner_of w p) (plain answer.Idle)) refl refl)
+    (λ p. untouched earlier w d (tick k w p).0 (leaves_tick k w p).contents) (λ e r a no_call no_e. nothing_moved earlier w d w (report e r (plain a)) refl no_e) e

@@ -36,7 +36,7 @@ use Rattle.fmp_law_balance.proofs.Objects.{object_known, by_object}
 use Rattle.fmp_law_balance.proofs.Called.{refuses, by_called, not_accepted}
 use Rattle.fmp_law_balance.proofs.LeavesCalls.{leaves_call}
 use Rattle.fmp_law_balance.proofs.Ticks.{leaves_tick}
-use Rattle.fmp_law_balance.proofs.Steps.{told, by_step}
+use Rattle.fmp_law_balance.proofs.Steps.{report, by_step}
 
 module _ {Q : Type 0} (w : World Q) (s : Object) where
   -- from w to v, where this is told
@@ -99,10 +99,10 @@ module _ {Q : Type 0} (k : Ordering Q) (w : World Q) (p : Proc) (s : Object) (fe
   named_by id = unwrap_or (object_named w.semaphores id) (as_object 1)
 
   abbrev CallCounts : Call → World Q × Effect → Type 0
-  CallCounts c did = Counts w s did.0 (told (event.Call p c) (runner_of w p) did.1)
+  CallCounts c did = Counts w s did.0 (report (event.Call p c) (runner_of w p) did.1)
 
   refused_counts : (c : Call) (x : Code) → refuses x ≡ true → CallCounts c (w, refused x)
-  refused_counts c x e = nothing_granted w s (told (event.Call p c) (runner_of w p) (refused x)) (not_accepted x e)
+  refused_counts c x e = nothing_granted w s (report (event.Call p c) (runner_of w p) (refused x)) (not_accepted x e)
 
   -- what a call does, by its argument
   abbrev SignalBy : ℤ → World Q × Effect → Type 0
@@ -161,5 +161,5 @@ module _ {Q : Type 0} (k : Ordering Q) (w : World Q) (p : Proc) (s : Object) (fe
 -- each step keeps the count and what was granted beside what was brought
 pub counts_step : {Q : Type 0} (k : Ordering Q) (s : Object) (w : World Q) → length w.semaphores ≤ 32 → (e : Event) → Counts w s (step k w e).0 (step k w e).1
 counts_step k s w few e =
-    by_step k w (Counts w s) (λ v cs r x ps h. h) (λ p c. counts_call k w p s few c) (λ p c none. nothing_granted w s (told (event.Call p c) (runner_of w p) (plain answer.Idle)) refl)
-    (λ p. untouched w s (tick k w p).0 (leaves_tick k w p).semaphores) (λ e r a no_call no_e. nothing_granted w s (told e r (plain a)) no_e) e
+    by_step k w (Counts w s) (λ v cs r x ps h. h) (λ p c. counts_call k w p s few c) (λ p c none. nothing_granted w s (report (event.Call p c) (runner_of w p) (plain answer.Idle)) refl)
+    (λ p. untouched w s (tick k w p).0 (leaves_tick k w p).semaphores) (λ e r a no_call no_e. nothing_granted w s (report e r (plain a)) no_e) e

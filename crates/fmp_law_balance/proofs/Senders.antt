@@ -45,7 +45,7 @@ use Rattle.fmp_law_balance.proofs.Called.{by_called}
 use Rattle.fmp_law_balance.proofs.Leaving.{IsHandler, AreHandlers, leaves_ready}
 use Rattle.fmp_law_balance.proofs.LeavesCalls.{leaves_call}
 use Rattle.fmp_law_balance.proofs.Ticks.{leaves_tick}
-use Rattle.fmp_law_balance.proofs.Steps.{told, by_step}
+use Rattle.fmp_law_balance.proofs.Steps.{report, by_step}
 
 -- a task that waits to send made the send in its last call
 abbrev pub SentLast : {Q : Type 0} → List Record → World Q → Type 0
@@ -161,7 +161,7 @@ module _ {Q : Type 0} (k : Ordering Q) (w : World Q) (s : Safe k w) (handlers : 
   abbrev After : World Q → Record → Type 0
   After v r = SentLast (r ∷ earlier) v
 
-  sent_call : (p : Proc) (c : Call) → After (called w p (row_of k w p c)).0 (told (event.Call p c) (runner_of w p) (called w p (row_of k w p c)).1)
+  sent_call : (p : Proc) (c : Call) → After (called w p (row_of k w p c)).0 (report (event.Call p c) (runner_of w p) (called w p (row_of k w p c)).1)
   sent_call p c d t x e =
       ⊎_elim
       (λ (old : (task w t).wait ≡ Some (wait.Send d x)).

@@ -25,25 +25,25 @@ use Rattle.fmp_law_safety.proofs.Settling.{settle_is}
 use Rattle.fmp_law_balance.specs.Accepted.{is_accepted}
 
 -- the record of an event that did this, before it is known what runs and who is sent a request
-abbrev pub told : Event → Option Runner → Effect → Record
-told e r did = record { event = e; runner = r; answer = did.answer; releases = did.releases; lost = did.lost; run_change = None; requests = [] }
+abbrev pub report : Event → Option Runner → Effect → Record
+report e r did = record { event = e; runner = r; answer = did.answer; releases = did.releases; lost = did.lost; run_change = None; requests = [] }
 
 -- A law that says nothing of the processors, of the change of the running task and of requests holds of a step where it
 -- holds of what each call does and of what a tick does, and of the answers of which nothing is accepted.
 module _ {Q : Type 0} (k : Ordering Q) (w : World Q) (L : World Q → Record → Type 0)
     (blind : (v : World Q) (cs : List Processor) (r : Record) (x : Option (Option Task)) (ps : List Proc) →
     L v r → L (record v { processors = cs }) (record r { run_change = x; requests = ps }))
-    (calls : (p : Proc) (c : Call) → L (called w p (row_of k w p c)).0 (told (event.Call p c) (runner_of w p) (called w p (row_of k w p c)).1))
-    (idles : (p : Proc) (c : Call) → is_some (runner_of w p) ≡ false → L w (told (event.Call p c) (runner_of w p) (plain answer.Idle)))
-    (ticks : (p : Proc) → L (tick k w p).0 (told (event.Tick p) (runner_of w p) (tick k w p).1))
-    (others : (e : Event) (r : Option Runner) (a : Answer) → is_call e ≡ false → is_accepted a ≡ false → L w (told e r (plain a))) where
+    (calls : (p : Proc) (c : Call) → L (called w p (row_of k w p c)).0 (report (event.Call p c) (runner_of w p) (called w p (row_of k w p c)).1))
+    (idles : (p : Proc) (c : Call) → is_some (runner_of w p) ≡ false → L w (report (event.Call p c) (runner_of w p) (plain answer.Idle)))
+    (ticks : (p : Proc) → L (tick k w p).0 (report (event.Tick p) (runner_of w p) (tick k w p).1))
+    (others : (e : Event) (r : Option Runner) (a : Answer) → is_call e ≡ false → is_accepted a ≡ false → L w (report e r (plain a))) where
   abbrev After : World Q × Record → Type 0
   After after = L after.0 after.1
 
-  ended : (e : Event) (q : Proc) (did : World Q × Effect) → L did.0 (told e (runner_of w q) did.1) → After (settled k (before_event k w e q) did)
+  ended : (e : Event) (q : Proc) (did : World Q × Effect) → L did.0 (report e (runner_of w q) did.1) → After (settled k (before_event k w e q) did)
   unfolding settled before_event
   ended e q did h =
-      subst (λ v. L v (settled k (before_event k w e q) did).1) (sym (settle_is k (tops k w) did.0 q)) (blind did.0 _ (told e (runner_of w q) did.1) _ _ h)
+      subst (λ v. L v (settled k (before_event k w e q) did).1) (sym (settle_is k (tops k w) did.0 q)) (blind did.0 _ (report e (runner_of w q) did.1) _ _ h)
 
   pub by_step : (e : Event) → L (step k w e).0 (step k w e).1
   unfolding unchanged

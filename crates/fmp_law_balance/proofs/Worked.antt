@@ -14,7 +14,7 @@ use Rattle.fmp_codes.specs.declared.records.Event.{Event}
 use Rattle.fmp_codes.specs.declared.records.Record.{Record}
 use Rattle.fmp_setup.specs.declared.setup.Order.TheVariants as order
 use Rattle.fmp_names.specs.Names.{times, is_name, is_object, is_defined, is_reserved, is_processor_word, is_constant}
-use Rattle.fmp_bytes.specs.Bytes.{is_of, behind}
+use Rattle.fmp_bytes.specs.Bytes.{is_of, following}
 use Rattle.fmp_setup.specs.declared.setup.DataQueueSetup.{DataQueueSetup}
 use Rattle.fmp_setup.specs.declared.setup.TaskSetup.{TaskSetup}
 use Rattle.fmp_setup.specs.Setup.{Setup, of_tasks}
@@ -99,7 +99,7 @@ in_limits =
 
 -- the configuration is valid, so the law speaks of its runs
 valid : IsValid objects
-unfolding is_name is_object is_defined is_reserved is_processor_word is_constant is_of behind
+unfolding is_name is_object is_defined is_reserved is_processor_word is_constant is_of following
 valid = record {
   has_processors = lit≤ tt;
   few_processors = lit≤ tt;
@@ -132,8 +132,8 @@ valid = record {
   priorities = in_limits;
 }
 
-abbrev told : List Event → List Record
-told events = answers numbered (booted objects) events
+abbrev report : List Event → List Record
+report events = answers numbered (booted objects) events
 
 abbrev buffered : ℕ → BufferCall → Event
 buffered p c = call_on p (call.Buffer c)
@@ -150,11 +150,11 @@ sending =
     ∷ buffered 1 (buffer.RcvDtq (pos 1))
     ∷ []
 
-values_in : puts (as_object 1) [] (told sending) ≡ pos 1 ∷ pos 3 ∷ pos 2 ∷ []
+values_in : puts (as_object 1) [] (report sending) ≡ pos 1 ∷ pos 3 ∷ pos 2 ∷ []
 unfolding numbered before_event settled unchanged tsnd_dtq fsnd_dtq trcv_dtq
 values_in = refl
 
-values_out : flat_map (out_by (as_object 1)) (told sending) ≡ pos 1 ∷ pos 3 ∷ []
+values_out : flat_map (out_by (as_object 1)) (report sending) ≡ pos 1 ∷ pos 3 ∷ []
 unfolding numbered before_event settled unchanged tsnd_dtq fsnd_dtq trcv_dtq
 values_out = refl
 
@@ -172,11 +172,11 @@ getting =
     ∷ buffered 1 (buffer.RelMpf (pos 1) (pos 0))
     ∷ []
 
-block_0 : sum_by (handed_out (as_object 1) 0) (told getting) ∷ sum_by (given_back (as_object 1) 0) (told getting) ∷ [] ≡ 1 ∷ 1 ∷ []
+block_0 : sum_by (handed_out (as_object 1) 0) (report getting) ∷ sum_by (given_back (as_object 1) 0) (report getting) ∷ [] ≡ 1 ∷ 1 ∷ []
 unfolding numbered before_event settled unchanged tget_mpf pget_mpf rel_mpf
 block_0 = refl
 
-block_1 : sum_by (handed_out (as_object 1) 1) (told getting) ∷ sum_by (given_back (as_object 1) 1) (told getting) ∷ [] ≡ 2 ∷ 1 ∷ []
+block_1 : sum_by (handed_out (as_object 1) 1) (report getting) ∷ sum_by (given_back (as_object 1) 1) (report getting) ∷ [] ≡ 2 ∷ 1 ∷ []
 unfolding numbered before_event settled unchanged tget_mpf pget_mpf rel_mpf
 block_1 = refl
 
@@ -189,7 +189,7 @@ signalling =
     ∷ signalled 1 (sync.SigSem (pos 1))
     ∷ []
 
-units : sum_by (brought (as_object 1)) (told signalling) ∷ sum_by (granted (as_object 1)) (told signalling) ∷ (semaphore (replay numbered (booted objects) signalling) (as_object 1)).count ∷ []
+units : sum_by (brought (as_object 1)) (report signalling) ∷ sum_by (granted (as_object 1)) (report signalling) ∷ (semaphore (replay numbered (booted objects) signalling) (as_object 1)).count ∷ []
     ≡ 2 ∷ 2 ∷ 1 ∷ []
 unfolding numbered before_event settled unchanged sig_sem twai_sem
 units = refl

@@ -44,16 +44,16 @@ contained p (y ∷ ys) x e =
       | inr f ↦ let rest = contained p ys x (rw f at e) in let lt = rest.1 in (suc rest.0, omega (arith, lt), rest.2)
     ]
 
-behind : (a x : Attribute) (xs : List Attribute) (k : ℕ) → k < length (x ∷ xs) → slice_index_or (x ∷ xs) k a ≡ a → bytes_eq (text_of x) (text_of a) ≡ false → Contains xs a
-behind a x xs zero lt e other = absurd (false≢true (sym other ∙ (bytes_eq-Decides (text_of x) (text_of a)).1 (ap text_of e)))
-behind a x xs (suc k) lt e other = (k, omega (arith, lt), e)
+following : (a x : Attribute) (xs : List Attribute) (k : ℕ) → k < length (x ∷ xs) → slice_index_or (x ∷ xs) k a ≡ a → bytes_eq (text_of x) (text_of a) ≡ false → Contains xs a
+following a x xs zero lt e other = absurd (false≢true (sym other ∙ (bytes_eq-Decides (text_of x) (text_of a)).1 (ap text_of e)))
+following a x xs (suc k) lt e other = (k, omega (arith, lt), e)
 
 found : (allowed : List Attribute) (a : Attribute) → Contains allowed a → find (λ b. bytes_eq (text_of b) (text_of a)) allowed ≡ Some a
 found [] a has = absurd (let lt = has.1 in omega (arith, lt))
 found (x ∷ xs) a has =
     elim (cases_Bool (bytes_eq (text_of x) (text_of a))) [
       | inl t ↦ rw t (ap (λ (b : Attribute). Some b) (one_text a x ((bytes_eq-Decides (text_of x) (text_of a)).0 t)))
-      | inr f ↦ rw f (found xs a (behind a x xs has.0 has.1 has.2 f))
+      | inr f ↦ rw f (found xs a (following a x xs has.0 has.1 has.2 f))
     ]
 
 module _ (allowed : List Attribute) where

@@ -127,7 +127,7 @@ more_say line n num t words =
       | inr none ↦ rw none (skipping words)
     ]
 
--- what is read behind `define`
+-- what is read after `define`
 pub defining : (line : ℕ) (words : List Lexeme) → list_all is_glyph (map glyph_of words) ≡ true
     → (directive : Directive) × (read (Naming line) words ≡ Ok directive) × Says line (identifier (codes "define") ∷ map glyph_of words) directive
 unfolding each

@@ -1,4 +1,4 @@
--- A fault of a configuration text is found at its token: those before it are read without one, and nothing behind it is read.
+-- A fault of a configuration text is found at its token: those before it are read without one, and nothing after it is read.
 use Rattle.std.proofs.Common.{◌≡◌, ℕ, ◌≤◌, ◌⊎◌, Bool, true, false, cond, ltb, inl, inr, List, [], ◌∷◌, ◌++◌, length, Option, Some, None, Result, Ok, Err, refl, sym, ap, ◌∙◌}
 use Rattle.std.specs.Option.{option_map_or}
 use Rattle.std.proofs.lemmas.Bool.{le-ltb, ltb-true, ltb-false}
@@ -83,16 +83,16 @@ record IsStopped (s : State) (tokens : List Lexeme) (fault : Fault) : Type 0 whe
 stopped : (s : State) (tokens : List Lexeme) (fault : Fault) → each take_token s tokens ≡ Err fault → IsStopped s tokens fault
 unfolding each
 stopped s [] fault e = absurd cc
-stopped s (t ∷ tokens) fault e = by (λ next behind. stopped next tokens fault behind) (take_token s t) refl e
+stopped s (t ∷ tokens) fault e = by (λ next following. stopped next tokens fault following) (take_token s t) refl e
   where
     same : (a b : Fault) → ◌≡◌ {A = Result State Fault} (Err a) (Err b) → a ≡ b
     same a b e = cc
 
     by : ((next : State) → each take_token next tokens ≡ Err fault → IsStopped next tokens fault) → (one : Result State Fault) → take_token s t ≡ one → (one >>= λ next. each take_token next tokens) ≡ Err fault → IsStopped s (t ∷ tokens) fault
-    by behind (Err other) is e =
+    by following (Err other) is e =
         record { before = []; token = t; rest = tokens; between = s; parts = refl; read = each-none take_token s; stops = is ∙ ap (λ (f : Fault). Err f) (same other fault e) }
-    by behind (Ok next) is e =
-        let more = behind next e in
+    by following (Ok next) is e =
+        let more = following next e in
         record {
           before = t ∷ more.before;
           token = more.token;
@@ -125,7 +125,7 @@ at_token text fault s =
       never = λ other more c are says.
           no_fault c fault (sym (setup_read other c says) ∙ ap (λ (ts : List Lexeme). each take_token at_start ts >>= λ s. finished s (lexed_text other).end) are
           ∙ ap (λ (r : Result State Fault). r >>= λ s. finished s (lexed_text other).end) (goes more));
-      told = λ other more are fits. with_tokens other (s.before ++ (s.token ∷ more)) (Err fault) fits are (goes more);
+      report = λ other more are fits. with_tokens other (s.before ++ (s.token ∷ more)) (Err fault) fits are (goes more);
     }
 
 -- ---- whole texts

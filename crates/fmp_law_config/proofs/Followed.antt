@@ -24,7 +24,7 @@ use Rattle.fmp_law_config.proofs.Statements.{says_judged}
 use Rattle.fmp_law_config.proofs.Bounded.{adds_bounded, says_bounded}
 use Rattle.fmp_law_config.proofs.Glyphs.{is_glyph}
 use Rattle.fmp_law_config.proofs.Scans.{Remains}
-use Rattle.fmp_law_config.proofs.Forms.{is_behind, is_sound, sound, mark_at}
+use Rattle.fmp_law_config.proofs.Forms.{is_after, is_sound, sound, mark_at}
 use Rattle.fmp_law_config.proofs.Taken.{taken, goes_on, completes, moved}
 use Rattle.fmp_law_config.proofs.Steps.{outside, class_ended, statement_begun, form_goes_on, form_completed}
 use Rattle.fmp_law_config.proofs.Entries.{Entry, Token, Define, Skip, element_of, entry_in, AreTokens}
@@ -50,8 +50,8 @@ first_token : (entries : List Entry) (g : Glyph) (elements : List Element) → m
 first_token [] g elements e are = absurd cc
 first_token (Token t ∷ entries) g elements e are =
     let here : glyph_of t ≡ g = cc in
-    let behind : map element_of entries ≡ elements = cc in
-    record { t = t; others = entries; parts = refl; is = here; plain = are.0.0; glyph = are.0.1; others_are = behind; tokens_are = are.1 }
+    let following : map element_of entries ≡ elements = cc in
+    record { t = t; others = entries; parts = refl; is = here; plain = are.0.0; glyph = are.0.1; others_are = following; tokens_are = are.1 }
 first_token (Define line word number ∷ entries) g elements e are = absurd cc
 first_token (Skip ∷ entries) g elements e are = absurd cc
 
@@ -71,8 +71,8 @@ first_definition (Token t ∷ entries) name number elements e are = absurd cc
 first_definition (Define line word n ∷ entries) name number elements e are =
     let here : word.text ≡ name = cc in
     let same : n ≡ number = cc in
-    let behind : map element_of entries ≡ elements = cc in
-    record { line = line; word = word; others = entries; parts = ap (λ (x : ℕ). Define line word x ∷ entries) same; is = here; named = ap is_name (sym here) ∙ are.0; others_are = behind; tokens_are = are.1 }
+    let following : map element_of entries ≡ elements = cc in
+    record { line = line; word = word; others = entries; parts = ap (λ (x : ℕ). Define line word x ∷ entries) same; is = here; named = ap is_name (sym here) ∙ are.0; others_are = following; tokens_are = are.1 }
 first_definition (Skip ∷ entries) name number elements e are = absurd cc
 
 pub record FirstSkip (entries : List Entry) (elements : List Element) : Type 0 where
@@ -85,7 +85,7 @@ first_skip : (entries : List Entry) (elements : List Element) → map element_of
 first_skip [] elements e are = absurd cc
 first_skip (Token t ∷ entries) elements e are = absurd cc
 first_skip (Define line word n ∷ entries) elements e are = absurd cc
-first_skip (Skip ∷ entries) elements e are = let behind : map element_of entries ≡ elements = cc in record { others = entries; parts = refl; others_are = behind; tokens_are = are }
+first_skip (Skip ∷ entries) elements e are = let following : map element_of entries ≡ elements = cc in record { others = entries; parts = refl; others_are = following; tokens_are = are }
 
 none_first : (entries : List Entry) → map element_of entries ≡ [] → entries ≡ []
 none_first [] e = refl
@@ -117,7 +117,7 @@ ends_at entries d to bounded e same = (d, ap (λ (es : List Entry). each entry_i
 -- one that is read, up to here
 pub record Open (f : Form) (phrase : Phrase) (glyphs : List Glyph) : Type 0 where
   pub remains : Remains f phrase glyphs
-  pub behind : is_behind f.scan f.rest ≡ true
+  pub following : is_after f.scan f.rest ≡ true
   pub sound : is_sound f.rest ≡ true
 
 some_left : (glyphs : List Glyph) (last : Glyph) → (first : Glyph) × (others : List Glyph) × (glyphs ++ last ∷ [] ≡ first ∷ others)
@@ -128,8 +128,8 @@ last_reaches : (entries : List Entry) (d : Draft) (f : Form) (phrase : Phrase) (
     → Says (stage_of d) f.name phrase to → Reach d (Some f) entries to
 last_reaches entries d f phrase last to bounded e are o says =
     let first = first_token entries last [] e are in
-    let k = taken f first.t first.glyph phrase [] o.behind o.sound (subst (λ (g : Glyph). Remains f phrase (g ∷ [])) (sym first.is) o.remains) in
-    let whole = completes k.next phrase k.behind k.sound k.remains in
+    let k = taken f first.t first.glyph phrase [] o.following o.sound (subst (λ (g : Glyph). Remains f phrase (g ∷ [])) (sym first.is) o.remains) in
+    let whole = completes k.next phrase k.following k.sound k.remains in
     let name = (moved f first.t k.next k.read).name in
     let said = says_judged d bounded k.next to k.next.name (subst (λ (n : StatementName). Says (stage_of d) n (phrase_of k.next.pieces) to) (sym name) (subst (λ (p : Phrase). Says (stage_of d) f.name p to) whole.1 says)) in
     token_reaches entries d (Some f) to first.t first.others said.0 None first.parts (form_completed d f first.t first.plain k.next said.0 k.read whole.0 said.1) (ends_at first.others said.0 to (subst (λ (s : Stage). IsBounded s.setup) said.2 (says_bounded (stage_of d) to f.name phrase bounded says)) first.others_are said.2)
@@ -140,11 +140,11 @@ inner_reaches [] entries d f phrase last between to bounded e are o adds says =
     last_reaches entries d f phrase last to bounded e are o (subst (λ (s : Stage). Says s f.name phrase to) adds says)
 inner_reaches (Plain g ∷ inner) entries d f phrase last between to bounded e are o adds says =
     let first = first_token entries g (inner ++ Plain last ∷ []) e are in
-    let k = taken f first.t first.glyph phrase (plain_of inner ++ last ∷ []) o.behind o.sound (subst (λ (x : Glyph). Remains f phrase (x ∷ (plain_of inner ++ last ∷ []))) (sym first.is) o.remains) in
+    let k = taken f first.t first.glyph phrase (plain_of inner ++ last ∷ []) o.following o.sound (subst (λ (x : Glyph). Remains f phrase (x ∷ (plain_of inner ++ last ∷ []))) (sym first.is) o.remains) in
     let left = some_left (plain_of inner) last in
     let more = goes_on k.next phrase left.0 left.1 (subst (λ (gs : List Glyph). Remains k.next phrase gs) left.2 k.remains) in
     let name = (moved f first.t k.next k.read).name in
-    let r = inner_reaches inner first.others d k.next phrase last between to bounded first.others_are first.tokens_are (record { remains = k.remains; behind = k.behind; sound = k.sound }) adds
+    let r = inner_reaches inner first.others d k.next phrase last between to bounded first.others_are first.tokens_are (record { remains = k.remains; following = k.following; sound = k.sound }) adds
     (subst (λ (n : StatementName). Says between n phrase to) (sym name) says) in
     token_reaches entries d (Some f) to first.t first.others d (Some k.next) first.parts (form_goes_on d f first.t first.plain k.next k.read more) r
 inner_reaches (Defined name number ∷ inner) entries d f phrase last between to bounded e are o adds says =
@@ -172,7 +172,7 @@ clause_reaches (Statement name phrase definitions) elements entries d to bounded
     let first = first_token entries (identifier (text_of name)) (s.inner ++ Plain s.last ∷ []) (e ∙ s.elements_are) are in
     let step = statement_begun d first.t name first.is (stands d name says.1) in
     let adds = subst (λ (ds : List Definition). AddsAll (stage_of d) ds says.0) (sym s.definitions_are) says.2 in
-    let r = inner_reaches s.inner first.others d (begun name first.t.line) phrase s.last says.0 to bounded first.others_are first.tokens_are (record { remains = s.parts_are; behind = refl; sound = sound name }) adds says.3 in
+    let r = inner_reaches s.inner first.others d (begun name first.t.line) phrase s.last says.0 to bounded first.others_are first.tokens_are (record { remains = s.parts_are; following = refl; sound = sound name }) adds says.3 in
     token_reaches entries d None to first.t first.others d (Some (begun name first.t.line)) first.parts step r
 clause_reaches EndOfClass elements entries d to bounded e are s says =
     let first = first_token entries (symbol 125) [] (e ∙ s) are in
@@ -207,9 +207,9 @@ parted [] rest entries e are = record { prefix = []; back = entries; parts = ref
 parted (element ∷ first) rest [] e are = absurd cc
 parted (element ∷ first) rest (entry ∷ entries) e are =
     let here : element_of entry ≡ element = cc in
-    let behind : map element_of entries ≡ first ++ rest = cc in
+    let following : map element_of entries ≡ first ++ rest = cc in
     let more = prefix_more entry entries are in
-    let p = parted first rest entries behind more.0 in
+    let p = parted first rest entries following more.0 in
     let first_are = p.prefix_are in
     record {
       prefix = entry ∷ p.prefix;

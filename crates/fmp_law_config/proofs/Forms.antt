@@ -24,7 +24,7 @@ use Rattle.fmp_law_config.specs.Phrases.{Phrase, with_word, with_words, may_be, 
 use Rattle.fmp_law_config.proofs.Stages.{phrase_of}
 use Rattle.fmp_law_config.proofs.Glyphs.{lexeme, is_glyph, is_mark-same}
 use Rattle.fmp_law_config.proofs.Nested.{Nested, steps}
-use Rattle.fmp_law_config.proofs.Scans.{behind_first, SpellsScan, item_kept, item_is, first_and_rest}
+use Rattle.fmp_law_config.proofs.Scans.{after_first, SpellsScan, item_kept, item_is, first_and_rest}
 
 -- ---- parts that end before what follows them
 
@@ -38,15 +38,15 @@ abbrev pub is_barrier : List Part → Bool
 is_barrier (parts.Mark c ∷ rest) = eqb c 44 || eqb c 125
 is_barrier _ = false
 
-abbrev pub is_behind : Scan → List Part → Bool
-is_behind (Next byte item) rest = is_apart byte rest
-is_behind (More byte item) rest = is_apart byte rest
-is_behind (Free depth taken) rest = is_barrier rest
-is_behind _ rest = true
+abbrev pub is_after : Scan → List Part → Bool
+is_after (Next byte item) rest = is_apart byte rest
+is_after (More byte item) rest = is_apart byte rest
+is_after (Free depth taken) rest = is_barrier rest
+is_after _ rest = true
 
 abbrev pub is_sound : List Part → Bool
 is_sound [] = true
-is_sound (part ∷ rest) = is_behind (scan_of part) rest && is_sound rest
+is_sound (part ∷ rest) = is_after (scan_of part) rest && is_sound rest
 
 -- so do those of each statement
 pub sound : (name : StatementName) → is_sound (parts_of name) ≡ true
@@ -74,7 +74,7 @@ module _ (Follows : Phrase → List Glyph → Type 0) (t : Lexeme) (is : is_glyp
   -- the part goes on with the token
   abbrev pub GoesOn : Scan → Type 0
   GoesOn scan =
-      (next : Scan) × (next_of scan t ≡ Some next) × SpellsScan next Follows (phrase_of (kept_from scan (word_of t) pieces)) glyphs × ((rest : List Part) → is_behind scan rest ≡ true → is_behind next rest ≡ true)
+      (next : Scan) × (next_of scan t ≡ Some next) × SpellsScan next Follows (phrase_of (kept_from scan (word_of t) pieces)) glyphs × ((rest : List Part) → is_after scan rest ≡ true → is_after next rest ≡ true)
 
   -- or has ended before it
   abbrev pub Takes : Scan → Type 0
@@ -96,8 +96,8 @@ module _ (Follows : Phrase → List Glyph → Type 0) (t : Lexeme) (is : is_glyp
       let here : s.0 ≡ glyph_of t = cc in
       let others : s.1 ≡ glyphs = cc in
       let test : is_item item t ≡ true = item_is item t ∙ ap (may_be item) (sym here) ∙ s.3 in
-      let behind = subst (λ (g : Glyph). Follows (with_word item g.text (phrase_of pieces)) s.1) here s.4 in
-      let kept = subst (λ (p : Phrase). Follows p s.1) (sym (item_kept item (word_of t) pieces)) behind in
+      let following = subst (λ (g : Glyph). Follows (with_word item g.text (phrase_of pieces)) s.1) here s.4 in
+      let kept = subst (λ (p : Phrase). Follows p s.1) (sym (item_kept item (word_of t) pieces)) following in
       (Nothing, rw test refl, subst (λ (gs : List Glyph). Follows (phrase_of (kept_from (One item) (word_of t) pieces)) gs) others kept, λ rest b. refl)
 
   next_takes : (byte : ℕ) (item : Item) (words others : List Glyph) → glyph_of t ∷ glyphs ≡ separated (symbol byte) words ++ others → 1 ≤ length words → list_all (may_be item) words ≡ true
@@ -107,22 +107,22 @@ module _ (Follows : Phrase → List Glyph → Type 0) (t : Lexeme) (is : is_glyp
   next_takes byte item (w ∷ words) others e some all k =
       let whole = e ∙ ap (λ (gs : List Glyph). gs ++ others) (first_and_rest (symbol byte) w words) in
       let here : w ≡ glyph_of t = cc in
-      let behind : glyphs ≡ behind_first (symbol byte) words ++ others = cc in
+      let following : glyphs ≡ after_first (symbol byte) words ++ others = cc in
       let each_is = and_parts (may_be item w) (list_all (may_be item) words) all in
       let test : is_item item t ≡ true = item_is item t ∙ ap (may_be item) (sym here) ∙ each_is.0 in
       let said = subst (λ (g : Glyph). Follows (with_words item words (with_word item g.text (phrase_of pieces))) others) here k in
       let kept = subst (λ (p : Phrase). Follows (with_words item words p) others) (sym (item_kept item (word_of t) pieces)) said in
-      (More byte item, rw test refl, (words, others, behind, each_is.1, kept), λ rest b. b)
+      (More byte item, rw test refl, (words, others, following, each_is.1, kept), λ rest b. b)
 
-  more_takes : (byte : ℕ) (item : Item) (words others : List Glyph) → glyph_of t ∷ glyphs ≡ behind_first (symbol byte) words ++ others → list_all (may_be item) words ≡ true
+  more_takes : (byte : ℕ) (item : Item) (words others : List Glyph) → glyph_of t ∷ glyphs ≡ after_first (symbol byte) words ++ others → list_all (may_be item) words ≡ true
       → Follows (with_words item words (phrase_of pieces)) others → Takes (More byte item)
   unfolding next_of
   more_takes byte item [] others e all k = inr (refl, subst (λ (gs : List Glyph). Follows (phrase_of pieces) gs) (sym e) k)
   more_takes byte item (w ∷ words) others e all k =
       let here : glyph_of t ≡ symbol byte = cc in
-      let behind : glyphs ≡ separated (symbol byte) (w ∷ words) ++ others = cc in
+      let following : glyphs ≡ separated (symbol byte) (w ∷ words) ++ others = cc in
       let test = mark_at byte t here in
-      inl (Next byte item, rw test refl, (w ∷ words, others, behind, omega arith, all, k), λ rest b. b)
+      inl (Next byte item, rw test refl, (w ∷ words, others, following, omega arith, all, k), λ rest b. b)
 
   free_takes : (depth : ℕ) (taken : Bool) (piece others : List Glyph) → glyph_of t ∷ glyphs ≡ piece ++ others → Nested depth piece → (taken ≡ true) ⊎ (1 ≤ length piece)
       → Follows (phrase_of pieces) others → Takes (Free depth taken)
@@ -133,9 +133,9 @@ module _ (Follows : Phrase → List Glyph → Type 0) (t : Lexeme) (is : is_glyp
       inr (rw (zero, yes) refl, subst (λ (gs : List Glyph). Follows (phrase_of pieces) gs) (sym e) k)
   free_takes depth taken (w ∷ piece) others e n some k =
       let here : w ≡ glyph_of t = cc in
-      let behind : glyphs ≡ piece ++ others = cc in
+      let following : glyphs ≡ piece ++ others = cc in
       let step = steps depth t.line piece (glyph_of t) is (subst (λ (g : Glyph). Nested depth (g ∷ piece)) here n) in
-      inl (Free step.0 true, step.1, (piece, others, behind, step.2, inl refl, k), λ rest b. b)
+      inl (Free step.0 true, step.1, (piece, others, following, step.2, inl refl, k), λ rest b. b)
 
   method_takes : SpellsScan Method Follows (phrase_of pieces) (glyph_of t ∷ glyphs) → GoesOn Method
   unfolding next_of next_method
@@ -221,7 +221,7 @@ module _ (before after : Phrase) (t : Lexeme) (glyphs : List Glyph) where
   free_stops (parts.Free ∷ rest) b s = absurd (false≢true b)
   free_stops (parts.Method ∷ rest) b s = absurd (false≢true b)
 
-  pub stops : (scan : Scan) (rest : List Part) → may_end scan ≡ true → is_behind scan rest ≡ true → SpellsParts rest before after (glyph_of t ∷ glyphs) → next_of scan t ≡ None
+  pub stops : (scan : Scan) (rest : List Part) → may_end scan ≡ true → is_after scan rest ≡ true → SpellsParts rest before after (glyph_of t ∷ glyphs) → next_of scan t ≡ None
   unfolding next_of
   stops (Mark byte) rest e b s = absurd (false≢true e)
   stops (One item) rest e b s = absurd (false≢true e)

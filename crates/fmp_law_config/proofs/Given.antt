@@ -68,13 +68,13 @@ split : (words rest : List Glyph) (tokens : List Lexeme) → map glyph_of tokens
 split [] rest [] e = absurd cc
 split [] rest (t ∷ tokens) e =
     let here : glyph_of t ≡ end_glyph = cc in
-    let behind : map glyph_of tokens ≡ rest = cc in
-    record { first = []; end = t; others = tokens; parts = refl; first_are = refl; end_is = here; others_are = behind }
+    let following : map glyph_of tokens ≡ rest = cc in
+    record { first = []; end = t; others = tokens; parts = refl; first_are = refl; end_is = here; others_are = following }
 split (w ∷ words) rest [] e = absurd cc
 split (w ∷ words) rest (t ∷ tokens) e =
     let here : glyph_of t ≡ w = cc in
-    let behind : map glyph_of tokens ≡ words ++ (end_glyph ∷ rest) = cc in
-    let s = split words rest tokens behind in
+    let following : map glyph_of tokens ≡ words ++ (end_glyph ∷ rest) = cc in
+    let s = split words rest tokens following in
     let words_are = s.first_are in
     record { first = t ∷ s.first; end = s.end; others = s.others; parts = ap (λ (ts : List Lexeme). t ∷ ts) s.parts; first_are = rw (here, words_are) refl; end_is = s.end_is; others_are = s.others_are }
 
@@ -95,8 +95,8 @@ lead words rest [] e = absurd cc
 lead words rest (t ∷ tokens) e =
     let whole = e ∙ directive_and_rest words rest in
     let here : glyph_of t ≡ record { kind = kinds.Directive; text = [] } = cc in
-    let behind : map glyph_of tokens ≡ words ++ (end_glyph ∷ rest) = cc in
-    let s = split words rest tokens behind in
+    let following : map glyph_of tokens ≡ words ++ (end_glyph ∷ rest) = cc in
+    let s = split words rest tokens following in
     record {
       hash = t;
       first = s.first;
@@ -132,9 +132,9 @@ module _ (elements : List Element) (tokens : List Lexeme) (words rest : List Gly
         read = λ d f last e.
             let p = each_parts entry_in (outside d f) last (Define l.hash.line w.word number) r.entries e in
             let q = bind_parts (define d l.hash.line w.word number) (λ after. Ok (outside after f)) p.0 p.1 in
-            let behind = r.read q.0 f last (ap (λ (x : State). each entry_in x r.entries) (ok_is (outside q.0 f) p.0 q.2) ∙ p.2) in
+            let following = r.read q.0 f last (ap (λ (x : State). each entry_in x r.entries) (ok_is (outside q.0 f) p.0 q.2) ∙ p.2) in
             ap (λ (ts : List Lexeme). each take_token (outside d f) ts) l.parts
-            ∙ whole_taken d f l.hash l.first l.end whole l.others (directives.Defining l.hash.line w.word number) q.0 w.is (definition_ends d l.hash.line w.word number ∙ q.1) ∙ behind;
+            ∙ whole_taken d f l.hash l.first l.end whole l.others (directives.Defining l.hash.line w.word number) q.0 w.is (definition_ends d l.hash.line w.word number ∙ q.1) ∙ following;
       }
 
   skipped_entered : list_all is_glyph words ≡ true → Skips words → EntriesOf (Skipped ∷ elements) tokens
@@ -147,9 +147,9 @@ module _ (elements : List Element) (tokens : List Lexeme) (words rest : List Gly
         tokens_are = r.tokens_are;
         read = λ d f last e.
             let p = each_parts entry_in (outside d f) last Skip r.entries e in
-            let behind = r.read d f last (ap (λ (x : State). each entry_in x r.entries) (ok_is (outside d f) p.0 p.1) ∙ p.2) in
+            let following = r.read d f last (ap (λ (x : State). each entry_in x r.entries) (ok_is (outside d f) p.0 p.1) ∙ p.2) in
             ap (λ (ts : List Lexeme). each take_token (outside d f) ts) l.parts
-            ∙ whole_taken d f l.hash l.first l.end whole l.others w.0 d w.1 (idle_ends d w.0 w.2) ∙ behind;
+            ∙ whole_taken d f l.hash l.first l.end whole l.others w.0 d w.1 (idle_ends d w.0 w.2) ∙ following;
       }
 
 token_entered : (elements : List Element) (t : Lexeme) (tokens : List Lexeme) → is_plain (glyph_of t) ≡ true → is_glyph (glyph_of t) ≡ true → EntriesOf elements tokens → EntriesOf (Plain (glyph_of t) ∷ elements) (t ∷ tokens)
@@ -162,8 +162,8 @@ token_entered elements t tokens plain is r =
       read = λ d f last e.
           let p = each_parts entry_in (outside d f) last (Token t) r.entries e in
           let out = keeps d f t p.0 plain p.1 in
-          let behind = r.read p.0.draft p.0.form last (ap (λ (x : State). each entry_in x r.entries) (sym (outside_is p.0 out)) ∙ p.2) in
-          each-cons take_token (outside d f) p.0 t tokens (taken_outside d f t ∙ p.1) ∙ ap (λ (x : State). each take_token x tokens) (outside_is p.0 out) ∙ behind;
+          let following = r.read p.0.draft p.0.form last (ap (λ (x : State). each entry_in x r.entries) (sym (outside_is p.0 out)) ∙ p.2) in
+          each-cons take_token (outside d f) p.0 t tokens (taken_outside d f t ∙ p.1) ∙ ap (λ (x : State). each take_token x tokens) (outside_is p.0 out) ∙ following;
     }
 
 pub entries_of : (elements : List Element) (tokens : List Lexeme) → SpellsElements elements (map glyph_of tokens) → list_all is_glyph (map glyph_of tokens) ≡ true → EntriesOf elements tokens
@@ -173,9 +173,9 @@ entries_of (Plain g ∷ elements) [] s all = absurd (let e = s.1 in cc)
 entries_of (Plain g ∷ elements) (t ∷ tokens) s all =
     let e = s.1 in
     let here : glyph_of t ≡ g = cc in
-    let behind : s.0 ≡ map glyph_of tokens = cc in
+    let following : s.0 ≡ map glyph_of tokens = cc in
     let both = and_parts (is_glyph (glyph_of t)) (list_all is_glyph (map glyph_of tokens)) all in
-    let r = entries_of elements tokens (subst (λ (gs : List Glyph). SpellsElements elements gs) behind s.3) both.1 in
+    let r = entries_of elements tokens (subst (λ (gs : List Glyph). SpellsElements elements gs) following s.3) both.1 in
     subst (λ (x : Glyph). EntriesOf (Plain x ∷ elements) (t ∷ tokens)) here (token_entered elements t tokens (ap is_plain here ∙ s.2) both.0 r)
 entries_of (Defined name number ∷ elements) tokens s all =
     let l = lead s.0 s.1 tokens s.2 in

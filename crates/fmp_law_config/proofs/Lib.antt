@@ -24,4 +24,4 @@ pub mod Given  -- The elements that are spelled are read.
 pub mod Said  -- The clauses of the elements that are read.
 pub mod Followed  -- The elements of clauses are read as what the clauses say.
 pub mod Configured  -- A text that says a configuration is read as that configuration, and a text says what is read of it.
-pub mod FirstFaults  -- A fault of a configuration text is found at its token: those before it are read without one, and nothing behind it is read.
+pub mod FirstFaults  -- A fault of a configuration text is found at its token: those before it are read without one, and nothing after it is read.

@@ -76,17 +76,17 @@ tested_at f (suc (suc (suc (suc (suc (suc (suc zero))))))) low high = refl
 tested_at f (suc (suc (suc (suc (suc (suc (suc (suc zero)))))))) low high = refl
 tested_at f (suc (suc (suc (suc (suc (suc (suc (suc (suc n))))))))) low high = absurd (omega (arith, high))
 
-all_behind : (n : ℕ) → n ≤ 8 → list_all (λ p. ltb n p) (drop n (1 ∷ 2 ∷ 3 ∷ 4 ∷ 5 ∷ 6 ∷ 7 ∷ 8 ∷ [])) ≡ true
-all_behind zero high = refl
-all_behind (suc zero) high = refl
-all_behind (suc (suc zero)) high = refl
-all_behind (suc (suc (suc zero))) high = refl
-all_behind (suc (suc (suc (suc zero)))) high = refl
-all_behind (suc (suc (suc (suc (suc zero))))) high = refl
-all_behind (suc (suc (suc (suc (suc (suc zero)))))) high = refl
-all_behind (suc (suc (suc (suc (suc (suc (suc zero))))))) high = refl
-all_behind (suc (suc (suc (suc (suc (suc (suc (suc zero)))))))) high = refl
-all_behind (suc (suc (suc (suc (suc (suc (suc (suc (suc n))))))))) high = absurd (omega (arith, high))
+all_after : (n : ℕ) → n ≤ 8 → list_all (λ p. ltb n p) (drop n (1 ∷ 2 ∷ 3 ∷ 4 ∷ 5 ∷ 6 ∷ 7 ∷ 8 ∷ [])) ≡ true
+all_after zero high = refl
+all_after (suc zero) high = refl
+all_after (suc (suc zero)) high = refl
+all_after (suc (suc (suc zero))) high = refl
+all_after (suc (suc (suc (suc zero)))) high = refl
+all_after (suc (suc (suc (suc (suc zero))))) high = refl
+all_after (suc (suc (suc (suc (suc (suc zero)))))) high = refl
+all_after (suc (suc (suc (suc (suc (suc (suc zero))))))) high = refl
+all_after (suc (suc (suc (suc (suc (suc (suc (suc zero)))))))) high = refl
+all_after (suc (suc (suc (suc (suc (suc (suc (suc (suc n))))))))) high = absurd (omega (arith, high))
 
 none_tested : (f : ℕ → Bool) (n : ℕ) → ((p : ℕ) → n < p → f p ≡ false) → (ps : List ℕ) → list_all (λ p. ltb n p) ps ≡ true → list_any (λ m. m) (map f ps) ≡ false
 none_tested f n none [] all = refl
@@ -115,5 +115,5 @@ class-begins processors initial numbers few is all =
     let place = same_place processors initial few is in
     let member : slice_index_or (tested f) ((as_proc initial).number - 1) false ≡ f initial = ap (λ (i : ℕ). slice_index_or (tested f) i false) place ∙ tested_at f initial low (omega (arith, high, few)) in
     let past : list_any (λ m. m) (drop processors (tested f)) ≡ false =
-    ap (list_any (λ m. m)) (drop-map f processors (1 ∷ 2 ∷ 3 ∷ 4 ∷ 5 ∷ 6 ∷ 7 ∷ 8 ∷ [])) ∙ none_tested f processors (past_last processors numbers all) (drop processors (1 ∷ 2 ∷ 3 ∷ 4 ∷ 5 ∷ 6 ∷ 7 ∷ 8 ∷ [])) (all_behind processors few) in
+    ap (list_any (λ m. m)) (drop-map f processors (1 ∷ 2 ∷ 3 ∷ 4 ∷ 5 ∷ 6 ∷ 7 ∷ 8 ∷ [])) ∙ none_tested f processors (past_last processors numbers all) (drop processors (1 ∷ 2 ∷ 3 ∷ 4 ∷ 5 ∷ 6 ∷ 7 ∷ 8 ∷ [])) (all_after processors few) in
     rw (member, past) (and-true (f initial))

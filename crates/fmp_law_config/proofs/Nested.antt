@@ -62,17 +62,17 @@ turns token = record {
 
 -- ---- one token
 
-module _ (depth behind opened closed : ℕ) (token : Glyph) (tokens : List Glyph) (turn : Turns token opened closed) (moves : behind + closed ≡ depth + opened) where
-  -- what follows the token is balanced behind it
-  pub nested_behind : Nested depth (token ∷ tokens) → Nested behind tokens
-  nested_behind s = record {
+module _ (depth following opened closed : ℕ) (token : Glyph) (tokens : List Glyph) (turn : Turns token opened closed) (moves : following + closed ≡ depth + opened) where
+  -- what follows the token is balanced after it
+  pub nested_after : Nested depth (token ∷ tokens) → Nested following tokens
+  nested_after s = record {
     allowed = (and_parts (may_be_free token) (list_all may_be_free tokens) s.allowed).1;
     prefixes = λ prefix rest e. let h = s.prefixes (token ∷ prefix) rest (ap (λ (ts : List Glyph). token ∷ ts) e) in omega (arith, h, turn.open_count prefix, turn.close_count prefix, moves);
     balanced = let h = s.balanced in omega (arith, h, turn.open_count tokens, turn.close_count tokens, moves);
     commas = λ prefix rest e. let h = s.commas (token ∷ prefix) rest (ap (λ (ts : List Glyph). token ∷ ts) e) in omega (arith, h, turn.open_count prefix, turn.close_count prefix, moves);
   }
 
-  prefixes_before : Nested behind tokens → (prefix rest : List Glyph) → token ∷ tokens ≡ prefix ++ rest → closes prefix ≤ depth + opens prefix
+  prefixes_before : Nested following tokens → (prefix rest : List Glyph) → token ∷ tokens ≡ prefix ++ rest → closes prefix ≤ depth + opens prefix
   prefixes_before s [] rest e = omega arith
   prefixes_before s (t ∷ prefix) rest e =
       let same : token ≡ t = cc in
@@ -80,7 +80,7 @@ module _ (depth behind opened closed : ℕ) (token : Glyph) (tokens : List Glyph
       let h = s.prefixes prefix rest others in
       rw (← same) (omega (arith, h, turn.open_count prefix, turn.close_count prefix, moves))
 
-  commas_before : Nested behind tokens → (token ≡ symbol 44 → 1 ≤ depth) → (prefix rest : List Glyph) → token ∷ tokens ≡ prefix ++ (symbol 44 ∷ rest) → closes prefix < depth + opens prefix
+  commas_before : Nested following tokens → (token ≡ symbol 44 → 1 ≤ depth) → (prefix rest : List Glyph) → token ∷ tokens ≡ prefix ++ (symbol 44 ∷ rest) → closes prefix < depth + opens prefix
   commas_before s inside [] rest e = let same : token ≡ symbol 44 = cc in let h = inside same in omega (arith, h)
   commas_before s inside (t ∷ prefix) rest e =
       let same : token ≡ t = cc in
@@ -89,7 +89,7 @@ module _ (depth behind opened closed : ℕ) (token : Glyph) (tokens : List Glyph
       rw (← same) (omega (arith, h, turn.open_count prefix, turn.close_count prefix, moves))
 
   -- and before it
-  pub nested_before : may_be_free token ≡ true → (token ≡ symbol 44 → 1 ≤ depth) → Nested behind tokens → Nested depth (token ∷ tokens)
+  pub nested_before : may_be_free token ≡ true → (token ≡ symbol 44 → 1 ≤ depth) → Nested following tokens → Nested depth (token ∷ tokens)
   nested_before allowed inside s = record {
     allowed = and_from (may_be_free token) (list_all may_be_free tokens) allowed s.allowed;
     prefixes = prefixes_before s;
@@ -135,28 +135,28 @@ sort token is =
       ]
     ]
 
--- the reader goes on at this depth, behind which the rest is balanced
+-- the reader goes on at this depth, after which the rest is balanced
 abbrev pub Steps : ℕ → Glyph → ℕ → List Glyph → Type 0
-Steps depth token line tokens = (behind : ℕ) × (next_free depth (lexeme token line) ≡ Some (Free behind true)) × Nested behind tokens
+Steps depth token line tokens = (following : ℕ) × (next_free depth (lexeme token line) ≡ Some (Free following true)) × Nested following tokens
 
 module _ (depth : ℕ) (line : ℕ) (tokens : List Glyph) where
   open_steps : Nested depth (symbol 40 ∷ tokens) → Steps depth (symbol 40) line tokens
   unfolding next_free is_barred is_stop is_of
-  open_steps s = let none = and-false (eqb depth 0) in (depth + 1, rw none refl, nested_behind depth (depth + 1) 1 0 (symbol 40) tokens (turns (symbol 40)) (omega arith) s)
+  open_steps s = let none = and-false (eqb depth 0) in (depth + 1, rw none refl, nested_after depth (depth + 1) 1 0 (symbol 40) tokens (turns (symbol 40)) (omega arith) s)
 
   close_steps : Nested depth (symbol 41 ∷ tokens) → Steps depth (symbol 41) line tokens
   unfolding next_free is_barred is_stop is_of
   close_steps s =
       let some : 1 ≤ depth = (let h = s.prefixes (symbol 41 ∷ []) tokens refl in omega (arith, h, (turns (symbol 41)).open_count [], (turns (symbol 41)).close_count [])) in
       let test : eqb depth 0 ≡ false = ne_eqb depth 0 (λ e. omega (arith, e, some)) in
-      (depth - 1, rw test refl, nested_behind depth (depth - 1) 0 1 (symbol 41) tokens (turns (symbol 41)) (omega (arith, some)) s)
+      (depth - 1, rw test refl, nested_after depth (depth - 1) 0 1 (symbol 41) tokens (turns (symbol 41)) (omega (arith, some)) s)
 
   comma_steps : Nested depth (symbol 44 ∷ tokens) → Steps depth (symbol 44) line tokens
   unfolding next_free is_barred is_stop is_of
   comma_steps s =
       let some : 1 ≤ depth = (let h = s.commas [] tokens refl in omega (arith, h)) in
       let test : eqb depth 0 ≡ false = ne_eqb depth 0 (λ e. omega (arith, e, some)) in
-      (depth, rw test refl, nested_behind depth depth 0 0 (symbol 44) tokens (turns (symbol 44)) (omega arith) s)
+      (depth, rw test refl, nested_after depth depth 0 0 (symbol 44) tokens (turns (symbol 44)) (omega arith) s)
 
   plain_steps : (token : Glyph) → is_glyph token ≡ true → Plain token → Nested depth (token ∷ tokens) → Steps depth token line tokens
   unfolding next_free is_stop
@@ -165,7 +165,7 @@ module _ (depth : ℕ) (line : ℕ) (tokens : List Glyph) where
       let allowed = (and_parts (may_be_free token) (list_all may_be_free tokens) s.allowed).0 in
       let barred : is_barred (lexeme token line) ≡ false = is_barred-is token line is ∙ ap not allowed in
       let a = plain.not_open in let b = plain.not_close in let c = plain.not_comma in
-      (depth, rw (barred, c, b, none, a) refl, nested_behind depth depth 0 0 token tokens plain.turn (omega arith) s)
+      (depth, rw (barred, c, b, none, a) refl, nested_after depth depth 0 0 token tokens plain.turn (omega arith) s)
 
   pub steps : (token : Glyph) → is_glyph token ≡ true → Nested depth (token ∷ tokens) → Steps depth token line tokens
   steps token is s =
@@ -176,9 +176,9 @@ module _ (depth : ℕ) (line : ℕ) (tokens : List Glyph) where
         | inr (inr (inr plain)) ↦ plain_steps token is plain s
       ]
 
--- where the reader goes on, what is balanced behind the token is balanced with it
+-- where the reader goes on, what is balanced after the token is balanced with it
 abbrev pub Stepped : ℕ → Glyph → Scan → Type 0
-Stepped depth token next = (behind : ℕ) × (next ≡ Free behind true) × ((tokens : List Glyph) → Nested behind tokens → Nested depth (token ∷ tokens))
+Stepped depth token next = (following : ℕ) × (next ≡ Free following true) × ((tokens : List Glyph) → Nested following tokens → Nested depth (token ∷ tokens))
 
 abbrev pub GoesOn : ℕ → Glyph → ℕ → Scan → Type 0
 GoesOn depth token line next = next_free depth (lexeme token line) ≡ Some next → Stepped depth token next

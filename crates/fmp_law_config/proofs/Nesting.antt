@@ -9,9 +9,9 @@ use Rattle.fmp_config_tokens.specs.declared.modes.Place.TheVariants as places
 use Rattle.fmp_config_tokens.specs.declared.tokens.TokenKind.{TokenKind}
 use Rattle.fmp_config_tokens.specs.declared.tokens.TokenKind.TheVariants as kinds
 use Rattle.fmp_config_tokens.specs.Lexing.{Lexeme}
-use Rattle.fmp_config_tokens.specs.Steps.{behind}
+use Rattle.fmp_config_tokens.specs.Steps.{following}
 use Rattle.fmp_law_tokens.specs.Parts.{Part, Blank, BlockComment, LineComment, JoinedLine, Identifier, Digits, Symbol, Quoted, Hash, LineEnd, TextEnd, is_directive, is_line_start, is_empty, is_number, stands_alone, opens_comment, may_stand}
-use Rattle.fmp_law_tokens.specs.Tokens.{Glyph, glyph_of, glyphs_of, place_behind, SpellsParts, SpellsTokens}
+use Rattle.fmp_law_tokens.specs.Tokens.{Glyph, glyph_of, glyphs_of, place_after, SpellsParts, SpellsTokens}
 use Rattle.fmp_law_config.specs.Elements.{is_plain}
 use Rattle.fmp_law_config.proofs.Glyphs.{is_glyph}
 
@@ -37,10 +37,10 @@ is_nested within (g ∷ glyphs) = is_allowed within g.kind && is_nested (is_with
 abbrev pub AreNested : Place → List Glyph → Type 0
 AreNested place glyphs = (list_all is_glyph glyphs ≡ true) × (is_nested (is_directive place) glyphs ≡ true)
 
-is_directive-behind : (place : Place) → is_directive (behind place) ≡ is_directive place
-is_directive-behind places.LineStart = refl
-is_directive-behind places.Code = refl
-is_directive-behind places.Directive = refl
+is_directive-following : (place : Place) → is_directive (following place) ≡ is_directive place
+is_directive-following places.LineStart = refl
+is_directive-following places.Code = refl
+is_directive-following places.Directive = refl
 
 line_start : (place : Place) → is_line_start place ≡ true → is_directive place ≡ false
 line_start places.LineStart e = refl
@@ -61,17 +61,17 @@ one_more before after g glyphs is allowed e n = (
   and_from (is_allowed (is_directive before) g.kind) (is_nested (is_within (is_directive before) g.kind) glyphs) allowed (subst (λ (b : Bool). is_nested b glyphs ≡ true) e n.1),
 )
 
-part_nested : (place : Place) (part : Part) (rest : List ℕ) (glyphs : List Glyph) → may_stand place part rest ≡ true → AreNested (place_behind place part) glyphs → AreNested place (glyphs_of part ++ glyphs)
+part_nested : (place : Place) (part : Part) (rest : List ℕ) (glyphs : List Glyph) → may_stand place part rest ≡ true → AreNested (place_after place part) glyphs → AreNested place (glyphs_of part ++ glyphs)
 part_nested place (Blank b) rest glyphs may n = same_place place (cond (eqb b 10) places.LineStart place) glyphs (at_blank place b (and_parts (is_of Space b) _ may).1) n
 part_nested place (BlockComment inner) rest glyphs may n = n
 part_nested place (LineComment inner) rest glyphs may n = n
 part_nested place JoinedLine rest glyphs may n = n
-part_nested place (Identifier word) rest glyphs may n = one_more place (behind place) (record { kind = kinds.Identifier; text = word }) glyphs (and_parts (is_identifier word) _ may).0 refl (is_directive-behind place) n
-part_nested place (Digits word) rest glyphs may n = one_more place (behind place) (record { kind = kinds.Digits; text = word }) glyphs (and_parts (is_number word) _ may).0 refl (is_directive-behind place) n
+part_nested place (Identifier word) rest glyphs may n = one_more place (following place) (record { kind = kinds.Identifier; text = word }) glyphs (and_parts (is_identifier word) _ may).0 refl (is_directive-following place) n
+part_nested place (Digits word) rest glyphs may n = one_more place (following place) (record { kind = kinds.Digits; text = word }) glyphs (and_parts (is_number word) _ may).0 refl (is_directive-following place) n
 part_nested place (Symbol b) rest glyphs may n =
     let alone = not-true (is_of Word b || opens_comment b rest) (and_parts (stands_alone place b rest) _ may).1 in
     let word : not (is_of Word b) ≡ true = (elim (cases_Bool (is_of Word b)) [ inl t ↦ absurd (false≢true (sym (rw t at alone))) | inr f ↦ rw f refl ]) in
-    one_more place (behind place) (record { kind = kinds.Symbol; text = b ∷ [] }) glyphs word refl (is_directive-behind place) n
+    one_more place (following place) (record { kind = kinds.Symbol; text = b ∷ [] }) glyphs word refl (is_directive-following place) n
 part_nested place (Quoted inner) rest glyphs may n = one_more place places.Code (record { kind = kinds.Text; text = [] }) glyphs refl refl (sym (not-true (is_directive place) (and_parts (not (is_directive place)) _ may).0)) n
 part_nested place Hash rest glyphs may n = let e = line_start place may in one_more place places.Directive (record { kind = kinds.Directive; text = [] }) glyphs refl (rw e refl) refl n
 part_nested place LineEnd rest glyphs may n = one_more place places.LineStart (record { kind = kinds.DirectiveEnd; text = [] }) glyphs refl may refl n
@@ -79,7 +79,7 @@ part_nested place TextEnd rest glyphs may n = one_more place places.LineStart (r
 
 parts_nested : (parts : List Part) (place : Place) (text : List ℕ) → SpellsParts place parts text → AreNested place (flat_map glyphs_of parts)
 parts_nested [] place text s = let none = s.1 in (refl, rw none refl)
-parts_nested (part ∷ parts) place text s = part_nested place part s.0 (flat_map glyphs_of parts) s.2 (parts_nested parts (place_behind place part) s.0 s.3)
+parts_nested (part ∷ parts) place text s = part_nested place part s.0 (flat_map glyphs_of parts) s.2 (parts_nested parts (place_after place part) s.0 s.3)
 
 pub tokens_nested : (glyphs : List Glyph) (text : List ℕ) → SpellsTokens glyphs text → (list_all is_glyph glyphs ≡ true) × (is_nested false glyphs ≡ true)
 tokens_nested glyphs text s = subst (λ (gs : List Glyph). AreNested places.LineStart gs) s.tokens (parts_nested s.parts places.LineStart text s.spelled)

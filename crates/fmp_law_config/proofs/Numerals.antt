@@ -2,7 +2,7 @@
 use Rattle.std.proofs.Common.{◌≡◌, ℕ, ◌-◌, ◌^◌, ◌≤◌, ◌<◌, Bool, true, false, eqb, cond, inl, inr, List, [], ◌∷◌, Option, Some, None, Ok, unwrap_or, leb, refl, sym, ap, ◌∙◌, arith, length}
 use Rattle.std.specs.Option.{option_or}
 use Rattle.std.proofs.lemmas.Bool.{and_parts, leb-true, le-leb, false≢true}
-use Rattle.fmp_bytes.specs.Bytes.{behind, is_identifier}
+use Rattle.fmp_bytes.specs.Bytes.{following, is_identifier}
 use Rattle.fmp_bytes.specs.Numerals.{number_of, unsigned_of, hexadecimal_of}
 use Rattle.fmp_bytes.specs.Spelling.{SpellsUnsigned, SpellsNumber as SpellsSigned}
 use Rattle.fmp_bytes.proofs.Spelled.{number_of-spelled, number_of-identifier, number_is_spelled}
@@ -34,7 +34,7 @@ unfolding numeral
 numeral-spelled text n s = rw (number_of-spelled text false n s) refl
 
 nothing : numeral [] ≡ None
-unfolding numeral number_of behind unsigned_of hexadecimal_of
+unfolding numeral number_of following unsigned_of hexadecimal_of
 nothing = refl
 
 -- no numeral has no bytes

@@ -105,7 +105,7 @@ more_rest f g element elements from between to r remains adds name = record {
   others = r.others;
 }
 
--- the draft behind a definition
+-- the draft after a definition
 definition_parts : (d : Draft) (f : Option Form) (line : ℕ) (word : Word) (number : ℕ) (entries : List Entry) (last : State) → each entry_in (outside d f) (Define line word number ∷ entries) ≡ Ok last
     → (after : Draft) × (define d line word number ≡ Ok after) × (each entry_in (outside after f) entries ≡ Ok last)
 definition_parts d f line word number entries last e =

@@ -28,9 +28,9 @@ use Rattle.fmp_law_config.proofs.Glyphs.{is_glyph, is_mark-is}
 use Rattle.fmp_law_config.proofs.Nested.{Nested, nested, free, opens, closes, stepped}
 
 -- the rest of a series, which begins with its mark
-abbrev pub behind_first : Glyph → List Glyph → List Glyph
-behind_first mark [] = []
-behind_first mark (g ∷ glyphs) = mark ∷ separated mark (g ∷ glyphs)
+abbrev pub after_first : Glyph → List Glyph → List Glyph
+after_first mark [] = []
+after_first mark (g ∷ glyphs) = mark ∷ separated mark (g ∷ glyphs)
 
 -- the tokens that go on with a part, and what follows
 abbrev pub SpellsScan : Scan → (Phrase → List Glyph → Type 0) → Phrase → List Glyph → Type 0
@@ -39,7 +39,7 @@ SpellsScan (One item) Follows before glyphs = (word : Glyph) × (others : List G
 SpellsScan (Next byte item) Follows before glyphs =
     (words : List Glyph) × (others : List Glyph) × (glyphs ≡ separated (symbol byte) words ++ others) × (1 ≤ length words) × (list_all (may_be item) words ≡ true) × Follows (with_words item words before) others
 SpellsScan (More byte item) Follows before glyphs =
-    (words : List Glyph) × (others : List Glyph) × (glyphs ≡ behind_first (symbol byte) words ++ others) × (list_all (may_be item) words ≡ true) × Follows (with_words item words before) others
+    (words : List Glyph) × (others : List Glyph) × (glyphs ≡ after_first (symbol byte) words ++ others) × (list_all (may_be item) words ≡ true) × Follows (with_words item words before) others
 SpellsScan (Free depth taken) Follows before glyphs =
     (piece : List Glyph) × (others : List Glyph) × (glyphs ≡ piece ++ others) × Nested depth piece × ((taken ≡ true) ⊎ (1 ≤ length piece)) × Follows before others
 SpellsScan Method Follows before glyphs = SpellsMethod Follows before glyphs
@@ -95,16 +95,16 @@ item_is items.Text t = refl
 
 -- ---- what goes on with a token
 
-pub first_and_rest : (mark g : Glyph) (glyphs : List Glyph) → separated mark (g ∷ glyphs) ≡ g ∷ behind_first mark glyphs
+pub first_and_rest : (mark g : Glyph) (glyphs : List Glyph) → separated mark (g ∷ glyphs) ≡ g ∷ after_first mark glyphs
 first_and_rest mark g [] = refl
 first_and_rest mark g (next ∷ glyphs) = refl
 
-pub mark_and_rest : (mark : Glyph) (glyphs : List Glyph) → 1 ≤ length glyphs → behind_first mark glyphs ≡ mark ∷ separated mark glyphs
+pub mark_and_rest : (mark : Glyph) (glyphs : List Glyph) → 1 ≤ length glyphs → after_first mark glyphs ≡ mark ∷ separated mark glyphs
 mark_and_rest mark [] some = absurd (omega (arith, some))
 mark_and_rest mark (g ∷ glyphs) some = refl
 
 module _ (Follows : Phrase → List Glyph → Type 0) (t : Lexeme) (is : is_glyph (glyph_of t) ≡ true) (pieces : Pieces) (glyphs : List Glyph) where
-  -- what goes on behind the token goes on with it
+  -- what goes on after the token goes on with it
   abbrev pub Extends : Scan → Scan → Type 0
   Extends from next = SpellsScan next Follows (phrase_of (kept_from from (word_of t) pieces)) glyphs → SpellsScan from Follows (phrase_of pieces) (glyph_of t ∷ glyphs)
 
@@ -130,15 +130,15 @@ module _ (Follows : Phrase → List Glyph → Type 0) (t : Lexeme) (is : is_glyp
   more_extends : (byte : ℕ) (item : Item) → is_mark byte t ≡ true → Extends (More byte item) (Next byte item)
   more_extends byte item e s =
       let whole = mark_and_rest (symbol byte) s.0 s.3 in
-      let all : glyph_of t ∷ glyphs ≡ behind_first (symbol byte) s.0 ++ s.1 =
+      let all : glyph_of t ∷ glyphs ≡ after_first (symbol byte) s.0 ++ s.1 =
       ap (λ (g : Glyph). g ∷ glyphs) (is_mark-is byte t e) ∙ ap (λ (gs : List Glyph). symbol byte ∷ gs) s.2 ∙ ap (λ (gs : List Glyph). gs ++ s.1) (sym whole) in
       (s.0, s.1, all, s.4, s.5)
 
   free_extends : (depth : ℕ) (taken : Bool) (next : Scan) → next_free depth t ≡ Some next → Extends (Free depth taken) next
   free_extends depth taken next e s =
       let step = stepped depth t.line next (glyph_of t) is e in
-      let behind = subst (λ (x : Scan). SpellsScan x Follows (phrase_of pieces) glyphs) step.1 s in
-      (glyph_of t ∷ behind.0, behind.1, ap (λ (gs : List Glyph). glyph_of t ∷ gs) behind.2, step.2 behind.0 behind.3, inr (omega arith), behind.5)
+      let following = subst (λ (x : Scan). SpellsScan x Follows (phrase_of pieces) glyphs) step.1 s in
+      (glyph_of t ∷ following.0, following.1, ap (λ (gs : List Glyph). glyph_of t ∷ gs) following.2, step.2 following.0 following.3, inr (omega arith), following.5)
 
   local_extends : bytes_eq t.text (codes "LOCAL") ≡ true → Extends Method Nothing
   local_extends e s = inl (glyphs, glyph_of t, refl, (bytes_eq-Decides t.text (codes "LOCAL")).0 e, s)
@@ -202,8 +202,8 @@ module _ (t : Lexeme) (is : is_glyph (glyph_of t) ≡ true) (after : Phrase) (gl
   entered f part rest next None found e s = absurd (err_is (misfit t) next e)
   entered f part rest next (Some to) found e s =
       let same = ok_is (advanced (record f { rest = rest }) (scan_of part) to t) next e in
-      let behind = subst (λ (x : Form). Remains x after glyphs) (sym same) s in
-      part_from part rest (phrase_of f.pieces) after (glyph_of t ∷ glyphs) (extends (λ words others. SpellsParts rest words after others) t is f.pieces glyphs (scan_of part) to found behind)
+      let following = subst (λ (x : Form). Remains x after glyphs) (sym same) s in
+      part_from part rest (phrase_of f.pieces) after (glyph_of t ∷ glyphs) (extends (λ words others. SpellsParts rest words after others) t is f.pieces glyphs (scan_of part) to found following)
 
   part_stepped : (f : Form) (rest : List Part) (next : Form) → next_part f rest t ≡ Ok next → Remains next after glyphs → SpellsParts rest (phrase_of f.pieces) after (glyph_of t ∷ glyphs)
   unfolding next_part
@@ -217,10 +217,10 @@ module _ (t : Lexeme) (is : is_glyph (glyph_of t) ≡ true) (after : Phrase) (gl
       ends (λ words others. SpellsParts f.rest words after others) f.scan (phrase_of f.pieces) (glyph_of t ∷ glyphs) p.0 (part_stepped f f.rest next p.1 s)
   went_on f next (Some to) found e s =
       let same = ok_is (advanced f f.scan to t) next e in
-      let behind = subst (λ (x : Form). Remains x after glyphs) (sym same) s in
-      extends (λ words others. SpellsParts f.rest words after others) t is f.pieces glyphs f.scan to found behind
+      let following = subst (λ (x : Form). Remains x after glyphs) (sym same) s in
+      extends (λ words others. SpellsParts f.rest words after others) t is f.pieces glyphs f.scan to found following
 
-  -- what remains behind a token that is read remains with it
+  -- what remains after a token that is read remains with it
   pub form_stepped : (f next : Form) → form_step f t ≡ Ok next → Remains next after glyphs → Remains f after (glyph_of t ∷ glyphs)
   unfolding form_step
   form_stepped f next e s = went_on f next (next_of f.scan t) refl e s

@@ -19,7 +19,7 @@ use Rattle.fmp_law_config.proofs.Results.{ok_is, err_is}
 use Rattle.fmp_law_config.proofs.Stages.{phrase_of}
 use Rattle.fmp_law_config.proofs.Glyphs.{is_glyph}
 use Rattle.fmp_law_config.proofs.Scans.{SpellsForm, Remains, part_to}
-use Rattle.fmp_law_config.proofs.Forms.{is_apart, is_barrier, is_behind, is_sound, takes, fresh, stops}
+use Rattle.fmp_law_config.proofs.Forms.{is_apart, is_barrier, is_after, is_sound, takes, fresh, stops}
 
 -- ---- one token more
 
@@ -27,32 +27,32 @@ pub record Taken (f : Form) (t : Lexeme) (after : Phrase) (glyphs : List Glyph) 
   pub next : Form
   pub read : form_step f t ≡ Ok next
   pub remains : Remains next after glyphs
-  pub behind : is_behind next.scan next.rest ≡ true
+  pub following : is_after next.scan next.rest ≡ true
   pub sound : is_sound next.rest ≡ true
 
 module _ (f : Form) (t : Lexeme) (is : is_glyph (glyph_of t) ≡ true) (after : Phrase) (glyphs : List Glyph) where
   entered : (rest : List Part) → is_sound rest ≡ true → SpellsParts rest (phrase_of f.pieces) after (glyph_of t ∷ glyphs)
-      → (next : Form) × (next_part f rest t ≡ Ok next) × Remains next after glyphs × (is_behind next.scan next.rest ≡ true) × (is_sound next.rest ≡ true)
+      → (next : Form) × (next_part f rest t ≡ Ok next) × Remains next after glyphs × (is_after next.scan next.rest ≡ true) × (is_sound next.rest ≡ true)
   unfolding next_part
   entered [] sound s = absurd (let e = s.0 in cc)
   entered (part ∷ rest) sound s =
-      let both = and_parts (is_behind (scan_of part) rest) (is_sound rest) sound in
+      let both = and_parts (is_after (scan_of part) rest) (is_sound rest) sound in
       elim (takes (λ words others. SpellsParts rest words after others) t is f.pieces glyphs (scan_of part) (part_to part rest (phrase_of f.pieces) after (glyph_of t ∷ glyphs) s)) [
         | inl g ↦ let read = g.1 in (advanced (record f { rest = rest }) (scan_of part) g.0 t, rw read refl, g.2, g.3 rest both.0, both.1)
         | inr ended ↦ absurd (fresh part ended.0)
       ]
 
-  pub taken : is_behind f.scan f.rest ≡ true → is_sound f.rest ≡ true → Remains f after (glyph_of t ∷ glyphs) → Taken f t after glyphs
+  pub taken : is_after f.scan f.rest ≡ true → is_sound f.rest ≡ true → Remains f after (glyph_of t ∷ glyphs) → Taken f t after glyphs
   unfolding form_step
-  taken behind sound s =
+  taken following sound s =
       elim (takes (λ words others. SpellsParts f.rest words after others) t is f.pieces glyphs f.scan s) [
-        | inl g ↦ let read = g.1 in record { next = advanced f f.scan g.0 t; read = rw read refl; remains = g.2; behind = g.3 f.rest behind; sound = sound }
+        | inl g ↦ let read = g.1 in record { next = advanced f f.scan g.0 t; read = rw read refl; remains = g.2; following = g.3 f.rest following; sound = sound }
         | inr ended ↦
-            let none = stops (phrase_of f.pieces) after t glyphs f.scan f.rest ended.0 behind ended.1 in
+            let none = stops (phrase_of f.pieces) after t glyphs f.scan f.rest ended.0 following ended.1 in
             let may = ended.0 in
             let n = entered f.rest sound ended.1 in
             let read = n.1 in
-            record { next = n.0; read = rw (none, may) read; remains = n.2; behind = n.3; sound = n.4 }
+            record { next = n.0; read = rw (none, may) read; remains = n.2; following = n.3; sound = n.4 }
       ]
 
 -- ---- the last one
@@ -110,21 +110,21 @@ none_parted (parts.Free ∷ rest) before after sound s =
     absurd (none_barred rest before after both.0 (subst (λ (gs : List Glyph). SpellsParts rest before after gs) (no_prefix s.0 s.1 s.2) s.4))
 none_parted (parts.Method ∷ rest) before after sound s = elim s [ inl local ↦ absurd (let e = local.2 in cc) | inr global ↦ absurd (let e = global.3 in cc) ]
 
-none_left : (scan : Scan) (rest : List Part) (before after : Phrase) → is_behind scan rest ≡ true → is_sound rest ≡ true → SpellsForm scan rest before after [] → Ends scan rest before after
-none_left (Mark byte) rest before after behind sound s = absurd (let e = s.1 in cc)
-none_left (One item) rest before after behind sound s = absurd (let e = s.2 in cc)
-none_left (Next byte item) rest before after behind sound s = absurd (no_separated _ s.0 s.1 s.2 s.3)
-none_left (More byte item) rest before after behind sound s =
-    absurd (none_apart byte rest (with_words item s.0 before) after behind (subst (λ (gs : List Glyph). SpellsParts rest (with_words item s.0 before) after gs) (no_prefix _ s.1 s.2) s.4))
-none_left (Free depth taken) rest before after behind sound s =
-    absurd (none_barred rest before after behind (subst (λ (gs : List Glyph). SpellsParts rest before after gs) (no_prefix s.0 s.1 s.2) s.5))
-none_left Method rest before after behind sound s = elim s [ inl local ↦ absurd (let e = local.2 in cc) | inr global ↦ absurd (let e = global.3 in cc) ]
-none_left Master rest before after behind sound s = absurd (let e = s.2 in cc)
-none_left Nothing rest before after behind sound s = none_parted rest before after sound s
+none_left : (scan : Scan) (rest : List Part) (before after : Phrase) → is_after scan rest ≡ true → is_sound rest ≡ true → SpellsForm scan rest before after [] → Ends scan rest before after
+none_left (Mark byte) rest before after following sound s = absurd (let e = s.1 in cc)
+none_left (One item) rest before after following sound s = absurd (let e = s.2 in cc)
+none_left (Next byte item) rest before after following sound s = absurd (no_separated _ s.0 s.1 s.2 s.3)
+none_left (More byte item) rest before after following sound s =
+    absurd (none_apart byte rest (with_words item s.0 before) after following (subst (λ (gs : List Glyph). SpellsParts rest (with_words item s.0 before) after gs) (no_prefix _ s.1 s.2) s.4))
+none_left (Free depth taken) rest before after following sound s =
+    absurd (none_barred rest before after following (subst (λ (gs : List Glyph). SpellsParts rest before after gs) (no_prefix s.0 s.1 s.2) s.5))
+none_left Method rest before after following sound s = elim s [ inl local ↦ absurd (let e = local.2 in cc) | inr global ↦ absurd (let e = global.3 in cc) ]
+none_left Master rest before after following sound s = absurd (let e = s.2 in cc)
+none_left Nothing rest before after following sound s = none_parted rest before after sound s
 
-pub completes : (f : Form) (after : Phrase) → is_behind f.scan f.rest ≡ true → is_sound f.rest ≡ true → Remains f after [] → (is_complete f ≡ true) × (after ≡ phrase_of f.pieces)
+pub completes : (f : Form) (after : Phrase) → is_after f.scan f.rest ≡ true → is_sound f.rest ≡ true → Remains f after [] → (is_complete f ≡ true) × (after ≡ phrase_of f.pieces)
 unfolding is_complete
-completes f after behind sound s = none_left f.scan f.rest (phrase_of f.pieces) after behind sound s
+completes f after following sound s = none_left f.scan f.rest (phrase_of f.pieces) after following sound s
 
 -- ---- a complete statement
 

@@ -15,7 +15,7 @@ pub data Clause : Type 0 where
   Defining : Definition → Clause
   Skipping : Clause
 
--- a statement's word and parts, with directives among them, but none behind its last token
+-- a statement's word and parts, with directives among them, but none after its last token
 pub record SpellsStatement (elements : List Element) (name : StatementName) (phrase : Phrase) (definitions : List Definition) : Type 0 where
   pub inner : List Element
   pub last : Glyph

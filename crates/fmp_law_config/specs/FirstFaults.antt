@@ -8,7 +8,7 @@ use Rattle.fmp_config_statements.specs.declared.fault.ConfigKind.TheVariants as 
 use Rattle.fmp_config_tokens.specs.Lexing.{Lexeme, lexed_text}
 use Rattle.fmp_config_tokens.specs.declared.tokens.End.{End}
 use Rattle.fmp_config_tokens.specs.declared.tokens.End.TheVariants.{Bad, CutShort, Done}
-use Rattle.fmp_law_tokens.specs.Cuts.{IsCutBehind}
+use Rattle.fmp_law_tokens.specs.Cuts.{IsCutAfter}
 use Rattle.fmp_law_config.specs.Grammar.{Configures}
 
 -- a fault of the end of the tokens: a byte that may not stand there, a string or a comment that is open, or else a statement or a class that is open, or no
@@ -33,11 +33,11 @@ pub record FaultAtToken (text : List ℕ) (fault : Fault) : Type 0 where
   pub rest : List Lexeme
   pub parts : (lexed_text text).lexemes ≡ before ++ (token ∷ rest)
   pub faultless : HaveNoFault before
-  pub cut : IsCutBehind text before
+  pub cut : IsCutAfter text before
   pub never : (other : List ℕ) (more : List Lexeme) (c : Setup) → (lexed_text other).lexemes ≡ before ++ (token ∷ more) → Configures other c → ⊥
-  pub told : (other : List ℕ) (more : List Lexeme) → (lexed_text other).lexemes ≡ before ++ (token ∷ more) → length other ≤ most_bytes → config_in other ≡ Err fault
+  pub report : (other : List ℕ) (more : List Lexeme) → (lexed_text other).lexemes ≡ before ++ (token ∷ more) → length other ≤ most_bytes → config_in other ≡ Err fault
 
--- the text is too long, or its fault is found at a token, or behind all its tokens at their end
+-- the text is too long, or its fault is found at a token, or after all its tokens at their end
 abbrev pub FirstFault : List ℕ → Fault → Type 0
 FirstFault text fault =
     ((most_bytes < length text) × (fault ≡ fault_of_line faults.TooMany 0))

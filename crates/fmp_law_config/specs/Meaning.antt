@@ -67,7 +67,7 @@ pub record CreatesObject (s : Stage) (kind : ObjectKind) (phrase : Phrase) (next
 
 -- ---- statements
 
--- behind the number of processors a statement other than `INCLUDE` stands in a class where it creates an object, and else outside;
+-- after the number of processors a statement other than `INCLUDE` stands in a class where it creates an object, and else outside;
 -- there is one number of processors, one timer and one statement of limits, the two before the first class is opened
 abbrev pub may_stand : Stage → StatementName → Bool
 may_stand s statements.Include = true
@@ -99,7 +99,7 @@ Says s statements.Class phrase next =
     (class : Class) × (class_named s.setup phrase.name ≡ Some class) × (next ≡ record s { class = Some class; phase = phases.Body })
 Says s (statements.Create kind) phrase next = CreatesObject s kind phrase next
 
--- a statement may stand where it begins, and says what it says behind the definitions among its words
+-- a statement may stand where it begins, and says what it says after the definitions among its words
 abbrev pub SaysClause : Stage → Clause → Stage → Type 0
 SaysClause s (Statement name phrase definitions) next = (between : Stage) × (may_stand s name ≡ true) × AddsAll s definitions between × Says between name phrase next
 SaysClause s EndOfClass next = (is_some s.class ≡ true) × (next ≡ record s { class = None })

@@ -27,7 +27,7 @@ pub record Stage : Type 0 where
 abbrev pub no_stage : Stage
 no_stage = record { setup = of_processors 1; class = None; phase = phases.Start; timer_stood = false; limits_stood = false }
 
--- behind the number of processors, before the first class is opened
+-- after the number of processors, before the first class is opened
 abbrev pub is_head : Phase → Bool
 is_head phases.Head = true
 is_head _ = false

@@ -22,9 +22,9 @@ pub fn texts_configure_one_machine()
     ensures { (text : List ℕ) (a b : Setup) → Configures text a → Configures text b → a ≡ b }
 {}
 
-/// A fault that is found at a token is told by the tokens up to it, and by nothing behind: every text with the same ones has it. Those before it have none: a
+/// A fault that is found at a token is told by the tokens up to it, and by nothing after: every text with the same ones has it. Those before it have none: a
 /// text that ends with any of them has no fault but one of its end, and a beginning of this text does, where no directive is cut. Any other fault is of the end
 /// itself, or the text is too long.
-pub fn faults_need_nothing_behind()
+pub fn faults_need_nothing_after()
     ensures { (text : List ℕ) (fault : Fault) → config_in text ≡ Err fault → FirstFault text fault }
 {}

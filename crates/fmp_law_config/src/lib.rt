@@ -5,12 +5,12 @@
 //! statements say is in `specs/Meaning`). It knows no reader and no fault.
 //!
 //! `configured_texts_are_read` and `read_texts_configure` are the two directions, and by `texts_configure_one_machine` a text
-//! says at most one configuration. `faults_need_nothing_behind` says where the first fault is found (`specs/FirstFaults`).
+//! says at most one configuration. `faults_need_nothing_after` says where the first fault is found (`specs/FirstFaults`).
 #![tactic(auto)]
 
 mod laws;
 
 pub use laws::{
-    configured_texts_are_read, faults_need_nothing_behind, read_texts_configure,
+    configured_texts_are_read, faults_need_nothing_after, read_texts_configure,
     texts_configure_one_machine,
 };

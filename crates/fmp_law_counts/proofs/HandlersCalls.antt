@@ -27,7 +27,7 @@ use Rattle.fmp_law_safety.proofs.Items.{item_same, item_other, item_after}
 use Rattle.fmp_law_balance.specs.Accepted.{is_accepted, names}
 use Rattle.fmp_law_balance.proofs.Called.{refuses, by_called, either_way, not_accepted}
 use Rattle.fmp_law_balance.proofs.Objects.{IsNamed, object_known, by_object}
-use Rattle.fmp_law_balance.proofs.Steps.{told}
+use Rattle.fmp_law_balance.proofs.Steps.{report}
 use Rattle.fmp_law_waits.specs.Waits.{is_tick_for}
 use Rattle.fmp_rules.specs.Objects.{alarm, cyclic}
 use Rattle.fmp_law_counts.specs.Alarms.{starts_alarm, stops_alarm, without_tick, alarm_left_after, alarm_time}
@@ -59,17 +59,17 @@ idle_left : (timer : Timer) (q : Proc) (starts stops : Bool) (begun fewer left :
 idle_left timer q starts stops begun fewer left e =
     cond-false (starts && false) _ _ (and_right starts false refl) ∙ cond-false (stops && false) _ _ (and_right stops false refl) ∙ cond-false (is_tick_for timer q answer.Idle e) fewer left (untaken timer q answer.Idle e refl)
 
-pub idle_time : {Q : Type 0} (w : World Q) (a : Object) (r : Option Runner) (e : Event) (left : Option ℕ) → alarm_left_after w a (told e r (plain answer.Idle)) left ≡ left
+pub idle_time : {Q : Type 0} (w : World Q) (a : Object) (r : Option Runner) (e : Event) (left : Option ℕ) → alarm_left_after w a (report e r (plain answer.Idle)) left ≡ left
 idle_time w a r e left = idle_left w.timer (alarm w a).assigned (starts_alarm a e) (stops_alarm a e) (ticks_of (alarm_time e)) (without_tick None left) left e
 
-pub idle_cyclic_time : {Q : Type 0} (w : World Q) (c : Object) (r : Option Runner) (e : Event) (left : Option ℕ) → cyclic_left_after w c (told e r (plain answer.Idle)) left ≡ left
+pub idle_cyclic_time : {Q : Type 0} (w : World Q) (c : Object) (r : Option Runner) (e : Event) (left : Option ℕ) → cyclic_left_after w c (report e r (plain answer.Idle)) left ≡ left
 idle_cyclic_time w c r e left = idle_left w.timer (cyclic w c).assigned (starts_cyclic c e) (stops_cyclic c e) (Some ((cyclic w c).setup.phase + 1)) (without_tick (Some (cyclic w c).setup.period) left) left e
 
 -- Alarms.
 
 module _ {Q : Type 0} (k : Ordering Q) (w : World Q) (p : Proc) (a : Object) (few : length w.alarms ≤ 32) (same : length w.alarms_left ≡ length w.alarms) where
   abbrev CallTimes : Call → World Q × Effect → Type 0
-  CallTimes c did = item None did.0.alarms_left a.number ≡ alarm_left_after w a (told (event.Call p c) (runner_of w p) did.1) (item None w.alarms_left a.number)
+  CallTimes c did = item None did.0.alarms_left a.number ≡ alarm_left_after w a (report (event.Call p c) (runner_of w p) did.1) (item None w.alarms_left a.number)
 
   abbrev Put : ℤ → Option ℕ → World Q × Effect → Type 0
   Put id left did = item None did.0.alarms_left a.number ≡ (if names a id && is_accepted did.1.answer then left else item None w.alarms_left a.number)
@@ -100,7 +100,7 @@ module _ {Q : Type 0} (k : Ordering Q) (w : World Q) (p : Proc) (a : Object) (fe
 
 module _ {Q : Type 0} (k : Ordering Q) (w : World Q) (p : Proc) (c : Object) (few : length w.cyclics ≤ 32) (same : length w.cyclics_left ≡ length w.cyclics) where
   abbrev CyclicTimes : Call → World Q × Effect → Type 0
-  CyclicTimes x did = item None did.0.cyclics_left c.number ≡ cyclic_left_after w c (told (event.Call p x) (runner_of w p) did.1) (item None w.cyclics_left c.number)
+  CyclicTimes x did = item None did.0.cyclics_left c.number ≡ cyclic_left_after w c (report (event.Call p x) (runner_of w p) did.1) (item None w.cyclics_left c.number)
 
   abbrev phase_and_one : Object → Option ℕ
   phase_and_one o = Some ((cyclic w o).setup.phase + 1)

@@ -143,12 +143,12 @@ handlers_fall_due s events valid on p at =
     let law = due_at_tick numbered m p (rw h.due at) (h.alarms_left ∙ sym h.alarms) (h.cyclics_left ∙ sym h.cyclics) safe.counts.alarms safe.counts.cyclics in
     let last_alarms : Object → Bool = λ a. counts_for m.timer p (alarm m a).assigned && is_last (alarm_left_by a (booted s) events None) in
     let last_cyclics : Object → Bool = λ c. counts_for m.timer p (cyclic m c).assigned && is_last (cyclic_left_by c (booted s) events (cyclic_at_boot s c)) in
-    let told_alarms = same_passed (λ a. counts_for m.timer p (alarm m a).assigned && is_last (item None m.alarms_left a.number)) last_alarms (length m.alarms) 1 (length m.alarms) (omega arith) (omega arith)
+    let report_alarms = same_passed (λ a. counts_for m.timer p (alarm m a).assigned && is_last (item None m.alarms_left a.number)) last_alarms (length m.alarms) 1 (length m.alarms) (omega arith) (omega arith)
     (λ a here. ap (λ (o : Option ℕ). counts_for m.timer p (alarm m a).assigned && is_last o) (alarms_timed s events valid on a (rw (sym h.alarms) here))) in
-    let told_cyclics = same_passed (λ c. counts_for m.timer p (cyclic m c).assigned && is_last (item None m.cyclics_left c.number)) last_cyclics (length m.cyclics) 1 (length m.cyclics) (omega arith) (omega arith)
+    let report_cyclics = same_passed (λ c. counts_for m.timer p (cyclic m c).assigned && is_last (item None m.cyclics_left c.number)) last_cyclics (length m.cyclics) 1 (length m.cyclics) (omega arith) (omega arith)
     (λ c here. ap (λ (o : Option ℕ). counts_for m.timer p (cyclic m c).assigned && is_last o) (cyclics_timed s events valid on c (rw (sym h.cyclics) here))) in
     tick_state numbered m p (λ (v : State). BecomeDue (item [] m.due p.number) (item [] v.due p.number) (by_number m.alarms last_alarms) (by_number m.cyclics last_cyclics))
     (λ v cs d. d)
     (law
-    ∙ ap (λ xs. item [] m.due p.number ++ map runner.Alarm xs ++ map runner.Cyclic (by_number m.cyclics (λ c. counts_for m.timer p (cyclic m c).assigned && is_last (item None m.cyclics_left c.number)))) told_alarms
-    ∙ ap (λ xs. item [] m.due p.number ++ map runner.Alarm (by_number m.alarms last_alarms) ++ map runner.Cyclic xs) told_cyclics)
+    ∙ ap (λ xs. item [] m.due p.number ++ map runner.Alarm xs ++ map runner.Cyclic (by_number m.cyclics (λ c. counts_for m.timer p (cyclic m c).assigned && is_last (item None m.cyclics_left c.number)))) report_alarms
+    ∙ ap (λ xs. item [] m.due p.number ++ map runner.Alarm (by_number m.alarms last_alarms) ++ map runner.Cyclic xs) report_cyclics)

@@ -27,7 +27,7 @@ use Rattle.fmp_law_safety.proofs.Items.{item_put, item_same, item_other}
 use Rattle.fmp_law_safety.proofs.KeepsDue.{alarms_keep, cyclics_keep, released_keep}
 use Rattle.fmp_law_safety.proofs.TellsTick.{lowered_length}
 use Rattle.fmp_law_balance.proofs.Objects.{by_object}
-use Rattle.fmp_law_balance.proofs.Steps.{told}
+use Rattle.fmp_law_balance.proofs.Steps.{report}
 use Rattle.fmp_law_counts.specs.Alarms.{without_tick, alarm_left_after, is_last}
 use Rattle.fmp_law_counts.specs.Cyclics.{cyclic_left_after}
 use Rattle.fmp_law_counts.specs.Due.{by_number}
@@ -107,23 +107,23 @@ module _ {Q : Type 0} (p : Proc) where
       cyclics_begun v os c (rw (length-set w.cyclics_left (o.number - 1) left) here)
       ∙ ap (λ (x : Option ℕ). if is_one_of c os then Some period else x) put ∙ one_by_one (o.number == c.number) (is_one_of c os) (Some period) (item None w.cyclics_left c.number)
 
-  -- handlers become due behind those that are
-  due_behind : (w : World Q) (h : Runner) → p.number ≤ length w.due → item [] (with_due w p h).due p.number ≡ item [] w.due p.number ++ h ∷ []
-  due_behind w h most = item_same [] w.due p.number (item [] w.due p.number ++ h ∷ []) p.least most
+  -- handlers become due after those that are
+  due_after : (w : World Q) (h : Runner) → p.number ≤ length w.due → item [] (with_due w p h).due p.number ≡ item [] w.due p.number ++ h ∷ []
+  due_after w h most = item_same [] w.due p.number (item [] w.due p.number ++ h ∷ []) p.least most
 
   due_alarms : (w : World Q) (os : List Object) → p.number ≤ length w.due → item [] (alarms_due w p os).due p.number ≡ item [] w.due p.number ++ map runner.Alarm os
   due_alarms w [] most = sym (append-nil (item [] w.due p.number))
   due_alarms w (o ∷ os) most =
       let h : Runner = runner.Alarm o in
       due_alarms (with_alarm_left (with_due w p h) o None) os (rw (length-set w.due (p.number - 1) (item [] w.due p.number ++ h ∷ [])) most)
-      ∙ ap (λ xs. xs ++ map runner.Alarm os) (due_behind w h most) ∙ append_assoc (item [] w.due p.number) (h ∷ []) (map runner.Alarm os)
+      ∙ ap (λ xs. xs ++ map runner.Alarm os) (due_after w h most) ∙ append_assoc (item [] w.due p.number) (h ∷ []) (map runner.Alarm os)
 
   due_cyclics : (w : World Q) (os : List Object) → p.number ≤ length w.due → item [] (cyclics_due w p os).due p.number ≡ item [] w.due p.number ++ map runner.Cyclic os
   due_cyclics w [] most = sym (append-nil (item [] w.due p.number))
   due_cyclics w (o ∷ os) most =
       let h : Runner = runner.Cyclic o in
       due_cyclics (with_cyclic_left (with_due w p h) o (Some (cyclic w o).setup.period)) os (rw (length-set w.due (p.number - 1) (item [] w.due p.number ++ h ∷ [])) most)
-      ∙ ap (λ xs. xs ++ map runner.Cyclic os) (due_behind w h most) ∙ append_assoc (item [] w.due p.number) (h ∷ []) (map runner.Cyclic os)
+      ∙ ap (λ xs. xs ++ map runner.Cyclic os) (due_after w h most) ∙ append_assoc (item [] w.due p.number) (h ∷ []) (map runner.Cyclic os)
 
   count_due : (w : World Q) (os : List Object) → length (alarms_due w p os).due ≡ length w.due
   count_due w os = alarms_keep p (λ (v : World Q). length v.due ≡ length w.due) (λ v a e. length-set v.due _ _ ∙ e) w os refl
@@ -183,7 +183,7 @@ module _ {Q : Type 0} (k : Ordering Q) (w : World Q) (p : Proc) where
 
   -- what is left of an alarm after a tick
   pub left_at_tick : (a : Object) → a.number ≤ length w.alarms → length w.alarms_left ≡ length w.alarms → TicksInRange (item None w.alarms_left a.number) →
-      item None (tick k w p).0.alarms_left a.number ≡ alarm_left_after w a (told (event.Tick p) (runner_of w p) (tick k w p).1) (item None w.alarms_left a.number)
+      item None (tick k w p).0.alarms_left a.number ≡ alarm_left_after w a (report (event.Tick p) (runner_of w p) (tick k w p).1) (item None w.alarms_left a.number)
   unfolding counted_down ticked
   left_at_tick a here length_same range =
       let v : World Q = counted_down w p in
@@ -198,7 +198,7 @@ module _ {Q : Type 0} (k : Ordering Q) (w : World Q) (p : Proc) where
 
   -- what is left of a cyclic handler after a tick
   pub cyclic_left_at_tick : (c : Object) → c.number ≤ length w.cyclics → length w.cyclics_left ≡ length w.cyclics → TicksInRange (item None w.cyclics_left c.number) →
-      item None (tick k w p).0.cyclics_left c.number ≡ cyclic_left_after w c (told (event.Tick p) (runner_of w p) (tick k w p).1) (item None w.cyclics_left c.number)
+      item None (tick k w p).0.cyclics_left c.number ≡ cyclic_left_after w c (report (event.Tick p) (runner_of w p) (tick k w p).1) (item None w.cyclics_left c.number)
   unfolding counted_down ticked
   cyclic_left_at_tick c here length_same range =
       let v : World Q = counted_down w p in

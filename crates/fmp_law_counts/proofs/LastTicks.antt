@@ -73,7 +73,7 @@ rings_at_last_tick c earlier e later a n starts time alone =
     let v : State = (step numbered m e).0 in
     let first : alarm_left_after m a r (alarm_left_by a (booted c) earlier None) ≡ Some (n + 1) = cond-true (starts_alarm a r.event && is_accepted r.answer) _ _ starts ∙ ap ticks_of time in
     let left : alarm_left_by a (booted c) (earlier ++ e ∷ later) None ≡ alarm_left_by a v later (Some (n + 1)) = left_append a (booted c) earlier (e ∷ later) None ∙ ap (alarm_left_by a v later) first in
-    let told : is_last (alarm_left_by a (booted c) (earlier ++ e ∷ later) None) ≡ (ticks_for_alarm a v later + 1 == n + 1) = ap is_last left ∙ last_after a v later (n + 1) (omega arith) alone in (
-      λ last. let same : ticks_for_alarm a v later + 1 ≡ n + 1 = eqb-true _ _ (sym told ∙ last) in omega (arith, same),
-      λ same. let more : ticks_for_alarm a v later + 1 ≡ n + 1 = omega (arith, same) in told ∙ eq-eqb _ _ more,
+    let report : is_last (alarm_left_by a (booted c) (earlier ++ e ∷ later) None) ≡ (ticks_for_alarm a v later + 1 == n + 1) = ap is_last left ∙ last_after a v later (n + 1) (omega arith) alone in (
+      λ last. let same : ticks_for_alarm a v later + 1 ≡ n + 1 = eqb-true _ _ (sym report ∙ last) in omega (arith, same),
+      λ same. let more : ticks_for_alarm a v later + 1 ≡ n + 1 = omega (arith, same) in report ∙ eq-eqb _ _ more,
     )

@@ -35,7 +35,7 @@ use Rattle.fmp_law_safety.proofs.Items.{item_holds}
 use Rattle.fmp_law_safety.proofs.Calls.{FromTask, from_task}
 use Rattle.fmp_law_balance.specs.Accepted.{is_accepted, accepted_value, one_if}
 use Rattle.fmp_law_balance.proofs.Called.{refuses, by_called, either_way, not_accepted}
-use Rattle.fmp_law_balance.proofs.Steps.{told, by_step}
+use Rattle.fmp_law_balance.proofs.Steps.{report, by_step}
 use Rattle.fmp_law_counts.specs.Lives.{activates, activated, ends, ended, takes_back, amount, taken_back}
 use Rattle.fmp_law_waits.proofs.Follows.{running_may}
 use Rattle.fmp_law_waits.proofs.Named.{by_task, task_known}
@@ -114,11 +114,11 @@ module _ {Q : Type 0} (w : World Q) (t : Task) where
 
 module _ {Q : Type 0} (k : Ordering Q) (w : World Q) (p : Proc) (t : Task) (s : Safe k w) (few : length w.tasks ≤ 64) (here : t.number ≤ length w.tasks) where
   abbrev CallLives : Call → World Q × Effect → Type 0
-  CallLives c did = Lives w t did.0 (told (event.Call p c) (runner_of w p) did.1)
+  CallLives c did = Lives w t did.0 (report (event.Call p c) (runner_of w p) did.1)
 
   refused_lives : (c : Call) (x : Code) → refuses x ≡ true → CallLives c (w, refused x)
   refused_lives c x e =
-      nothing_begun w t (told (event.Call p c) (runner_of w p) (refused x)) (not_accepted x e) (refused_ends t (runner_of w p) x (event.Call p c) (not_accepted x e))
+      nothing_begun w t (report (event.Call p c) (runner_of w p) (refused x)) (not_accepted x e) (refused_ends t (runner_of w p) x (event.Call p c) (not_accepted x e))
 
   abbrev the : Option Task → Task
   the o = unwrap_or o (as_task 1)
@@ -262,5 +262,5 @@ module _ {Q : Type 0} (k : Ordering Q) (w : World Q) (p : Proc) (t : Task) (s : 
 pub lives_step : {Q : Type 0} (k : Ordering Q) (w : World Q) (t : Task) → Safe k w → length w.tasks ≤ 64 → t.number ≤ length w.tasks → (e : Event) → Lives w t (step k w e).0 (step k w e).1
 lives_step k w t s few here e =
     by_step k w (Lives w t) (λ v cs r x ps h. h) (λ p c. lives_call k w p t s few here c)
-    (λ p c none. nothing_begun w t (told (event.Call p c) (runner_of w p) (plain answer.Idle)) refl (idle_ends t (runner_of w p) (event.Call p c)))
-    (λ p. unchanged w t (tick k w p).0 (spares_tick k p t w)) (λ e r a no_call no_e. nothing_begun w t (told e r (plain a)) no_e (no_call_ends t r a e no_call)) e
+    (λ p c none. nothing_begun w t (report (event.Call p c) (runner_of w p) (plain answer.Idle)) refl (idle_ends t (runner_of w p) (event.Call p c)))
+    (λ p. unchanged w t (tick k w p).0 (spares_tick k p t w)) (λ e r a no_call no_e. nothing_begun w t (report e r (plain a)) no_e (no_call_ends t r a e no_call)) e

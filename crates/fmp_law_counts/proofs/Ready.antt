@@ -28,13 +28,13 @@ module _ (c : Setup) where
   pub record Ready (pending : OpenWaits) (m : State) (es : List Event) : Type 0 where
     pub safe : Safe numbered m
     pub sound : Sound c m
-    pub told : (u : Task) → IsKept c m u (pending u)
+    pub report : (u : Task) → IsKept c m u (pending u)
     pub tasks : length m.tasks ≡ length c.tasks
     pub on : AreOn (length m.processors) es
 
   -- what any event does to the waits is told
   pub followed : (pending : OpenWaits) (m : State) (es : List Event) → Ready pending m es → (e : Event) → Follows c m pending (step numbered m e).0 (step numbered m e).1
-  followed pending m es h e = follows_step c numbered numbered_once numbered_lists m h.safe h.sound pending h.told e
+  followed pending m es h e = follows_step c numbered numbered_once numbered_lists m h.safe h.sound pending h.report e
 
   -- so it is after the first event
   pub ready_next : (pending : OpenWaits) (m : State) (e : Event) (es : List Event) → Ready pending m (e ∷ es) → Ready (after_record c pending (step numbered m e).1) (step numbered m e).0 es
@@ -44,8 +44,8 @@ module _ (c : Setup) where
       let P : Event → Type 0 = λ x. (processor_of x).number ≤ length m.processors in
       record {
         safe = one.safe;
-        sound = sound_step c numbered numbered_once numbered_lists m h.safe h.sound pending h.told e;
-        told = f.told;
+        sound = sound_step c numbered numbered_once numbered_lists m h.safe h.sound pending h.report e;
+        report = f.report;
         tasks = f.counts.0 ∙ h.tasks;
         on = rw one.count (All-tail P e es h.on);
       }
@@ -63,7 +63,7 @@ module _ (c : Setup) where
     ready_at_boot es on = record {
       safe = booted_safe c valid;
       sound = (quiet_booted c valid).sound;
-      told = (quiet_booted c valid).told;
+      report = (quiet_booted c valid).report;
       tasks = count_booted_tasks c valid.few_tasks;
       on = rw (count_booted c) on;
     }

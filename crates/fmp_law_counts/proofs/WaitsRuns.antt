@@ -37,7 +37,7 @@ use Rattle.fmp_law_waits.specs.Laws.{Waits, left_of}
 use Rattle.fmp_law_waits.proofs.Follows.{Follows}
 use Rattle.fmp_law_waits.proofs.Ticks.{handlers_beside}
 use Rattle.fmp_law_counts.specs.Waits.{ReleasesInTime, EndsInTime, EndsAtLastTick, ticks_for, GoesOn}
-use Rattle.fmp_law_waits.proofs.Events.{event_told, tick_state, untaken}
+use Rattle.fmp_law_waits.proofs.Events.{event_reported, tick_state, untaken}
 use Rattle.fmp_law_counts.proofs.Ready.{Ready, followed, ready_next, ready_later, ready_end, ready_at_boot, ready_after}
 
 -- after a tick what is left of each wait is in range
@@ -63,9 +63,9 @@ released_one P t (x ∷ xs) all e = go (x.task.number == t.number) refl (λ late
     go false other among = among (sym (ap (λ b. b || is_released t xs) other) ∙ e)
 
 -- where an open wait is told, the task is assigned as it says
-assigned_told : (pending : Option OpenWait) (now : Option Wait) (ticks : Option ℕ) (q : Proc) → Waits pending now ticks q → (o : OpenWait) → pending ≡ Some o → q ≡ o.assigned
-assigned_told None now ticks q h o e = absurd (none-some o e)
-assigned_told (Some x) now ticks q h o e = h.assigned ∙ ap (λ (y : OpenWait). y.assigned) (same_Some x o e)
+assigned_reported : (pending : Option OpenWait) (now : Option Wait) (ticks : Option ℕ) (q : Proc) → Waits pending now ticks q → (o : OpenWait) → pending ≡ Some o → q ≡ o.assigned
+assigned_reported None now ticks q h o e = absurd (none-some o e)
+assigned_reported (Some x) now ticks q h o e = h.assigned ∙ ap (λ (y : OpenWait). y.assigned) (same_Some x o e)
 
 -- a wait of which so many ticks are left
 open_with : (pending : Option OpenWait) (n : ℕ) → left_of pending ≡ Some n → (o : OpenWait) × (pending ≡ Some o) × (o.left ≡ Some n)
@@ -129,7 +129,7 @@ module _ (c : Setup) (t : Task) where
     -- a tick counts by the open wait as it does by the state
     same_counts : (o : OpenWait) → pending t ≡ Some o → (a : Answer) (e : Event) → is_tick_for c.timer o.assigned a e ≡ is_tick_for m.timer (task m t).assigned a e
     same_counts o is a e =
-        ap (λ q. is_tick_for c.timer q a e) (sym (assigned_told (pending t) _ _ _ (h.told t).0 o is)) ∙ ap (λ timer. is_tick_for timer (task m t).assigned a e) (sym h.sound.timer)
+        ap (λ q. is_tick_for c.timer q a e) (sym (assigned_reported (pending t) _ _ _ (h.report t).0 o is)) ∙ ap (λ timer. is_tick_for timer (task m t).assigned a e) (sym h.sound.timer)
 
     -- a tick that is taken releases the task just where one tick is left, and it counts
     tick_releases : (p : Proc) → (step numbered m (event.Tick p)).1.answer ≡ answer.Taken →
@@ -149,7 +149,7 @@ module _ (c : Setup) (t : Task) where
 
         counts : (o : OpenWait) → pending t ≡ Some o → is_tick_for c.timer o.assigned r.answer r.event ≡ counts_for m.timer p (task m t).assigned
         counts o is =
-            same_counts o is r.answer r.event ∙ ap (is_tick_for m.timer (task m t).assigned r.answer) (event_told numbered m (event.Tick p))
+            same_counts o is r.answer r.event ∙ ap (is_tick_for m.timer (task m t).assigned r.answer) (event_reported numbered m (event.Tick p))
             ∙ ap (λ a. is_tick_for m.timer (task m t).assigned a (event.Tick p)) taken
 
         go : (left_of (pending t) ≡ Some 1) × (counts_for m.timer p (task m t).assigned ≡ true) → (b : Bool) → is_released t r.releases ≡ b → is_released t r.releases ≡ true
@@ -161,7 +161,7 @@ module _ (c : Setup) (t : Task) where
             let fell : (lasts c t r o.0).left ≡ Some 0 =
             cond-true (is_tick_for c.timer o.0.assigned r.answer r.event) (one_less o.0.left) o.0.left (counts o.0 o.1 ∙ both.1) ∙ ap one_less o.2 in
             let range = tick_state numbered m p (λ (v : State). TicksInRange (item None v.waits_left t.number)) (λ v cs d. d) (waits_in_range numbered numbered_lists m h.safe p t) taken in
-            let least = (subst TicksInRange ((f.told t).0.left ∙ ap left_of after ∙ fell) range).0 in
+            let least = (subst TicksInRange ((f.report t).0.left ∙ ap left_of after ∙ fell) range).0 in
             absurd (omega (arith, least))
 
   -- a wait that goes on has as many ticks fewer as counted for it

@@ -33,7 +33,7 @@ use Rattle.fmp_law_safety.proofs.Calls.{from_task, FromTask}
 use Rattle.fmp_law_balance.specs.Accepted.{is_accepted}
 use Rattle.fmp_law_balance.specs.Queues.{is_task}
 use Rattle.fmp_law_balance.proofs.Called.{refuses, by_called, either_way, not_accepted}
-use Rattle.fmp_law_balance.proofs.Steps.{told}
+use Rattle.fmp_law_balance.proofs.Steps.{report}
 use Rattle.fmp_law_waits.specs.Waits.{is_number_of}
 use Rattle.fmp_law_counts.specs.Naming.{names_task}
 use Rattle.fmp_law_counts.specs.Lives.{ends}
@@ -80,11 +80,11 @@ module _ {Q : Type 0} (w : World Q) (t : Task) (n : ℕ) (old : QueuedWakeups n 
 
 module _ {Q : Type 0} (k : Ordering Q) (w : World Q) (p : Proc) (t : Task) (n : ℕ) (old : QueuedWakeups n (tally (task w t))) (few : length w.tasks ≤ 64) (here : t.number ≤ length w.tasks) where
   abbrev QueuesNow : Call → World Q × Effect → Type 0
-  QueuesNow c did = QueuedWakeups (queued_after t (told (event.Call p c) (runner_of w p) did.1) n) (tally (task did.0 t))
+  QueuesNow c did = QueuedWakeups (queued_after t (report (event.Call p c) (runner_of w p) did.1) n) (tally (task did.0 t))
 
   refused_queue : (c : Call) (x : Code) → refuses x ≡ true → QueuesNow c (w, refused x)
   refused_queue c x e =
-      let r : Record = told (event.Call p c) (runner_of w p) (refused x) in
+      let r : Record = report (event.Call p c) (runner_of w p) (refused x) in
       subst (λ (m : ℕ). QueuedWakeups m (tally (task w t))) (sym (nothing_queued t r n (not_accepted x e) (refused_ends t (runner_of w p) x (event.Call p c) (not_accepted x e)))) old
 
   abbrev Kept : World Q × Effect → Type 0
@@ -211,7 +211,7 @@ queue_step k w t n old few here e =
     by_event k w (λ v r. QueuedWakeups (queued_after t r n) (tally (task v t))) (λ v cs r x ps h. h)
     (λ p c. queue_call k w p t n old few here c)
     (λ p c.
-    let r : Record = told (event.Call p c) (runner_of w p) (plain answer.Idle) in
+    let r : Record = report (event.Call p c) (runner_of w p) (plain answer.Idle) in
     subst (λ (m : ℕ). QueuedWakeups m (tally (task w t))) (sym (nothing_queued t r n refl (idle_ends t (runner_of w p) (event.Call p c)))) old)
     (λ p. subst (QueuedWakeups n) (sym (spares_tick k p t w)) old) (λ p. old) (λ p. old) (λ p a h. old) e
 
@@ -233,10 +233,10 @@ nothing_asked t n r no_sleep no_cancel = record {
 
 module _ {Q : Type 0} (k : Ordering Q) (w : World Q) (p : Proc) (t : Task) (n : ℕ) (old : QueuedWakeups n (tally (task w t))) (few : length w.tasks ≤ 64) (s : Safe k w) where
   abbrev Takes : Call → World Q × Effect → Type 0
-  Takes c did = TakesWhatIsQueued t n (told (event.Call p c) (runner_of w p) did.1)
+  Takes c did = TakesWhatIsQueued t n (report (event.Call p c) (runner_of w p) did.1)
 
   refused_takes : (c : Call) (x : Code) → refuses x ≡ true → Takes c (w, refused x)
-  refused_takes c x e = nothing_taken t n (told (event.Call p c) (runner_of w p) (refused x)) (not_accepted x e)
+  refused_takes c x e = nothing_taken t n (report (event.Call p c) (runner_of w p) (refused x)) (not_accepted x e)
 
   -- the caller takes a wakeup that is queued for it
   one_queued : FromTask w p → nat_lt 0 (task w (caller w p)).wakeups ≡ true → is_task t (runner_of w p) ≡ true → 1 ≤ n
@@ -277,18 +277,18 @@ module _ {Q : Type 0} (k : Ordering Q) (w : World Q) (p : Proc) (t : Task) (n : 
             let queue : QueuedWakeups n (tally (task w u)) = subst (λ (x : Task). QueuedWakeups n (tally (task w x))) (sym here) old in
             ap (λ (m : ℕ). Some (pos m)) (queue.active (not-false _ a.errors.0));
       })
-  takes_task c = nothing_asked t n (told (event.Call p (call.Task c)) (runner_of w p) (called w p (task_row k w p c)).1) refl refl
+  takes_task c = nothing_asked t n (report (event.Call p (call.Task c)) (runner_of w p) (called w p (task_row k w p c)).1) refl refl
 
   takes_call : (c : Call) → Takes c (called w p (row_of k w p c))
   takes_call (call.Task c) = takes_task c
-  takes_call c = nothing_asked t n (told (event.Call p c) (runner_of w p) (called w p (row_of k w p c)).1) refl refl
+  takes_call c = nothing_asked t n (report (event.Call p c) (runner_of w p) (called w p (row_of k w p c)).1) refl refl
 
 -- each step takes only what is queued
 pub takes_step : {Q : Type 0} (k : Ordering Q) (w : World Q) (t : Task) (n : ℕ) → QueuedWakeups n (tally (task w t)) → length w.tasks ≤ 64 → Safe k w → (e : Event) → TakesWhatIsQueued t n (step k w e).1
 takes_step k w t n old few s e =
     by_event k w (λ v r. TakesWhatIsQueued t n r) (λ v cs r x ps h. record { taken = h.taken; cancelled = h.cancelled }) (λ p c. takes_call k w p t n old few s c)
-    (λ p c. nothing_taken t n (told (event.Call p c) (runner_of w p) (plain answer.Idle)) refl)
-    (λ p. nothing_asked t n (told (event.Tick p) (runner_of w p) (tick k w p).1) refl refl)
-    (λ p. nothing_taken t n (told (event.Tick p) (runner_of w p) (plain answer.Held)) refl)
-    (λ p. nothing_taken t n (told (event.Tick p) (runner_of w p) (plain answer.Nothing)) refl)
-    (λ p a h. nothing_asked t n (told (event.Ipi p) (runner_of w p) (plain a)) refl refl) e
+    (λ p c. nothing_taken t n (report (event.Call p c) (runner_of w p) (plain answer.Idle)) refl)
+    (λ p. nothing_asked t n (report (event.Tick p) (runner_of w p) (tick k w p).1) refl refl)
+    (λ p. nothing_taken t n (report (event.Tick p) (runner_of w p) (plain answer.Held)) refl)
+    (λ p. nothing_taken t n (report (event.Tick p) (runner_of w p) (plain answer.Nothing)) refl)
+    (λ p a h. nothing_asked t n (report (event.Ipi p) (runner_of w p) (plain a)) refl refl) e

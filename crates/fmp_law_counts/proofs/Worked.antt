@@ -50,22 +50,22 @@ activating =
     ∷ asks 1 (tasks.CanAct (pos 2))
     ∷ []
 
-abbrev told : Setup → List Event → List Record
-told c events = answers numbered (booted c) events
+abbrev report : Setup → List Event → List Record
+report c events = answers numbered (booted c) events
 
 abbrev later : Setup → List Event → State
 later c events = replay numbered (booted c) events
 
 -- three activations: a life that goes on, none that is queued, one that ended and one that was taken back
-activations_told :
-    sum_by (activated (as_task 2)) (told one_starts activating)
+activations_reported :
+    sum_by (activated (as_task 2)) (report one_starts activating)
     ∷ one_if (task (later one_starts activating) (as_task 2)).active
     ∷ (task (later one_starts activating) (as_task 2)).activations
-    ∷ sum_by (ended (as_task 2)) (told one_starts activating)
-    ∷ sum_by (taken_back (as_task 2)) (told one_starts activating)
+    ∷ sum_by (ended (as_task 2)) (report one_starts activating)
+    ∷ sum_by (taken_back (as_task 2)) (report one_starts activating)
     ∷ [] ≡ 3 ∷ 1 ∷ 0 ∷ 1 ∷ 1 ∷ []
 unfolding numbered before_event settled unchanged act can_act ter_tsk finish
-activations_told = refl
+activations_reported = refl
 
 -- Wakeups and waits: a task on each of two processors.
 
@@ -86,24 +86,24 @@ waking =
     ∷ asks 1 (tasks.WupTsk (pos 2))
     ∷ []
 
-wakeups_told : queued_by (as_task 2) (told both_start waking) 0 ∷ (task (later both_start waking) (as_task 2)).wakeups ∷ [] ≡ 1 ∷ 1 ∷ []
+wakeups_reported : queued_by (as_task 2) (report both_start waking) 0 ∷ (task (later both_start waking) (as_task 2)).wakeups ∷ [] ≡ 1 ∷ 1 ∷ []
 unfolding numbered before_event settled unchanged tslp_tsk wup can_wup
-wakeups_told = refl
+wakeups_reported = refl
 
 -- a task sleeps for two ticks; ticks of the other processor do not count, and the third of its own releases it
 abbrev sleeping : List Event
 sleeping = asks 2 (tasks.TslpTsk (pos 2)) ∷ tick_on 2 ∷ tick_on 1 ∷ tick_on 2 ∷ []
 
-left_told : left_of (after_records both_start nobody_waits (told both_start sleeping) (as_task 2)) ∷ item None (later both_start sleeping).waits_left 2 ∷ [] ≡ Some 1 ∷ Some 1 ∷ []
+left_reported : left_of (after_records both_start nobody_waits (report both_start sleeping) (as_task 2)) ∷ item None (later both_start sleeping).waits_left 2 ∷ [] ≡ Some 1 ∷ Some 1 ∷ []
 unfolding numbered before_event settled unchanged tslp_tsk counted_down ticked with_handlers_due
-left_told = refl
+left_reported = refl
 
 -- so far as many ticks counted for it as it sleeps for
-ticks_told : ticks_for (as_task 2) (later both_start (asks 2 (tasks.TslpTsk (pos 2)) ∷ [])) (tick_on 2 ∷ tick_on 1 ∷ tick_on 2 ∷ []) ≡ 2
+ticks_reported : ticks_for (as_task 2) (later both_start (asks 2 (tasks.TslpTsk (pos 2)) ∷ [])) (tick_on 2 ∷ tick_on 1 ∷ tick_on 2 ∷ []) ≡ 2
 unfolding numbered before_event settled unchanged tslp_tsk counted_down ticked with_handlers_due
-ticks_told = refl
+ticks_reported = refl
 
-last_tick : map (λ r. r.releases) (told both_start (sleeping ++ tick_on 2 ∷ [])) ≡ [] ∷ [] ∷ [] ∷ [] ∷ (released 2 code.TimedOut None ∷ []) ∷ []
+last_tick : map (λ r. r.releases) (report both_start (sleeping ++ tick_on 2 ∷ [])) ≡ [] ∷ [] ∷ [] ∷ [] ∷ (released 2 code.TimedOut None ∷ []) ∷ []
 unfolding numbered before_event settled unchanged tslp_tsk counted_down ticked with_handlers_due
 last_tick = refl
 
@@ -119,10 +119,10 @@ with_handlers = record one_starts {
 abbrev ringing : List Event
 ringing = call_on 1 (call.Time (time.StaAlm (pos 1) (pos 1))) ∷ tick_on 1 ∷ []
 
-handlers_told : alarm_left_by (as_object 1) (booted with_handlers) ringing None ∷ cyclic_left_by (as_object 1) (booted with_handlers) ringing (cyclic_at_boot with_handlers (as_object 1)) ∷ []
+handlers_reported : alarm_left_by (as_object 1) (booted with_handlers) ringing None ∷ cyclic_left_by (as_object 1) (booted with_handlers) ringing (cyclic_at_boot with_handlers (as_object 1)) ∷ []
     ≡ Some 1 ∷ Some 1 ∷ []
 unfolding numbered before_event settled unchanged sta_alm counted_down ticked with_handlers_due
-handlers_told = refl
+handlers_reported = refl
 
 -- the next tick makes both due, the alarm first. The alarm is stopped, and the cyclic handler begins its period
 abbrev rung : List Event

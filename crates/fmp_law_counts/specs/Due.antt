@@ -22,11 +22,11 @@ use Rattle.fmp_law_counts.specs.Cyclics.{cyclic_left_by, cyclic_at_boot}
 abbrev pub by_number : {X : Type 0} → List X → (Object → Bool) → List Object
 by_number xs test = filter test (map as_object (range_with_len 1 (length xs)))
 
--- behind the handlers that were due these alarms become due, and then these cyclic handlers
+-- after the handlers that were due these alarms become due, and then these cyclic handlers
 abbrev pub BecomeDue : List Runner → List Runner → List Object → List Object → Type 0
 BecomeDue before after alarms cyclics = after ≡ before ++ map runner.Alarm alarms ++ map runner.Cyclic cyclics
 
--- at a tick that is taken on p after these events, behind what was due there become due the alarms and then the cyclic handlers,
+-- at a tick that is taken on p after these events, after what was due there become due the alarms and then the cyclic handlers,
 -- each by number, of which the records leave one tick and for which this one counts
 abbrev pub FallDue : Setup → List Event → Proc → Type 0
 FallDue s events p =

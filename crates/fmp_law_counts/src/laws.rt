@@ -25,7 +25,7 @@ pub fn activations_are_counted()
 {}
 
 /// After every list of events on the processors of a valid configuration, a tick that is taken releases just those tasks of
-/// whose wait the records leave one tick, as `waits_are_told` says, and for which it counts. So a wait of n ticks ends by time at
+/// whose wait the records leave one tick, as `waits_are_reported` says, and for which it counts. So a wait of n ticks ends by time at
 /// the tick number n + 1 that counts for the task, neither before nor after.
 pub fn timed_waits_end_in_time()
     ensures released { (c : Setup) (events : List Event) → IsValid c → AreOn c.processors events → (p : Proc) (t : Task)
@@ -48,7 +48,7 @@ pub fn wakeups_are_counted()
 /// After every list of events on the processors of a valid configuration, the ticks left of each alarm and of each cyclic handler
 /// are what the records say: where it was started last one tick and the time of the alarm, or the phase of the cyclic handler,
 /// one less by each tick that counted for it since, none where it was stopped or the alarm became due, and a period where the
-/// cyclic handler did. A tick that is taken makes due just those of which one tick is left and for which it counts, behind those
+/// cyclic handler did. A tick that is taken makes due just those of which one tick is left and for which it counts, after those
 /// that are due already, first the alarms and then the cyclic handlers, each by number. So an alarm that is started with a time of
 /// n ticks becomes due at the tick number n + 1 that counts for it, unless it is started again or stopped before.
 pub fn handlers_become_due_in_time()

@@ -59,12 +59,12 @@ use Rattle.fmp_law_balance.specs.Queues.{out_by}
 use Rattle.fmp_law_balance.proofs.Called.{refuses, not_accepted, by_called, either_way}
 use Rattle.fmp_law_waits.proofs.Events.{by_event}
 use Rattle.fmp_law_refusals.specs.Meanings.{object_of}
-use Rattle.fmp_law_refusals.specs.Found.{found_told, takes_value}
+use Rattle.fmp_law_refusals.specs.Found.{found_reported, takes_value}
 use Rattle.fmp_law_refusals.proofs.Answers.{found_after_all}
 use Rattle.fmp_law_refusals.proofs.Configured.{Configured, object_is}
 use Rattle.fmp_law_refusals.proofs.Found.{Finds, takes_same}
 use Rattle.fmp_law_refusals.proofs.Judged.{balance_after_all, configured_after_all}
-use Rattle.fmp_law_effects.specs.Losses.{values_told, oldest, lost_in, lost_told, IsLossTold}
+use Rattle.fmp_law_effects.specs.Losses.{values_reported, oldest, lost_in, lost_reported, IsLossReported}
 
 -- Calls that lose nothing.
 
@@ -137,8 +137,8 @@ pub first_is : (vs : List ℤ) → first vs ≡ oldest vs
 first_is [] = refl
 first_is (v ∷ vs) = refl
 
-module _ {Q : Type 0} (k : Ordering Q) (c : Setup) (records : List Record) (w : World Q) (l : Lists k w) (h : Configured c w) (found : Finds c (found_told c records) w)
-    (kept : (d : Object) → values w d ≡ values_told records d) (p : Proc) where
+module _ {Q : Type 0} (k : Ordering Q) (c : Setup) (records : List Record) (w : World Q) (l : Lists k w) (h : Configured c w) (found : Finds c (found_reported c records) w)
+    (kept : (d : Object) → values w d ≡ values_reported records d) (p : Proc) where
   abbrev d_of : ℤ → Object
   d_of id = of_list k w p w.data_queues id
 
@@ -146,17 +146,17 @@ module _ {Q : Type 0} (k : Ordering Q) (c : Setup) (records : List Record) (w : 
   abbrev Forces : Object → World Q × Effect → Type 0
   Forces d did = did.1.lost ≡ lost_in c records d did.1.answer
 
-  sent_keeps : (d : Object) (v : ℤ) (o : Option Task) → takes_value c (found_told c records) d ≡ true → Forces d (sent k w d v o)
+  sent_keeps : (d : Object) (v : ℤ) (o : Option Task) → takes_value c (found_reported c records) d ≡ true → Forces d (sent k w d v o)
   sent_keeps d v None takes = rw takes refl
   sent_keeps d v (Some t) takes = rw takes refl
 
   force_loses : (d : Object) (v : ℤ) → Forces d (if can_send k w d then sent k w d v (receiver k w d) else forced w d v)
   force_loses d v =
-      let same : can_send k w d ≡ takes_value c (found_told c records) d = takes_same k c (found_told c records) w l h found d in
+      let same : can_send k w d ≡ takes_value c (found_reported c records) d = takes_same k c (found_reported c records) w l h found d in
       cond_both (can_send k w d) _ _ (Forces d) (λ yes_. sent_keeps d v (receiver k w d) (sym same ∙ yes_))
       (λ no_.
-      ap first (kept d) ∙ first_is (values_told records d)
-      ∙ sym (cond-true (not (takes_value c (found_told c records) d)) (oldest (values_told records d)) None (ap not (sym same ∙ no_))))
+      ap first (kept d) ∙ first_is (values_reported records d)
+      ∙ sym (cond-true (not (takes_value c (found_reported c records) d)) (oldest (values_reported records d)) None (ap not (sym same ∙ no_))))
 
   forced_call : (row : Row Q) (id v : ℤ) →
       ((o : World Q × Effect → Type 0) → ((code : Code) → refuses code ≡ true → o (w, refused code)) → (Accepts w p row → o row.effect) → o (called w p row)) →
@@ -164,9 +164,9 @@ module _ {Q : Type 0} (k : Ordering Q) (c : Setup) (records : List Record) (w : 
       row.effect ≡ (if can_send k w (d_of id) then sent k w (d_of id) v (receiver k w (d_of id)) else forced w (d_of id) v) → Forces (object_of id) (called w p row)
   forced_call row id v by known is =
       by (Forces (object_of id))
-      (λ code refuses_. sym (cond-false (is_accepted (refused code).answer && not (takes_value c (found_told c records) (object_of id)))
-      (oldest (values_told records (object_of id))) None
-      (ap (λ b. b && not (takes_value c (found_told c records) (object_of id))) (not_accepted code refuses_))))
+      (λ code refuses_. sym (cond-false (is_accepted (refused code).answer && not (takes_value c (found_reported c records) (object_of id)))
+      (oldest (values_reported records (object_of id))) None
+      (ap (λ b. b && not (takes_value c (found_reported c records) (object_of id))) (not_accepted code refuses_))))
       (λ accepted.
       let d : d_of id ≡ object_of id = object_is w.data_queues id (known accepted.known) in
       rw is (rw d (force_loses (object_of id) v)))
@@ -174,7 +174,7 @@ module _ {Q : Type 0} (k : Ordering Q) (c : Setup) (records : List Record) (w : 
   -- Each call.
 
   abbrev Loses : Call → Type 0
-  Loses y = (called w p (row_of k w p y)).1.lost ≡ lost_told c records (called w p (row_of k w p y)).1.answer (event.Call p y)
+  Loses y = (called w p (row_of k w p y)).1.lost ≡ lost_reported c records (called w p (row_of k w p y)).1.answer (event.Call p y)
 
   loses_buffer : (y : BufferCall) → Loses (call.Buffer y)
   unfolding tsnd_dtq psnd_dtq fsnd_dtq trcv_dtq prcv_dtq tget_mpf pget_mpf rel_mpf
@@ -215,27 +215,27 @@ module _ {Q : Type 0} (k : Ordering Q) (c : Setup) (records : List Record) (w : 
   loses_call call.RetHdr = kept_called k w p (ret_hdr w p) refl
 
 -- an event that is not accepted loses nothing
-none_lost : (c : Setup) (records : List Record) (a : Answer) (p : Proc) (y : Call) → is_accepted a ≡ false → None ≡ lost_told c records a (event.Call p y)
+none_lost : (c : Setup) (records : List Record) (a : Answer) (p : Proc) (y : Call) → is_accepted a ≡ false → None ≡ lost_reported c records a (event.Call p y)
 none_lost c records a p (call.Buffer (buffer.FsndDtq id v)) none = rw none refl
 none_lost c records a p (call.Buffer (buffer.IfsndDtq id v)) none = rw none refl
 none_lost c records a p y none = refl
 
 -- the values that are told are those of the machine
 pub values_after_all : (c : Setup) (events : List Event) → IsValid c → AreOn c.processors events → (d : Object) →
-    values (replay numbered (booted c) events) d ≡ values_told (answers numbered (booted c) events) d
+    values (replay numbered (booted c) events) d ≡ values_reported (answers numbered (booted c) events) d
 values_after_all c events valid on d =
     let m : State = replay numbered (booted c) events in
     let records : List Record = answers numbered (booted c) events in
     sym (ap (drop (length (flat_map (out_by d) records))) ((balance_after_all c events valid on).data_queues d)
     ∙ drop-append_seam (flat_map (out_by d) records) (values m d))
 
-pub losses_told : (c : Setup) (events : List Event) → IsValid c → AreOn c.processors events → (e : Event) → (processor_of e).number ≤ c.processors →
-    IsLossTold c (answers numbered (booted c) events) (step numbered (replay numbered (booted c) events) e).1
+pub losses_reported : (c : Setup) (events : List Event) → IsValid c → AreOn c.processors events → (e : Event) → (processor_of e).number ≤ c.processors →
+    IsLossReported c (answers numbered (booted c) events) (step numbered (replay numbered (booted c) events) e).1
 unfolding ticked
-losses_told c events valid on e within =
+losses_reported c events valid on e within =
     let m : State = replay numbered (booted c) events in
     let records : List Record = answers numbered (booted c) events in
-    by_event numbered m (λ v r. IsLossTold c records r) (λ v cs r x ps h. h)
+    by_event numbered m (λ v r. IsLossReported c records r) (λ v cs r x ps h. h)
     (λ p y. loses_call numbered c records m (numbered_lists m) (configured_after_all c events valid on) (found_after_all c events valid on)
     (values_after_all c events valid on) p y)
     (λ p y. none_lost c records answer.Idle p y refl) (λ p. refl) (λ p. refl) (λ p. refl) (λ p a none. refl) e

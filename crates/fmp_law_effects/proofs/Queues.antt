@@ -22,7 +22,7 @@ use Rattle.fmp_law_records.specs.Served.{is_priority, Places, is_served_before}
 use Rattle.fmp_law_records.proofs.Alike.{in_order_alike}
 use Rattle.fmp_law_records.proofs.Places.{ordered_as, ArePlaced}
 use Rattle.fmp_law_refusals.specs.Found.{waits_so}
-use Rattle.fmp_law_effects.specs.Releases.{waiting_told}
+use Rattle.fmp_law_effects.specs.Releases.{waiting_reported}
 
 -- Each task stands once in a list that is made in an order.
 
@@ -97,7 +97,7 @@ module _ (c : Setup) (m : State) (x : Places) (placed : ArePlaced c x m) (waits 
       ∙ ap (is_urgent (x.priority t) (x.priority u)) (sym (placed.same t u a b))
 
   pub queue_same : (k : QueueKind) (o : Object) (what : Wait → Bool) → ((y : Wait) → is_in k o y ≡ what y) →
-      queue numbered m k o ≡ waiting_told c x (is_priority (ordered_as c k o)) what
+      queue numbered m k o ≡ waiting_reported c x (is_priority (ordered_as c k o)) what
   unfolding numbered
   queue_same k o what same =
       let open_ : (t : Task) → waits_in k o (task m t).wait ≡ true → is_some (x.waits t) ≡ true = λ t e. waits_some k o (task m t).wait (x.waits t) (waits t).0.wait e in

@@ -43,9 +43,9 @@ use Rattle.fmp_law_records.specs.Served.{Places, places_by, places_at_boot}
 use Rattle.fmp_law_refusals.specs.Meanings.{object_of}
 use Rattle.fmp_law_refusals.specs.Found.{to_send}
 use Rattle.fmp_law_refusals.proofs.Configured.{object_is}
-use Rattle.fmp_law_effects.specs.Losses.{values_told, oldest}
+use Rattle.fmp_law_effects.specs.Losses.{values_reported, oldest}
 use Rattle.fmp_law_effects.specs.Releases.{next_sender}
-use Rattle.fmp_law_effects.specs.Received.{is_receive, value_of, value_to_send, sent_by, received_from, received_told, IsReceivedTold}
+use Rattle.fmp_law_effects.specs.Received.{is_receive, value_of, value_to_send, sent_by, received_from, received_reported, IsReceivedReported}
 use Rattle.fmp_law_effects.proofs.Losses.{values_after_all}
 use Rattle.fmp_law_effects.proofs.Queues.{queue_same}
 use Rattle.fmp_law_effects.proofs.Releases.{send_in}
@@ -79,7 +79,7 @@ module _ (c : Setup) (records : List Record) where
   abbrev x : Places
   x = places_by c records (places_at_boot c)
 
-  module _ (m : State) (kept : (d : Object) → values m d ≡ values_told records d) (waits : (t : Task) → (task m t).wait ≡ option_map (λ y. y.wait) (x.waits t))
+  module _ (m : State) (kept : (d : Object) → values m d ≡ values_reported records d) (waits : (t : Task) → (task m t).wait ≡ option_map (λ y. y.wait) (x.waits t))
       (senders : (d : Object) → sender numbered m d ≡ next_sender c x d) (p : Proc) where
     received_gives : (d : Object) (o : Option Task) → (is_some (first (values m d)) || is_some o) ≡ true →
         ((t : Task) → o ≡ Some t → waits_in kind.Send d (task m t).wait ≡ true) →
@@ -93,7 +93,7 @@ module _ (c : Setup) (records : List Record) where
     from_queue d can accepted =
         received_gives d (sender numbered m d) can (first_waits numbered m (numbered_lists m) kind.Send d)
         ∙ ap (λ vs. option_or (oldest vs) (sent_by x (sender numbered m d))) (kept d)
-        ∙ ap (λ o. option_or (oldest (values_told records d)) (sent_by x o)) (senders d)
+        ∙ ap (λ o. option_or (oldest (values_reported records d)) (sent_by x o)) (senders d)
 
     at_once : (v : Option ℤ) (can : Bool) (did : State × Effect) (z : Wait) (timeout : ℤ) →
         (can ≡ true → Gives v did) → Gives v (done_or_wait numbered m p can did z timeout)
@@ -115,7 +115,7 @@ module _ (c : Setup) (records : List Record) where
     abbrev Receives : Call → Type 0
     Receives y =
         let a = (called m p (row_of numbered m p y)).1.answer in
-        is_receive (event.Call p y) && is_accepted a ≡ true → accepted_value a ≡ received_told c records (event.Call p y)
+        is_receive (event.Call p y) && is_accepted a ≡ true → accepted_value a ≡ received_reported c records (event.Call p y)
 
     receives_buffer : (y : BufferCall) → Receives (call.Buffer y)
     unfolding trcv_dtq prcv_dtq
@@ -134,17 +134,17 @@ module _ (c : Setup) (records : List Record) where
     receives_call y = λ none. absurd (false≢true none)
 
 -- an idle processor receives nothing
-idle_receives : (c : Setup) (records : List Record) (p : Proc) (y : Call) → is_receive (event.Call p y) && false ≡ true → None ≡ received_told c records (event.Call p y)
+idle_receives : (c : Setup) (records : List Record) (p : Proc) (y : Call) → is_receive (event.Call p y) && false ≡ true → None ≡ received_reported c records (event.Call p y)
 idle_receives c records p y none = absurd (false≢true (sym (never (is_receive (event.Call p y))) ∙ none))
   where
     never : (b : Bool) → (b && false) ≡ false
     never true = refl
     never false = refl
 
-pub received_values_told : (c : Setup) (events : List Event) → IsValid c → AreOn c.processors events → (e : Event) → (processor_of e).number ≤ c.processors →
-    IsReceivedTold c (answers numbered (booted c) events) (step numbered (replay numbered (booted c) events) e).1
+pub received_values_reported : (c : Setup) (events : List Event) → IsValid c → AreOn c.processors events → (e : Event) → (processor_of e).number ≤ c.processors →
+    IsReceivedReported c (answers numbered (booted c) events) (step numbered (replay numbered (booted c) events) e).1
 unfolding ticked
-received_values_told c events valid on e within =
+received_values_reported c events valid on e within =
     let m : State = replay numbered (booted c) events in
     let records : List Record = answers numbered (booted c) events in
     let x : Places = places_by c records (places_at_boot c) in
@@ -153,7 +153,7 @@ received_values_told c events valid on e within =
     ap first
     (queue_same c m x (placed_after_all c events valid on) (waits_after_all c events valid on) (priorities_after_all c events valid on) ready.tasks ready.sound.few_tasks
     kind.Send d (to_send d) (send_in d)) in
-    by_event numbered m (λ v r. IsReceivedTold c records r) (λ v cs r y ps h. h)
+    by_event numbered m (λ v r. IsReceivedReported c records r) (λ v cs r y ps h. h)
     (λ p y. receives_call c records m (values_after_all c events valid on) (λ t. (waits_after_all c events valid on t).0.wait) senders p y)
     (λ p y. idle_receives c records p y) (λ p none. absurd (false≢true none)) (λ p none. absurd (false≢true none)) (λ p none. absurd (false≢true none))
     (λ p a no none. absurd (false≢true none)) e

@@ -27,33 +27,33 @@ use Rattle.fmp_rules.specs.Boot.{booted}
 use Rattle.fmp_rules.specs.Step.{step, replay, answers}
 use Rattle.fmp_law_safety.specs.Runs.{processor_of, AreOn}
 use Rattle.fmp_law_balance.specs.Accepted.{is_accepted, accepted_value}
-use Rattle.fmp_law_records.specs.Requests.{ProcessorTold, told_processor}
-use Rattle.fmp_law_refusals.specs.Callers.{told_caller, told_running}
+use Rattle.fmp_law_records.specs.Requests.{ProcessorReported, report_processor}
+use Rattle.fmp_law_refusals.specs.Callers.{report_caller, report_running}
 use Rattle.fmp_law_refusals.specs.Meanings.{object_of}
-use Rattle.fmp_law_refusals.specs.Found.{FoundTold, found_told, gives_value}
-use Rattle.fmp_law_refusals.specs.Refusals.{first_of, row_told}
-use Rattle.fmp_law_refusals.specs.Outcomes.{or_waits, task_outcome, sync_outcome, system_outcome, spin_outcome, outcome_told, refused_or, answer_told}
-use Rattle.fmp_law_refusals.proofs.Answers.{answers_told}
-use Rattle.fmp_law_refusals.proofs.Callers.{callers_told}
-use Rattle.fmp_law_effects.specs.RunChanges.{change_told, requests_told}
-use Rattle.fmp_law_effects.specs.Losses.{lost_told}
-use Rattle.fmp_law_effects.specs.Releases.{releases_told}
-use Rattle.fmp_law_effects.specs.Received.{is_receive, received_told}
-use Rattle.fmp_law_effects.specs.Records.{IsTold}
-use Rattle.fmp_law_effects.proofs.Losses.{losses_told}
-use Rattle.fmp_law_effects.proofs.Received.{received_values_told}
-use Rattle.fmp_law_effects.proofs.ReleasesRuns.{releases_are_told}
-use Rattle.fmp_law_effects.proofs.RunChangesRuns.{run_change_told}
+use Rattle.fmp_law_refusals.specs.Found.{FoundReported, found_reported, gives_value}
+use Rattle.fmp_law_refusals.specs.Refusals.{first_of, row_reported}
+use Rattle.fmp_law_refusals.specs.Outcomes.{or_waits, task_outcome, sync_outcome, system_outcome, spin_outcome, outcome_reported, refused_or, answer_reported}
+use Rattle.fmp_law_refusals.proofs.Answers.{answers_reported}
+use Rattle.fmp_law_refusals.proofs.Callers.{callers_reported}
+use Rattle.fmp_law_effects.specs.RunChanges.{change_reported, requests_reported}
+use Rattle.fmp_law_effects.specs.Losses.{lost_reported}
+use Rattle.fmp_law_effects.specs.Releases.{releases_reported}
+use Rattle.fmp_law_effects.specs.Received.{is_receive, received_reported}
+use Rattle.fmp_law_effects.specs.Records.{IsReported}
+use Rattle.fmp_law_effects.proofs.Losses.{losses_reported}
+use Rattle.fmp_law_effects.proofs.Received.{received_values_reported}
+use Rattle.fmp_law_effects.proofs.ReleasesRuns.{releases_are_reported}
+use Rattle.fmp_law_effects.proofs.RunChangesRuns.{run_change_reported}
 
-pub record_told : (c : Setup) (events : List Event) → IsValid c → AreOn c.processors events → (e : Event) → (processor_of e).number ≤ c.processors →
-    IsTold c (answers numbered (booted c) events) (step numbered (replay numbered (booted c) events) e).1
-record_told c events valid on e within = record {
-  caller = callers_told c events valid on e within;
-  answer = answers_told c events valid on e within;
-  received = received_values_told c events valid on e within;
-  releases = releases_are_told c events valid on e within;
-  lost = losses_told c events valid on e within;
-  changes = run_change_told c events valid on e within;
+pub record_reported : (c : Setup) (events : List Event) → IsValid c → AreOn c.processors events → (e : Event) → (processor_of e).number ≤ c.processors →
+    IsReported c (answers numbered (booted c) events) (step numbered (replay numbered (booted c) events) e).1
+record_reported c events valid on e within = record {
+  caller = callers_reported c events valid on e within;
+  answer = answers_reported c events valid on e within;
+  received = received_values_reported c events valid on e within;
+  releases = releases_are_reported c events valid on e within;
+  lost = losses_reported c events valid on e within;
+  changes = run_change_reported c events valid on e within;
 }
 
 -- An answer depends on the value that is received only where a call that receives is accepted.
@@ -74,7 +74,7 @@ module _ (v u : Option ℤ) where
   waits_same true none = done_same none
   waits_same false none = refl
 
-  module _ (c : Setup) (x : FoundTold) (here : ProcessorTold) (running : Option Task) (p : Proc) (r : Option Runner) where
+  module _ (c : Setup) (x : FoundReported) (here : ProcessorReported) (running : Option Task) (p : Proc) (r : Option Runner) where
     task_same : (y : TaskCall) → task_outcome c x here running p r v y ≡ task_outcome c x here running p r u y
     task_same y = refl
 
@@ -88,7 +88,7 @@ module _ (v u : Option ℤ) where
     spin_same y = refl
 
     abbrev answered : Option Code → Option ℤ → Call → Answer
-    answered z w y = if is_some r then refused_or z (outcome_told c x here running p r w y) else answer.Idle
+    answered z w y = if is_some r then refused_or z (outcome_reported c x here running p r w y) else answer.Idle
 
     call_same : (z : Option Code) (y : Call) → is_receive (event.Call p y) && is_accepted (answered z v y) ≡ false → answered z v y ≡ answered z u y
     call_same z (call.Buffer (buffer.RcvDtq id)) none = refused_same (is_some r) z _ _ (waits_same (gives_value c x (object_of id))) none
@@ -102,18 +102,18 @@ module _ (v u : Option ℤ) where
     call_same z y none = refl
 
 module _ (c : Setup) (records : List Record) (o : Option Runner) where
-  event_same : (v u : Option ℤ) (e : Event) → is_receive e && is_accepted (answer_told c records o v e) ≡ false →
-      answer_told c records o v e ≡ answer_told c records o u e
+  event_same : (v u : Option ℤ) (e : Event) → is_receive e && is_accepted (answer_reported c records o v e) ≡ false →
+      answer_reported c records o v e ≡ answer_reported c records o u e
   event_same v u (event.Call p y) none =
-      call_same v u c (found_told c records) (told_processor c p records) (told_running c p records) p o (first_of (row_told c records p o y)) y none
+      call_same v u c (found_reported c records) (report_processor c p records) (report_running c p records) p o (first_of (row_reported c records p o y)) y none
   event_same v u e none = refl
 
   -- so the whole answer is told
-  whole : (a : Answer) (e : Event) → a ≡ answer_told c records o (accepted_value a) e →
-      (is_receive e && is_accepted a ≡ true → accepted_value a ≡ received_told c records e) → a ≡ answer_told c records o (received_told c records e) e
-  whole a e told received =
-      ⊎_elim (λ yes_. told ∙ ap (λ v. answer_told c records o v e) (received yes_))
-      (λ no_. told ∙ event_same (accepted_value a) (received_told c records e) e (ap (λ x. is_receive e && is_accepted x) (sym told) ∙ no_))
+  whole : (a : Answer) (e : Event) → a ≡ answer_reported c records o (accepted_value a) e →
+      (is_receive e && is_accepted a ≡ true → accepted_value a ≡ received_reported c records e) → a ≡ answer_reported c records o (received_reported c records e) e
+  whole a e report received =
+      ⊎_elim (λ yes_. report ∙ ap (λ v. answer_reported c records o v e) (received yes_))
+      (λ no_. report ∙ event_same (accepted_value a) (received_reported c records e) e (ap (λ x. is_receive e && is_accepted x) (sym report) ∙ no_))
       (cases_Bool (is_receive e && is_accepted a))
 
 -- what the changes of a record are told by: not by its changes
@@ -121,29 +121,29 @@ abbrev front : Event → Option Runner → Answer → List Release → Record
 front e o a rs = record { event = e; runner = o; answer = a; releases = rs; lost = None; run_change = None; requests = [] }
 
 module _ (c : Setup) (records : List Record) where
-  same_change : (r : Record) → change_told c records r ≡ change_told c records (front r.event r.runner r.answer r.releases)
+  same_change : (r : Record) → change_reported c records r ≡ change_reported c records (front r.event r.runner r.answer r.releases)
   same_change r = refl
 
-  same_requests : (r : Record) → requests_told c records r ≡ requests_told c records (front r.event r.runner r.answer r.releases)
+  same_requests : (r : Record) → requests_reported c records r ≡ requests_reported c records (front r.event r.runner r.answer r.releases)
   same_requests r = refl
 
-  pub one_record : (r s : Record) → IsTold c records r → IsTold c records s → r.event ≡ s.event → r ≡ s
+  pub one_record : (r s : Record) → IsReported c records r → IsReported c records s → r.event ≡ s.event → r ≡ s
   one_record r s of_r of_s event =
-      let runner : r.runner ≡ s.runner = of_r.caller ∙ ap (λ e. told_caller c (processor_of e) records) event ∙ sym of_s.caller in
+      let runner : r.runner ≡ s.runner = of_r.caller ∙ ap (λ e. report_caller c (processor_of e) records) event ∙ sym of_s.caller in
       let answer : r.answer ≡ s.answer =
-      whole c records r.runner r.answer r.event of_r.answer of_r.received ∙ ap (λ o. answer_told c records o (received_told c records r.event) r.event) runner
-      ∙ ap (λ e. answer_told c records s.runner (received_told c records e) e) event ∙ sym (whole c records s.runner s.answer s.event of_s.answer of_s.received) in
+      whole c records r.runner r.answer r.event of_r.answer of_r.received ∙ ap (λ o. answer_reported c records o (received_reported c records r.event) r.event) runner
+      ∙ ap (λ e. answer_reported c records s.runner (received_reported c records e) e) event ∙ sym (whole c records s.runner s.answer s.event of_s.answer of_s.received) in
       let releases : r.releases ≡ s.releases =
-      of_r.releases ∙ ap (λ o. releases_told c records o r.answer r.event) runner ∙ ap (λ a. releases_told c records s.runner a r.event) answer
-      ∙ ap (releases_told c records s.runner s.answer) event ∙ sym of_s.releases in
-      let lost : r.lost ≡ s.lost = of_r.lost ∙ ap (λ a. lost_told c records a r.event) answer ∙ ap (lost_told c records s.answer) event ∙ sym of_s.lost in
+      of_r.releases ∙ ap (λ o. releases_reported c records o r.answer r.event) runner ∙ ap (λ a. releases_reported c records s.runner a r.event) answer
+      ∙ ap (releases_reported c records s.runner s.answer) event ∙ sym of_s.releases in
+      let lost : r.lost ≡ s.lost = of_r.lost ∙ ap (λ a. lost_reported c records a r.event) answer ∙ ap (lost_reported c records s.answer) event ∙ sym of_s.lost in
       let fronts : front r.event r.runner r.answer r.releases ≡ front s.event s.runner s.answer s.releases =
       ap (λ e. front e r.runner r.answer r.releases) event ∙ ap (λ o. front s.event o r.answer r.releases) runner
       ∙ ap (λ a. front s.event s.runner a r.releases) answer ∙ ap (front s.event s.runner s.answer) releases in
       let change : r.run_change ≡ s.run_change =
-      of_r.changes.run_change ∙ same_change r ∙ ap (change_told c records) fronts ∙ sym (same_change s) ∙ sym of_s.changes.run_change in
+      of_r.changes.run_change ∙ same_change r ∙ ap (change_reported c records) fronts ∙ sym (same_change s) ∙ sym of_s.changes.run_change in
       let requests : r.requests ≡ s.requests =
-      of_r.changes.requests ∙ same_requests r ∙ ap (requests_told c records) fronts ∙ sym (same_requests s) ∙ sym of_s.changes.requests in
+      of_r.changes.requests ∙ same_requests r ∙ ap (requests_reported c records) fronts ∙ sym (same_requests s) ∙ sym of_s.changes.requests in
       ap (λ (x : Record). record x { lost = r.lost; run_change = r.run_change; requests = r.requests }) fronts
       ∙ ap (λ x. record s { lost = x; run_change = r.run_change; requests = r.requests }) lost
       ∙ ap (λ x. record s { run_change = x; requests = r.requests }) change

@@ -55,7 +55,7 @@ use Rattle.fmp_law_balance.proofs.Called.{AllRefuse, refuses, not_accepted, by_c
 use Rattle.fmp_law_waits.specs.Asked.{OpenWait}
 use Rattle.fmp_law_waits.proofs.Several.{Distinct}
 use Rattle.fmp_law_waits.proofs.Words.{IsKept}
-use Rattle.fmp_law_records.specs.Patterns.{handed_on, clears_of, told_pattern}
+use Rattle.fmp_law_records.specs.Patterns.{handed_on, clears_of, report_pattern}
 use Rattle.fmp_law_records.specs.Served.{Places}
 use Rattle.fmp_law_records.proofs.Places.{ArePlaced}
 use Rattle.fmp_law_refusals.specs.Meanings.{task_of, task_meant, object_of}
@@ -138,7 +138,7 @@ module _ (m : State) (p : Proc) where
   quiet_waits can did z timeout quiet = cond_both can did _ Quiet (λ _. quiet) (λ _. cond_both (is_zero timeout) _ _ Quiet (λ _. refl) (λ _. refl))
 
   tells_waits : (rs : List Release) (can : Bool) (did : State × Effect) (z : Wait) (timeout : ℤ) → Tells rs did → Tells rs (done_or_wait numbered m p can did z timeout)
-  tells_waits rs can did z timeout told = cond_both can did _ (Tells rs) (λ _. told) (λ _. cond_both (is_zero timeout) _ _ (Tells rs) (λ _. refl) (λ _. refl))
+  tells_waits rs can did z timeout report = cond_both can did _ (Tells rs) (λ _. report) (λ _. cond_both (is_zero timeout) _ _ (Tells rs) (λ _. refl) (λ _. refl))
 
   abbrev of_list : {X : Type 0} → List X → ℤ → Object
   of_list xs id = unwrap_or (object_named xs id) (as_object 1)
@@ -198,7 +198,7 @@ module _ (m : State) (p : Proc) where
 
 module _ (c : Setup) (records : List Record) (m : State) (x : Places) (placed : ArePlaced c x m) (waits : (t : Task) → IsKept c m t (x.waits t))
     (priorities : (t : Task) → is_some (x.waits t) ≡ true → (task m t).priority ≡ x.priority t) (count : length m.tasks ≡ length c.tasks) (few : length m.tasks ≤ 64)
-    (h : Configured c m) (patterns : (f : Object) → (eventflag m f).pattern ≡ told_pattern c f records) where
+    (h : Configured c m) (patterns : (f : Object) → (eventflag m f).pattern ≡ report_pattern c f records) where
   -- The waiters of an eventflag.
 
   ready_others : (v : State) (t : Task) (us : List Task) → All (λ u. u.number ≡ t.number → ⊥) us → All (λ u. (task v u).wait ≡ now (x.waits u)) us →
@@ -225,13 +225,13 @@ module _ (c : Setup) (records : List Record) (m : State) (x : Places) (placed : 
       ∙ sym (cond-false (waits_so (is_set y) (x.waits t)) (this ∷ handed_out c x clears (handed_on clears y) ts) (handed_out c x clears y ts) (sym met ∙ no_)))
 
   flag_same : (f : Object) (bits : ℕ) → (served numbered m f (bit_or (eventflag m f).pattern bits) (queue numbered m kind.Eventflag f)).1
-      ≡ flag_releases c x f (bit_or (told_pattern c f records) bits)
+      ≡ flag_releases c x f (bit_or (report_pattern c f records) bits)
   flag_same f bits =
       served_same f m (clears_of c f) (ap (λ (s : EventflagSetup). s.clears) (eventflag_setup c m h f)) (bit_or (eventflag m f).pattern bits)
       (queue numbered m kind.Eventflag f) (queue_distinct c m x placed waits priorities count few kind.Eventflag f)
       (λ i d below. (waits (slice_index_or (queue numbered m kind.Eventflag f) i d)).0.wait)
       ∙ ap (λ y. handed_out c x (clears_of c f) (bit_or y bits) (queue numbered m kind.Eventflag f)) (patterns f)
-      ∙ ap (handed_out c x (clears_of c f) (bit_or (told_pattern c f records) bits))
+      ∙ ap (handed_out c x (clears_of c f) (bit_or (report_pattern c f records) bits))
       (queue_same c m x placed waits priorities count few kind.Eventflag f (for_bits f) (bits_in f))
 
   -- The first of each queue.
@@ -249,8 +249,8 @@ module _ (c : Setup) (records : List Record) (m : State) (x : Places) (placed : 
   first_for_block o = ap first (queue_same c m x placed waits priorities count few kind.Pool o (for_block o) (block_in o))
 
   module _ (p : Proc) (within : (t : Task) → (processor m p).running ≡ Some t → t.number ≤ length m.tasks) where
-    abbrev IsTold : Call → Type 0
-    IsTold y = Tells (call_releases c x records (runner_of m p) y) (called m p (row_of numbered m p y))
+    abbrev IsReported : Call → Type 0
+    IsReported y = Tells (call_releases c x records (runner_of m p) y) (called m p (row_of numbered m p y))
 
     -- Tasks.
 
@@ -261,23 +261,23 @@ module _ (c : Setup) (records : List Record) (m : State) (x : Places) (placed : 
     wakes u = if is_sleep (task m u).wait then release numbered m u code.Accepted None
         else (with_task m u (record (task m u) { wakeups = (task m u).wakeups + 1 }), done)
 
-    wakes_told : (u : Task) → Tells (woken c x u) (wakes u)
-    wakes_told u =
+    wakes_reported : (u : Task) → Tells (woken c x u) (wakes u)
+    wakes_reported u =
         let same : is_sleep (task m u).wait ≡ waits_so for_wakeup (x.waits u) = ap is_sleep (waits u).0.wait ∙ asleep (x.waits u) in
         let this : List Release = released_with u code.Accepted None ∷ [] in
         cond_both (is_sleep (task m u).wait) _ _ (Tells (woken c x u)) (λ yes_. sym (cond-true (waits_so for_wakeup (x.waits u)) this [] (sym same ∙ yes_)))
         (λ no_. sym (cond-false (waits_so for_wakeup (x.waits u)) this [] (sym same ∙ no_)))
 
-    tells_task : (y : TaskCall) → IsTold (call.Task y)
+    tells_task : (y : TaskCall) → IsReported (call.Task y)
     unfolding act mact can_act mig_tsk ext_tsk ter_tsk chg_pri tslp_tsk wup can_wup rel_wai sus_tsk rsm_tsk dly_tsk
     tells_task (tasks.WupTsk id) =
         by_row m p (woken c x (task_meant (runner_of m p) id)) (task_row numbered m p (tasks.WupTsk id)) (refl, (refl, tt))
         (λ a.
         let is : IsTask c m h (task_meant (runner_of m p) id) (task_or_caller m p id) = meant_is c m h p (from_task m p false false a.rule) within id a.known in
-        subst (λ (u : Task). Tells (woken c x u) (wakes (the (task_or_caller m p id)))) is.is (wakes_told (the (task_or_caller m p id))))
+        subst (λ (u : Task). Tells (woken c x u) (wakes (the (task_or_caller m p id)))) is.is (wakes_reported (the (task_or_caller m p id))))
     tells_task (tasks.IwupTsk id) =
         by_row m p (woken c x (task_of id)) (task_row numbered m p (tasks.IwupTsk id)) (refl, (refl, tt))
-        (λ a. subst (λ (u : Task). Tells (woken c x u) (wakes (the (task_named m id)))) (task_is c m h id a.known).is (wakes_told (the (task_named m id))))
+        (λ a. subst (λ (u : Task). Tells (woken c x u) (wakes (the (task_named m id)))) (task_is c m h id a.known).is (wakes_reported (the (task_named m id))))
     tells_task (tasks.RelWai id) =
         by_row m p (released_with (task_of id) code.WaitReleased None ∷ []) (task_row numbered m p (tasks.RelWai id)) (refl, tt)
         (λ a. ap (λ (u : Task). released_with u code.WaitReleased None ∷ []) (task_is c m h id a.known).is)
@@ -290,30 +290,30 @@ module _ (c : Setup) (records : List Record) (m : State) (x : Places) (placed : 
 
     -- Semaphores and eventflags.
 
-    signal_told : (s o : Object) → s ≡ o → Tells (given_to (next_for_unit c x o) None) (signal numbered m s (first (queue numbered m kind.Semaphore s)))
-    signal_told s o is =
+    signal_reported : (s o : Object) → s ≡ o → Tells (given_to (next_for_unit c x o) None) (signal numbered m s (first (queue numbered m kind.Semaphore s)))
+    signal_reported s o is =
         subst (λ (u : Object). Tells (given_to (next_for_unit c x u) None) (signal numbered m s (first (queue numbered m kind.Semaphore s)))) is
         (subst (λ t. Tells (given_to t None) (signal numbered m s (first (queue numbered m kind.Semaphore s)))) (first_for_unit s)
         (signal_tells m p s (first (queue numbered m kind.Semaphore s))))
 
-    set_told : (f o : Object) (bits : ℕ) → f ≡ o →
-        (served numbered m f (bit_or (eventflag m f).pattern bits) (queue numbered m kind.Eventflag f)).1 ≡ flag_releases c x o (bit_or (told_pattern c o records) bits)
-    set_told f o bits is = flag_same f bits ∙ ap (λ (u : Object). flag_releases c x u (bit_or (told_pattern c u records) bits)) is
+    set_reported : (f o : Object) (bits : ℕ) → f ≡ o →
+        (served numbered m f (bit_or (eventflag m f).pattern bits) (queue numbered m kind.Eventflag f)).1 ≡ flag_releases c x o (bit_or (report_pattern c o records) bits)
+    set_reported f o bits is = flag_same f bits ∙ ap (λ (u : Object). flag_releases c x u (bit_or (report_pattern c u records) bits)) is
 
-    tells_sync : (y : SyncCall) → IsTold (call.Sync y)
+    tells_sync : (y : SyncCall) → IsReported (call.Sync y)
     unfolding sig_sem twai_sem pol_sem set_flg clr_flg twai_flg pol_flg
     tells_sync (sync.SigSem id) =
         by_row m p (given_to (next_for_unit c x (object_of id)) None) (sync_row numbered m p (sync.SigSem id)) (refl, tt)
-        (λ a. signal_told (of_list m p m.semaphores id) (object_of id) (object_is m.semaphores id a.known))
+        (λ a. signal_reported (of_list m p m.semaphores id) (object_of id) (object_is m.semaphores id a.known))
     tells_sync (sync.IsigSem id) =
         by_row m p (given_to (next_for_unit c x (object_of id)) None) (sync_row numbered m p (sync.IsigSem id)) (refl, tt)
-        (λ a. signal_told (of_list m p m.semaphores id) (object_of id) (object_is m.semaphores id a.known))
+        (λ a. signal_reported (of_list m p m.semaphores id) (object_of id) (object_is m.semaphores id a.known))
     tells_sync (sync.SetFlg id bits) =
-        by_row m p (flag_releases c x (object_of id) (bit_or (told_pattern c (object_of id) records) bits)) (sync_row numbered m p (sync.SetFlg id bits)) tt
-        (λ a. set_told (of_list m p m.eventflags id) (object_of id) bits (object_is m.eventflags id a.known))
+        by_row m p (flag_releases c x (object_of id) (bit_or (report_pattern c (object_of id) records) bits)) (sync_row numbered m p (sync.SetFlg id bits)) tt
+        (λ a. set_reported (of_list m p m.eventflags id) (object_of id) bits (object_is m.eventflags id a.known))
     tells_sync (sync.IsetFlg id bits) =
-        by_row m p (flag_releases c x (object_of id) (bit_or (told_pattern c (object_of id) records) bits)) (sync_row numbered m p (sync.IsetFlg id bits)) tt
-        (λ a. set_told (of_list m p m.eventflags id) (object_of id) bits (object_is m.eventflags id a.known))
+        by_row m p (flag_releases c x (object_of id) (bit_or (report_pattern c (object_of id) records) bits)) (sync_row numbered m p (sync.IsetFlg id bits)) tt
+        (λ a. set_reported (of_list m p m.eventflags id) (object_of id) bits (object_is m.eventflags id a.known))
     tells_sync (sync.WaiSem id) = quiet_called m p (sync_row numbered m p (sync.WaiSem id))
         (quiet_waits m p _ _ (wait.Semaphore (of_list m p m.semaphores id)) forever refl)
     tells_sync (sync.TwaiSem id timeout) =
@@ -331,72 +331,72 @@ module _ (c : Setup) (records : List Record) (m : State) (x : Places) (placed : 
     abbrev Sends : Object → ℤ → State × Effect → Type 0
     Sends d v did = Tells (given_to (next_receiver c x d) (Some v)) did
 
-    send_told : (id v : ℤ) (did : State × Effect) → is_some (object_named m.data_queues id) ≡ true →
+    send_reported : (id v : ℤ) (did : State × Effect) → is_some (object_named m.data_queues id) ≡ true →
         Tells (given_to (receiver numbered m (of_list m p m.data_queues id)) (Some v)) did → Sends (object_of id) v did
-    send_told id v did known told =
+    send_reported id v did known report =
         subst (λ (u : Object). Sends u v did) (object_is m.data_queues id known)
-        (subst (λ t. Tells (given_to t (Some v)) did) (first_receiver (of_list m p m.data_queues id)) told)
+        (subst (λ t. Tells (given_to t (Some v)) did) (first_receiver (of_list m p m.data_queues id)) report)
 
-    receive_told : (id : ℤ) (did : State × Effect) → is_some (object_named m.data_queues id) ≡ true →
+    receive_reported : (id : ℤ) (did : State × Effect) → is_some (object_named m.data_queues id) ≡ true →
         Tells (given_to (sender numbered m (of_list m p m.data_queues id)) None) did → Tells (given_to (next_sender c x (object_of id)) None) did
-    receive_told id did known told =
+    receive_reported id did known report =
         subst (λ (u : Object). Tells (given_to (next_sender c x u) None) did) (object_is m.data_queues id known)
-        (subst (λ t. Tells (given_to t None) did) (first_sender (of_list m p m.data_queues id)) told)
+        (subst (λ t. Tells (given_to t None) did) (first_sender (of_list m p m.data_queues id)) report)
 
-    return_told : (id : ℤ) (b : ℕ) (did : State × Effect) → is_some (object_named m.pools id) ≡ true →
+    return_reported : (id : ℤ) (b : ℕ) (did : State × Effect) → is_some (object_named m.pools id) ≡ true →
         Tells (given_to (first (queue numbered m kind.Pool (of_list m p m.pools id))) (Some (pos b))) did → Tells
         (given_to (next_for_block c x (object_of id)) (Some (pos b))) did
-    return_told id b did known told =
+    return_reported id b did known report =
         subst (λ (u : Object). Tells (given_to (next_for_block c x u) (Some (pos b))) did) (object_is m.pools id known)
-        (subst (λ t. Tells (given_to t (Some (pos b))) did) (first_for_block (of_list m p m.pools id)) told)
+        (subst (λ t. Tells (given_to t (Some (pos b))) did) (first_for_block (of_list m p m.pools id)) report)
 
     abbrev effect_of : BufferCall → State × Effect
     effect_of y = (buffer_row numbered m p y).effect
 
-    tells_buffer : (y : BufferCall) → IsTold (call.Buffer y)
+    tells_buffer : (y : BufferCall) → IsReported (call.Buffer y)
     unfolding tsnd_dtq psnd_dtq fsnd_dtq trcv_dtq prcv_dtq tget_mpf pget_mpf rel_mpf
     tells_buffer (buffer.SndDtq id v) =
         let d : Object = of_list m p m.data_queues id in
         by_row m p (given_to (next_receiver c x (object_of id)) (Some v)) (buffer_row numbered m p (buffer.SndDtq id v)) tt
-        (λ a. send_told id v (effect_of (buffer.SndDtq id v)) a.known
+        (λ a. send_reported id v (effect_of (buffer.SndDtq id v)) a.known
         (tells_waits m p (given_to (receiver numbered m d) (Some v)) _ _ (wait.Send d v) forever (sent_tells m p d v (receiver numbered m d))))
     tells_buffer (buffer.TsndDtq id v timeout) =
         let d : Object = of_list m p m.data_queues id in
         by_row m p (given_to (next_receiver c x (object_of id)) (Some v)) (buffer_row numbered m p (buffer.TsndDtq id v timeout)) tt
-        (λ a. send_told id v (effect_of (buffer.TsndDtq id v timeout)) a.known
+        (λ a. send_reported id v (effect_of (buffer.TsndDtq id v timeout)) a.known
         (tells_waits m p (given_to (receiver numbered m d) (Some v)) _ _ (wait.Send d v) timeout (sent_tells m p d v (receiver numbered m d))))
     tells_buffer (buffer.PsndDtq id v) =
         let d : Object = of_list m p m.data_queues id in
         by_row m p (given_to (next_receiver c x (object_of id)) (Some v)) (buffer_row numbered m p (buffer.PsndDtq id v)) (refl, tt)
-        (λ a. send_told id v (effect_of (buffer.PsndDtq id v)) a.known (sent_tells m p d v (receiver numbered m d)))
+        (λ a. send_reported id v (effect_of (buffer.PsndDtq id v)) a.known (sent_tells m p d v (receiver numbered m d)))
     tells_buffer (buffer.IpsndDtq id v) =
         let d : Object = of_list m p m.data_queues id in
         by_row m p (given_to (next_receiver c x (object_of id)) (Some v)) (buffer_row numbered m p (buffer.IpsndDtq id v)) (refl, tt)
-        (λ a. send_told id v (effect_of (buffer.IpsndDtq id v)) a.known (sent_tells m p d v (receiver numbered m d)))
+        (λ a. send_reported id v (effect_of (buffer.IpsndDtq id v)) a.known (sent_tells m p d v (receiver numbered m d)))
     tells_buffer (buffer.FsndDtq id v) =
         by_row m p (given_to (next_receiver c x (object_of id)) (Some v)) (buffer_row numbered m p (buffer.FsndDtq id v)) (refl, tt)
-        (λ a. send_told id v (effect_of (buffer.FsndDtq id v)) a.known (forced_tells m p (of_list m p m.data_queues id) v))
+        (λ a. send_reported id v (effect_of (buffer.FsndDtq id v)) a.known (forced_tells m p (of_list m p m.data_queues id) v))
     tells_buffer (buffer.IfsndDtq id v) =
         by_row m p (given_to (next_receiver c x (object_of id)) (Some v)) (buffer_row numbered m p (buffer.IfsndDtq id v)) (refl, tt)
-        (λ a. send_told id v (effect_of (buffer.IfsndDtq id v)) a.known (forced_tells m p (of_list m p m.data_queues id) v))
+        (λ a. send_reported id v (effect_of (buffer.IfsndDtq id v)) a.known (forced_tells m p (of_list m p m.data_queues id) v))
     tells_buffer (buffer.RcvDtq id) =
         let d : Object = of_list m p m.data_queues id in
         by_row m p (given_to (next_sender c x (object_of id)) None) (buffer_row numbered m p (buffer.RcvDtq id)) tt
-        (λ a. receive_told id (effect_of (buffer.RcvDtq id)) a.known
+        (λ a. receive_reported id (effect_of (buffer.RcvDtq id)) a.known
         (tells_waits m p (given_to (sender numbered m d) None) _ _ (wait.Receive d) forever (received_tells m p d (sender numbered m d))))
     tells_buffer (buffer.TrcvDtq id timeout) =
         let d : Object = of_list m p m.data_queues id in
         by_row m p (given_to (next_sender c x (object_of id)) None) (buffer_row numbered m p (buffer.TrcvDtq id timeout)) tt
-        (λ a. receive_told id (effect_of (buffer.TrcvDtq id timeout)) a.known
+        (λ a. receive_reported id (effect_of (buffer.TrcvDtq id timeout)) a.known
         (tells_waits m p (given_to (sender numbered m d) None) _ _ (wait.Receive d) timeout (received_tells m p d (sender numbered m d))))
     tells_buffer (buffer.PrcvDtq id) =
         let d : Object = of_list m p m.data_queues id in
         by_row m p (given_to (next_sender c x (object_of id)) None) (buffer_row numbered m p (buffer.PrcvDtq id)) (refl, tt)
-        (λ a. receive_told id (effect_of (buffer.PrcvDtq id)) a.known (received_tells m p d (sender numbered m d)))
+        (λ a. receive_reported id (effect_of (buffer.PrcvDtq id)) a.known (received_tells m p d (sender numbered m d)))
     tells_buffer (buffer.RelMpf id (pos b)) =
         let o : Object = of_list m p m.pools id in
         by_row m p (given_to (next_for_block c x (object_of id)) (Some (pos b))) (buffer_row numbered m p (buffer.RelMpf id (pos b))) tt
-        (λ a. return_told id b (effect_of (buffer.RelMpf id (pos b))) a.known (returned_tells m p o b (first (queue numbered m kind.Pool o))))
+        (λ a. return_reported id b (effect_of (buffer.RelMpf id (pos b))) a.known (returned_tells m p o b (first (queue numbered m kind.Pool o))))
     tells_buffer (buffer.RelMpf id (negsuc b)) =
         by_row m p (given_to (next_for_block c x (object_of id)) (Some (negsuc b))) (buffer_row numbered m p (buffer.RelMpf id (negsuc b))) tt
         (λ a. absurd (false≢true a.proper))
@@ -406,7 +406,7 @@ module _ (c : Setup) (records : List Record) (m : State) (x : Places) (placed : 
         quiet_called m p (buffer_row numbered m p (buffer.TgetMpf id timeout)) (quiet_waits m p _ _ (wait.Pool (of_list m p m.pools id)) timeout refl)
     tells_buffer (buffer.PgetMpf id) = quiet_called m p (buffer_row numbered m p (buffer.PgetMpf id)) refl
 
-    pub tells_call : (y : Call) → IsTold y
+    pub tells_call : (y : Call) → IsReported y
     unfolding ret_hdr
     tells_call (call.Task y) = tells_task y
     tells_call (call.Sync y) = tells_sync y

@@ -35,15 +35,15 @@ use Rattle.fmp_law_waits.proofs.Follows.{Sound, running_may}
 use Rattle.fmp_law_waits.proofs.Several.{Distinct}
 use Rattle.fmp_law_waits.proofs.Ticks.{numbered_once, lowered_at}
 use Rattle.fmp_law_waits.proofs.Words.{IsKept}
-use Rattle.fmp_law_records.specs.Patterns.{IsPatternTold}
+use Rattle.fmp_law_records.specs.Patterns.{IsPatternReported}
 use Rattle.fmp_law_records.specs.Served.{Places, began_before, places_by, places_at_boot}
 use Rattle.fmp_law_records.proofs.Alike.{in_order_alike}
-use Rattle.fmp_law_records.proofs.PatternsRuns.{patterns_told}
+use Rattle.fmp_law_records.proofs.PatternsRuns.{patterns_reported}
 use Rattle.fmp_law_records.proofs.Places.{ArePlaced}
-use Rattle.fmp_law_records.proofs.ServedRuns.{waits_by, priority_told_by, placed_booted, placed_run, waiting_active, open_waits}
+use Rattle.fmp_law_records.proofs.ServedRuns.{waits_by, priority_reported_by, placed_booted, placed_run, waiting_active, open_waits}
 use Rattle.fmp_law_records.proofs.TaskRuns.{priority_after_all}
 use Rattle.fmp_law_refusals.proofs.Judged.{at_end, configured_after_all}
-use Rattle.fmp_law_effects.specs.Releases.{released_with, is_timed, how_over, is_over_on, tick_releases, AreReleasesTold}
+use Rattle.fmp_law_effects.specs.Releases.{released_with, is_timed, how_over, is_over_on, tick_releases, AreReleasesReported}
 use Rattle.fmp_law_effects.proofs.Queues.{distinct_filter}
 use Rattle.fmp_law_effects.proofs.Releases.{tells_call}
 
@@ -123,16 +123,16 @@ module _ (c : Setup) (m : State) (x : Places) (placed : ArePlaced c x m) (waits 
     timed_open None e = e
     timed_open (Some o) e = refl
 
-    pub tick_told : (tick numbered m p).1.releases ≡ tick_releases c x p
+    pub tick_reported : (tick numbered m p).1.releases ≡ tick_releases c x p
     unfolding counted_down ticked numbered
-    tick_told =
+    tick_reported =
         let v : State = counted_down m p in
         let timed : List Task = numbered.timed v.order v.waits_left in
         let over : Task → Bool = λ t. is_over (left_now t) in
         let lefts : length v.waits_left ≡ length m.tasks = lowered_length (λ r. counts_for m.timer p r.assigned) m.tasks m.waits_left ∙ sound.waits_left in
         let few : length v.waits_left ≤ 64 = rw lefts sound.few_tasks in
-        let told : List Task = in_order (λ t. is_timed (x.waits t)) (began_before x) (length c.tasks) in
-        let same : timed ≡ told =
+        let report : List Task = in_order (λ t. is_timed (x.waits t)) (began_before x) (length c.tasks) in
+        let same : timed ≡ report =
         in_order_alike (length v.waits_left) few (λ t. is_some (left_now t)) (λ t. is_timed (x.waits t)) (comes_before (λ t. 0) m.order.begun) (began_before x)
         (λ t _. timed_same t)
         (λ t u _ _ a b. sym (placed.same t u (timed_open (x.waits t) (sym (timed_same t) ∙ a)) (timed_open (x.waits u) (sym (timed_same u) ∙ b))))
@@ -157,7 +157,7 @@ module _ (c : Setup) (events : List Event) (valid : IsValid c) (on : AreOn c.pro
 
   -- the waits, the places in the queues and the priorities that are told are those of the machine
   pub waits_after_all : (t : Task) → IsKept c m t (x.waits t)
-  waits_after_all t = subst (λ (pending : OpenWaits). IsKept c m t (pending t)) (sym (waits_by c rs (places_at_boot c))) ((ready_after c valid events on).told t)
+  waits_after_all t = subst (λ (pending : OpenWaits). IsKept c m t (pending t)) (sym (waits_by c rs (places_at_boot c))) ((ready_after c valid events on).report t)
 
   pub placed_after_all : ArePlaced c x m
   placed_after_all = placed_run c (places_at_boot c) (booted c) events (ready_at_boot c valid events on) (placed_booted c valid.few_tasks)
@@ -167,15 +167,15 @@ module _ (c : Setup) (events : List Event) (valid : IsValid c) (on : AreOn c.pro
       let ready = ready_after c valid events on in
       let waits_now : is_some (task m t).wait ≡ true = open_waits (task m t).wait (x.waits t) (waits_after_all t).0.wait open_ in
       let here : t.number ≤ length c.tasks = rw (sym ready.tasks) (not_past (λ (r : TaskRecord). is_some r.wait) no_task m.tasks t.number t.least refl waits_now) in
-      priority_after_all c events valid on t here (waiting_active m ready.safe t waits_now) ∙ sym (priority_told_by c t rs (places_at_boot c))
+      priority_after_all c events valid on t here (waiting_active m ready.safe t waits_now) ∙ sym (priority_reported_by c t rs (places_at_boot c))
 
-  pub releases_are_told : (e : Event) → (processor_of e).number ≤ c.processors → AreReleasesTold c rs (step numbered m e).1
+  pub releases_are_reported : (e : Event) → (processor_of e).number ≤ c.processors → AreReleasesReported c rs (step numbered m e).1
   unfolding ticked
-  releases_are_told e within =
+  releases_are_reported e within =
       let ready = ready_after c valid events on in
-      by_event numbered m (λ v r. AreReleasesTold c rs r) (λ v cs r y ps h. h)
+      by_event numbered m (λ v r. AreReleasesReported c rs r) (λ v cs r y ps h. h)
       (λ p y.
       tells_call c rs m x placed_after_all waits_after_all priorities_after_all ready.tasks ready.sound.few_tasks (configured_after_all c events valid on)
-      (λ f. at_end c events valid on (λ records v. IsPatternTold c records v f) (patterns_told c f events valid on)) p
+      (λ f. at_end c events valid on (λ records v. IsPatternReported c records v f) (patterns_reported c f events valid on)) p
       (λ t runs. not_past (λ (r : TaskRecord). r.active) no_task m.tasks t.number t.least refl (running_may numbered m p ready.safe t runs).active) y)
-      (λ p y. refl) (λ p. tick_told c m x placed_after_all waits_after_all ready.tasks ready.safe ready.sound p) (λ p. refl) (λ p. refl) (λ p a none. refl) e
+      (λ p y. refl) (λ p. tick_reported c m x placed_after_all waits_after_all ready.tasks ready.safe ready.sound p) (λ p. refl) (λ p. refl) (λ p a none. refl) e

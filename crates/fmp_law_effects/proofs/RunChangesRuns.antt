@@ -15,24 +15,24 @@ use Rattle.fmp_rules.specs.Step.{step, replay, answers}
 use Rattle.fmp_rules.specs.Boot.{booted}
 use Rattle.fmp_rules.proofs.Replays.{replay_more, answers_more}
 use Rattle.fmp_law_safety.specs.Runs.{processor_of, AreOn}
-use Rattle.fmp_law_waits.proofs.Events.{event_told}
-use Rattle.fmp_law_records.specs.Requests.{ProcessorTold, is_held_told, came_to_end, is_among, processor_after, processor_by, processor_at_boot, told_processor}
-use Rattle.fmp_law_records.specs.Standing.{Standing, standing_after, standing_by, standing_at_boot, told_standing, top_told}
+use Rattle.fmp_law_waits.proofs.Events.{event_reported}
+use Rattle.fmp_law_records.specs.Requests.{ProcessorReported, is_held_reported, came_to_end, is_among, processor_after, processor_by, processor_at_boot, report_processor}
+use Rattle.fmp_law_records.specs.Standing.{Standing, standing_after, standing_by, standing_at_boot, report_standing, top_reported}
 use Rattle.fmp_law_records.specs.Tops.{RequestsAreDue}
 use Rattle.fmp_law_records.proofs.Ready.{Stands, top_same}
-use Rattle.fmp_law_records.proofs.RequestsRuns.{HoldsTold, holds_after_all}
+use Rattle.fmp_law_records.proofs.RequestsRuns.{HoldsReported, holds_after_all}
 use Rattle.fmp_law_records.proofs.StandingRuns.{stands_from_boot}
 use Rattle.fmp_law_records.proofs.TopsRuns.{requests_due}
-use Rattle.fmp_law_refusals.specs.Callers.{told_running}
+use Rattle.fmp_law_refusals.specs.Callers.{report_running}
 use Rattle.fmp_law_refusals.proofs.Callers.{running_after_all}
 use Rattle.fmp_law_refusals.proofs.Judged.{configured_after_all}
 use Rattle.fmp_law_counts.proofs.Ready.{ready_after}
-use Rattle.fmp_law_effects.specs.RunChanges.{change_to, gets_request, IsRunChangeTold}
+use Rattle.fmp_law_effects.specs.RunChanges.{change_to, gets_request, IsRunChangeReported}
 use Rattle.fmp_law_effects.proofs.RunChanges.{filter_within, Changes, changes_step}
 
 -- One record more.
 
-processor_more : (c : Setup) (p : Proc) (rs : List Record) (r : Record) (x : ProcessorTold) → processor_by c p (rs ++ r ∷ []) x ≡ processor_after c p r
+processor_more : (c : Setup) (p : Proc) (rs : List Record) (r : Record) (x : ProcessorReported) → processor_by c p (rs ++ r ∷ []) x ≡ processor_after c p r
     (processor_by c p rs x)
 processor_more c p [] r x = refl
 processor_more c p (y ∷ rs) r x = processor_more c p rs r (processor_after c p y x)
@@ -64,34 +64,34 @@ module _ (c : Setup) (events : List Event) (valid : IsValid c) (on : AreOn c.pro
   one_more P so = subst (λ rs. P rs after) (answers_more (booted c) events e)
       (subst (P (answers numbered (booted c) (events ++ e ∷ []))) (replay_more (booted c) events e) so)
 
-  holds_next : (p : Proc) → p.number ≤ c.processors → is_held after p ≡ is_held_told (processor_after c p r (told_processor c p records))
+  holds_next : (p : Proc) → p.number ≤ c.processors → is_held after p ≡ is_held_reported (processor_after c p r (report_processor c p records))
   holds_next p here =
-      (one_more (λ rs v. HoldsTold c p v (told_processor c p rs)) (holds_after_all c p here (events ++ e ∷ []) valid on_more)).held
-      ∙ ap is_held_told (processor_more c p records r (processor_at_boot c))
+      (one_more (λ rs v. HoldsReported c p v (report_processor c p rs)) (holds_after_all c p here (events ++ e ∷ []) valid on_more)).held
+      ∙ ap is_held_reported (processor_more c p records r (processor_at_boot c))
 
-  top_next : (p : Proc) → top numbered after p ≡ top_told c (standing_after c r (told_standing c records)) p
+  top_next : (p : Proc) → top numbered after p ≡ top_reported c (standing_after c r (report_standing c records)) p
   top_next p =
-      let h : Stands c (told_standing c (records ++ r ∷ [])) after = one_more (λ rs v. Stands c (told_standing c rs) v)
+      let h : Stands c (report_standing c (records ++ r ∷ [])) after = one_more (λ rs v. Stands c (report_standing c rs) v)
       (stands_from_boot c (events ++ e ∷ []) valid on_more) in
-      top_same c (told_standing c (records ++ r ∷ [])) after h (rw h.count valid.few_tasks) p ∙ ap (λ s. top_told c s p) (standing_more c records r (standing_at_boot c))
+      top_same c (report_standing c (records ++ r ∷ [])) after h (rw h.count valid.few_tasks) p ∙ ap (λ s. top_reported c s p) (standing_more c records r (standing_at_boot c))
 
-  pub run_change_after : IsRunChangeTold c records r
+  pub run_change_after : IsRunChangeReported c records r
   run_change_after =
       let count : length m.processors ≡ c.processors = (configured_after_all c events valid on).processors in
       let few : length m.processors ≤ 8 = rw count valid.few_processors in
       let changes : Changes m few (ready_after c valid events on).safe (step numbered m e) = changes_step m few (ready_after c valid events on).safe e
       (rw count within) in
       let p : Proc = processor_of r.event in
-      let here : p.number ≤ c.processors = rw (event_told numbered m e) within in
-      let sent : RequestsAreDue c (told_standing c records) r = requests_due c events valid on e within in
+      let here : p.number ≤ c.processors = rw (event_reported numbered m e) within in
+      let sent : RequestsAreDue c (report_standing c records) r = requests_due c events valid on e within in
       record {
         run_change =
             changes.change
             ∙ ap (λ b. change_to (came_to_end r.runner r.answer r.event) b (processor m p).running (top numbered after p)) (holds_next p here)
-            ∙ ap (λ (o : Option Task). change_to (came_to_end r.runner r.answer r.event) (is_held_told (processor_after c p r (told_processor c p records))) o
+            ∙ ap (λ (o : Option Task). change_to (came_to_end r.runner r.answer r.event) (is_held_reported (processor_after c p r (report_processor c p records))) o
             (top numbered after p))
             (running_after_all c valid p here events on)
-            ∙ ap (change_to (came_to_end r.runner r.answer r.event) (is_held_told (processor_after c p r (told_processor c p records))) (told_running c p records))
+            ∙ ap (change_to (came_to_end r.runner r.answer r.event) (is_held_reported (processor_after c p r (report_processor c p records))) (report_running c p records))
             (top_next p);
         requests =
             changes.listed
@@ -100,6 +100,6 @@ module _ (c : Setup) (events : List Event) (valid : IsValid c) (on : AreOn c.pro
             (omega arith);
       }
 
-pub run_change_told : (c : Setup) (events : List Event) → IsValid c → AreOn c.processors events → (e : Event) → (processor_of e).number ≤ c.processors →
-    IsRunChangeTold c (answers numbered (booted c) events) (step numbered (replay numbered (booted c) events) e).1
-run_change_told c events valid on e within = run_change_after c events valid on e within
+pub run_change_reported : (c : Setup) (events : List Event) → IsValid c → AreOn c.processors events → (e : Event) → (processor_of e).number ≤ c.processors →
+    IsRunChangeReported c (answers numbered (booted c) events) (step numbered (replay numbered (booted c) events) e).1
+run_change_reported c events valid on e within = run_change_after c events valid on e within

@@ -21,10 +21,10 @@ use Rattle.fmp_codes.specs.declared.records.Runner.TheVariants as runner
 use Rattle.fmp_setup.specs.declared.setup.Order.TheVariants as order
 use Rattle.fmp_setup.specs.Setup.{Setup, of_tasks}
 use Rattle.fmp_rules.proofs.Scenario.{a_task, both, ok}
-use Rattle.fmp_law_effects.specs.RunChanges.{change_told, requests_told}
-use Rattle.fmp_law_effects.specs.Losses.{lost_told}
-use Rattle.fmp_law_effects.specs.Releases.{releases_told}
-use Rattle.fmp_law_effects.specs.Received.{received_told}
+use Rattle.fmp_law_effects.specs.RunChanges.{change_reported, requests_reported}
+use Rattle.fmp_law_effects.specs.Losses.{lost_reported}
+use Rattle.fmp_law_effects.specs.Releases.{releases_reported}
+use Rattle.fmp_law_effects.specs.Received.{received_reported}
 
 -- On two processors, from boot on: T1 on the first; on the second T3, of priority 5, before T2, of priority 10. A semaphore by priority
 -- without a unit, an eventflag that many tasks may wait for and that is cleared, one that is not, data queues of no value, of two, and by priority
@@ -53,7 +53,7 @@ waits t c = line 2 t c answer.Wait ∷ []
 
 -- what an accepted call of T1 releases after these lines
 abbrev next : List Record → Call → List Release
-next lines c = releases_told machine lines (Some (T 1)) ok (event.Call (as_proc 1) c)
+next lines c = releases_reported machine lines (Some (T 1)) ok (event.Call (as_proc 1) c)
 
 abbrev rel : ℕ → Code → Option ℤ → Release
 rel t x v = record { task = as_task t; code = x; value = v }
@@ -65,7 +65,7 @@ by_priority : next (both_wait (call.Sync (sync.WaiSem (pos 1)))) (call.Sync (syn
 by_priority = refl
 
 -- a call that is refused releases nobody
-refused : releases_told machine (both_wait (call.Sync (sync.WaiSem (pos 1)))) (Some (T 1)) (answer.Done code.Context None)
+refused : releases_reported machine (both_wait (call.Sync (sync.WaiSem (pos 1)))) (Some (T 1)) (answer.Done code.Context None)
     (event.Call (as_proc 1) (call.Sync (sync.SigSem (pos 1)))) ≡ []
 refused = refl
 
@@ -98,7 +98,7 @@ by_name = refl
 -- Ticks.
 
 abbrev tick : ℕ → Answer → List Record → List Release
-tick p a lines = releases_told machine lines (Some (T 2)) a (event.Tick (as_proc p))
+tick p a lines = releases_reported machine lines (Some (T 2)) a (event.Tick (as_proc p))
 
 -- T3 waits for a unit and then T2 for a time, both for two ticks on the second processor
 abbrev timed : List Record
@@ -121,13 +121,13 @@ abbrev force : ℕ → Record
 force v = line 1 1 (call.Buffer (buffer.FsndDtq (pos 2) (pos v))) ok
 
 abbrev lost : List Record → Option ℤ
-lost lines = lost_told machine lines ok (event.Call (as_proc 1) (call.Buffer (buffer.FsndDtq (pos 2) (pos 1))))
+lost lines = lost_reported machine lines ok (event.Call (as_proc 1) (call.Buffer (buffer.FsndDtq (pos 2) (pos 1))))
 
 losses : lost (put 7 ∷ []) ∷ lost (put 7 ∷ put 8 ∷ []) ∷ lost (put 7 ∷ put 8 ∷ record (force 9) { lost = Some (pos 7) } ∷ []) ∷ []
     ≡ None ∷ Some (pos 7) ∷ Some (pos 8) ∷ []
 losses = refl
 
-kept : lost_told machine (put 7 ∷ put 8 ∷ []) (answer.Done code.IllegalUse None) (event.Call (as_proc 1) (call.Buffer (buffer.FsndDtq (pos 2) (pos 1)))) ≡ None
+kept : lost_reported machine (put 7 ∷ put 8 ∷ []) (answer.Done code.IllegalUse None) (event.Call (as_proc 1) (call.Buffer (buffer.FsndDtq (pos 2) (pos 1)))) ≡ None
 kept = refl
 
 -- What is received.
@@ -136,7 +136,7 @@ abbrev receive : ℤ → Call
 receive id = call.Buffer (buffer.PrcvDtq id)
 
 abbrev received : List Record → ℤ → Option ℤ
-received lines id = received_told machine lines (event.Call (as_proc 1) (receive id))
+received lines id = received_reported machine lines (event.Call (as_proc 1) (receive id))
 
 -- T1 receives a value, and these are released
 abbrev gets : ℕ → List Release → Record
@@ -164,7 +164,7 @@ full = put 7 ∷ put 8 ∷ line 2 2 (call.Buffer (buffer.SndDtq (pos 2) (pos 9))
 abbrev then_gets : List Record
 then_gets = put 7 ∷ put 8 ∷ line 2 2 (call.Buffer (buffer.SndDtq (pos 2) (pos 9))) answer.Wait ∷ gets 7 (rel 2 code.Accepted None ∷ []) ∷ gets 8 [] ∷ []
 
-in_turn : received full (pos 2) ∷ received then_gets (pos 2) ∷ received_told machine full (event.Call (as_proc 1) (call.Buffer (buffer.PsndDtq (pos 2) (pos 1)))) ∷ []
+in_turn : received full (pos 2) ∷ received then_gets (pos 2) ∷ received_reported machine full (event.Call (as_proc 1) (call.Buffer (buffer.PsndDtq (pos 2) (pos 1)))) ∷ []
     ≡ Some (pos 7) ∷ Some (pos 9) ∷ None ∷ []
 in_turn = refl
 
@@ -180,17 +180,17 @@ slept = record sleeps { run_change = Some (Some (as_task 2)) } ∷ []
 abbrev wakes : Record
 wakes = record (line 1 1 (call.Task (tasks.WupTsk (pos 3))) ok) { releases = rel 3 code.Accepted None ∷ [] }
 
-changes : change_told machine [] sleeps ∷ change_told machine slept wakes ∷ [] ≡ Some (Some (as_task 2)) ∷ None ∷ []
+changes : change_reported machine [] sleeps ∷ change_reported machine slept wakes ∷ [] ≡ Some (Some (as_task 2)) ∷ None ∷ []
 changes = refl
 
-requests : requests_told machine [] sleeps ∷ requests_told machine slept wakes ∷ [] ≡ [] ∷ (as_proc 2 ∷ []) ∷ []
+requests : requests_reported machine [] sleeps ∷ requests_reported machine slept wakes ∷ [] ≡ [] ∷ (as_proc 2 ∷ []) ∷ []
 requests = refl
 
 -- while dispatching is disabled T3 runs on, although it is given a lower priority
 abbrev held : List Record
 held = line 2 3 (call.System system.DisDsp) ok ∷ line 2 3 (call.Task (tasks.ChgPri (pos 3) (pos 11))) ok ∷ []
 
-while_held : change_told machine (line 2 3 (call.System system.DisDsp) ok ∷ []) (line 2 3 (call.Task (tasks.ChgPri (pos 3) (pos 11))) ok)
-    ∷ change_told machine held (line 2 3 (call.System system.EnaDsp) ok) ∷ []
+while_held : change_reported machine (line 2 3 (call.System system.DisDsp) ok ∷ []) (line 2 3 (call.Task (tasks.ChgPri (pos 3) (pos 11))) ok)
+    ∷ change_reported machine held (line 2 3 (call.System system.EnaDsp) ok) ∷ []
     ≡ None ∷ Some (Some (as_task 2)) ∷ []
 while_held = refl

@@ -15,7 +15,7 @@ use Rattle.fmp_law_balance.specs.Accepted.{is_accepted, accepted_value}
 use Rattle.fmp_law_waits.specs.Asked.{OpenWait}
 use Rattle.fmp_law_records.specs.Served.{Places, places_by, places_at_boot}
 use Rattle.fmp_law_refusals.specs.Meanings.{object_of}
-use Rattle.fmp_law_effects.specs.Losses.{values_told, oldest}
+use Rattle.fmp_law_effects.specs.Losses.{values_reported, oldest}
 use Rattle.fmp_law_effects.specs.Releases.{next_sender}
 
 -- a call that receives a value from a data queue where it is done at once
@@ -42,15 +42,15 @@ sent_by x (Some t) = value_to_send (x.waits t)
 module _ (c : Setup) (records : List Record) where
   -- the oldest value of a data queue, or where it has none the one that the first sender in its queue waits to send
   abbrev pub received_from : Object → Option ℤ
-  received_from d = let x : Places = places_by c records (places_at_boot c) in option_or (oldest (values_told records d)) (sent_by x (next_sender c x d))
+  received_from d = let x : Places = places_by c records (places_at_boot c) in option_or (oldest (values_reported records d)) (sent_by x (next_sender c x d))
 
   -- no other event receives any
-  abbrev pub received_told : Event → Option ℤ
-  received_told (event.Call p (call.Buffer (buffer.RcvDtq id))) = received_from (object_of id)
-  received_told (event.Call p (call.Buffer (buffer.TrcvDtq id timeout))) = received_from (object_of id)
-  received_told (event.Call p (call.Buffer (buffer.PrcvDtq id))) = received_from (object_of id)
-  received_told other = None
+  abbrev pub received_reported : Event → Option ℤ
+  received_reported (event.Call p (call.Buffer (buffer.RcvDtq id))) = received_from (object_of id)
+  received_reported (event.Call p (call.Buffer (buffer.TrcvDtq id timeout))) = received_from (object_of id)
+  received_reported (event.Call p (call.Buffer (buffer.PrcvDtq id))) = received_from (object_of id)
+  received_reported other = None
 
 -- a call that is done at once answers the value that is told
-abbrev pub IsReceivedTold : Setup → List Record → Record → Type 0
-IsReceivedTold c records r = is_receive r.event && is_accepted r.answer ≡ true → accepted_value r.answer ≡ received_told c records r.event
+abbrev pub IsReceivedReported : Setup → List Record → Record → Type 0
+IsReceivedReported c records r = is_receive r.event && is_accepted r.answer ≡ true → accepted_value r.answer ≡ received_reported c records r.event

@@ -26,7 +26,7 @@ use Rattle.fmp_law_balance.specs.Accepted.{is_accepted}
 use Rattle.fmp_law_counts.specs.Alarms.{is_last}
 use Rattle.fmp_law_waits.specs.Asked.{OpenWait}
 use Rattle.fmp_law_waits.specs.Releases.{over_code}
-use Rattle.fmp_law_records.specs.Patterns.{are_there, handed_on, clears_of, told_pattern}
+use Rattle.fmp_law_records.specs.Patterns.{are_there, handed_on, clears_of, report_pattern}
 use Rattle.fmp_law_records.specs.Served.{is_priority, Places, began_before, is_served_before, places_by, places_at_boot}
 use Rattle.fmp_law_refusals.specs.Meanings.{task_of, task_meant, object_of}
 use Rattle.fmp_law_refusals.specs.Found.{for_wakeup, for_unit, for_bits, to_send, to_receive, waits_so}
@@ -59,20 +59,20 @@ how_over (Some o) = over_code o.wait
 
 module _ (c : Setup) (x : Places) where
   -- the tasks that wait so, in the order in which they are served, by priority or not
-  abbrev pub waiting_told : Bool → (Wait → Bool) → List Task
-  waiting_told by_priority what = in_order (λ t. waits_so what (x.waits t)) (is_served_before x by_priority) (length c.tasks)
+  abbrev pub waiting_reported : Bool → (Wait → Bool) → List Task
+  waiting_reported by_priority what = in_order (λ t. waits_so what (x.waits t)) (is_served_before x by_priority) (length c.tasks)
 
   abbrev pub next_for_unit : Object → Option Task
-  next_for_unit s = first (waiting_told (is_priority (item no_semaphore c.semaphores s.number).order) (for_unit s))
+  next_for_unit s = first (waiting_reported (is_priority (item no_semaphore c.semaphores s.number).order) (for_unit s))
 
   abbrev pub next_receiver : Object → Option Task
-  next_receiver d = first (waiting_told false (to_receive d))
+  next_receiver d = first (waiting_reported false (to_receive d))
 
   abbrev pub next_sender : Object → Option Task
-  next_sender d = first (waiting_told (is_priority (item no_data_queue c.data_queues d.number).order) (to_send d))
+  next_sender d = first (waiting_reported (is_priority (item no_data_queue c.data_queues d.number).order) (to_send d))
 
   abbrev pub next_for_block : Object → Option Task
-  next_for_block m = first (waiting_told (is_priority (item no_pool c.pools m.number).order) (for_block m))
+  next_for_block m = first (waiting_reported (is_priority (item no_pool c.pools m.number).order) (for_block m))
 
   -- of these tasks each one is released for which the pattern has what it waits for, with this pattern, which may be cleared then
   abbrev pub handed_out : Bool → ℕ → List Task → List Release
@@ -82,7 +82,7 @@ module _ (c : Setup) (x : Places) where
       else handed_out clears pattern ts
 
   abbrev pub flag_releases : Object → ℕ → List Release
-  flag_releases f pattern = handed_out (clears_of c f) pattern (waiting_told (is_priority (item no_eventflag c.eventflags f.number).order) (for_bits f))
+  flag_releases f pattern = handed_out (clears_of c f) pattern (waiting_reported (is_priority (item no_eventflag c.eventflags f.number).order) (for_bits f))
 
   abbrev pub woken : Task → List Release
   woken t = if waits_so for_wakeup (x.waits t) then released_with t code.Accepted None ∷ [] else []
@@ -95,8 +95,8 @@ module _ (c : Setup) (x : Places) where
   call_releases records r (call.Task (tasks.IrelWai id)) = released_with (task_of id) code.WaitReleased None ∷ []
   call_releases records r (call.Sync (sync.SigSem id)) = given_to (next_for_unit (object_of id)) None
   call_releases records r (call.Sync (sync.IsigSem id)) = given_to (next_for_unit (object_of id)) None
-  call_releases records r (call.Sync (sync.SetFlg id bits)) = flag_releases (object_of id) (bit_or (told_pattern c (object_of id) records) bits)
-  call_releases records r (call.Sync (sync.IsetFlg id bits)) = flag_releases (object_of id) (bit_or (told_pattern c (object_of id) records) bits)
+  call_releases records r (call.Sync (sync.SetFlg id bits)) = flag_releases (object_of id) (bit_or (report_pattern c (object_of id) records) bits)
+  call_releases records r (call.Sync (sync.IsetFlg id bits)) = flag_releases (object_of id) (bit_or (report_pattern c (object_of id) records) bits)
   call_releases records r (call.Buffer (buffer.SndDtq id v)) = given_to (next_receiver (object_of id)) (Some v)
   call_releases records r (call.Buffer (buffer.TsndDtq id v timeout)) = given_to (next_receiver (object_of id)) (Some v)
   call_releases records r (call.Buffer (buffer.PsndDtq id v)) = given_to (next_receiver (object_of id)) (Some v)
@@ -121,10 +121,10 @@ module _ (c : Setup) (x : Places) where
       (filter (λ t. is_over_on p (x.waits t)) (in_order (λ t. is_timed (x.waits t)) (began_before x) (length c.tasks)))
 
 -- what an event with this answer releases where these are the records before it
-abbrev pub releases_told : Setup → List Record → Option Runner → Answer → Event → List Release
-releases_told c records r a (event.Call p y) = if is_accepted a then call_releases c (places_by c records (places_at_boot c)) records r y else []
-releases_told c records r a (event.Tick p) = if is_taken a then tick_releases c (places_by c records (places_at_boot c)) p else []
-releases_told c records r a (event.Ipi p) = []
+abbrev pub releases_reported : Setup → List Record → Option Runner → Answer → Event → List Release
+releases_reported c records r a (event.Call p y) = if is_accepted a then call_releases c (places_by c records (places_at_boot c)) records r y else []
+releases_reported c records r a (event.Tick p) = if is_taken a then tick_releases c (places_by c records (places_at_boot c)) p else []
+releases_reported c records r a (event.Ipi p) = []
 
-abbrev pub AreReleasesTold : Setup → List Record → Record → Type 0
-AreReleasesTold c records r = r.releases ≡ releases_told c records r.runner r.answer r.event
+abbrev pub AreReleasesReported : Setup → List Record → Record → Type 0
+AreReleasesReported c records r = r.releases ≡ releases_reported c records r.runner r.answer r.event

@@ -23,7 +23,7 @@ use Rattle.fmp_law_lists.proofs.Steps.{lists_refine}
 use Rattle.fmp_law_headline.specs.Headline.{Headline, HeadlineThroughout, queues_after}
 use Rattle.fmp_law_headline.proofs.Parts.{on_one, runs_highest}
 
--- the lists stand for the state behind every prefix
+-- the lists stand for the state after every prefix
 stands_along : (k : World Queues) (m : State) (es : List Event) → Stands k m → Safe numbered m → AreOn (length m.processors) es → (n : ℕ) →
     Stands (replay listed k (take n es)) (replay numbered m (take n es))
 stands_along k m es h s on zero = h

@@ -25,7 +25,7 @@ IsOn m p t = ((processor m p).running ≡ Some t) ⊎ (is_ready_on m.tasks p t �
 abbrev pub RunsHighest : State → Proc → Type 0
 RunsHighest m p = IsFirst (is_ready_on m.tasks p) (comes_before (priority_in m.tasks) m.order.ready) (length m.tasks) (processor m p).running
 
--- What holds behind some events that were answered with these records. The state is m, where numbers tell what came before what;
+-- What holds after some events that were answered with these records. The state is m, where numbers tell what came before what;
 -- k is the same state with the kernel's queues.
 pub record Headline (c : Setup) (records : List Record) (m : State) (k : World Queues) : Type 0 where
   -- no task runs or is ready on two processors
@@ -43,6 +43,6 @@ pub record Headline (c : Setup) (records : List Record) (m : State) (k : World Q
 abbrev pub queues_after : Setup → List Event → World Queues
 queues_after c events = replay listed (boot listed (no_queues c) c) events
 
--- the headline holds behind every prefix of these events, which were answered with these records
+-- the headline holds after every prefix of these events, which were answered with these records
 abbrev pub HeadlineThroughout : Setup → List Event → List Record → Type 0
 HeadlineThroughout c events records = (n : ℕ) → Headline c (take n records) (replay numbered (booted c) (take n events)) (queues_after c (take n events))

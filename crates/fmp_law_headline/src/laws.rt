@@ -9,7 +9,7 @@ ghost use Rattle.fmp_rules.specs.Boot.{booted};
 ghost use Rattle.fmp_law_safety.specs.Runs.{AreOn};
 ghost use Rattle.fmp_law_headline.specs.Headline.{HeadlineThroughout};
 
-/// Over every valid configuration and every list of events on its processors, the headline holds behind every prefix of the list.
+/// Over every valid configuration and every list of events on its processors, the headline holds after every prefix of the list.
 pub fn the_headline_holds()
     ensures { (c : Setup) (events : List Event) → IsValid c → AreOn c.processors events → HeadlineThroughout c events (answers numbered (booted c) events) }
 {}

@@ -245,7 +245,7 @@ module _ (q : Task → Bool) (before : Task → Task → Bool) (s : IsStrict bef
       within_few : (t : Task) → up_to n q t ≡ q t
       within_few t = ⊎_elim (λ (e : q t ≡ true). up_to_true n q t (few t e) e ∙ sym e) (λ (e : q t ≡ false). and_right _ _ e ∙ sym e) (cases_Bool (q t))
 
--- One list behind another.
+-- One list after another.
 
 after_append : (before : Task → Task → Bool) (t : Task) (us vs : List Task) →
     AllAfter before t us → ((v : Task) → In v vs → before t v ≡ true) → AllAfter before t (us ++ vs)

@@ -13,7 +13,7 @@ use Rattle.fmp_rules.specs.declared.machine.TaskRecord.{TaskRecord}
 use Rattle.fmp_rules.specs.declared.machine.Wait.{Wait}
 use Rattle.fmp_rules.specs.declared.machine.QueueKind.{QueueKind}
 use Rattle.fmp_rules.specs.World.{World, task, item, with_item}
-use Rattle.fmp_rules.specs.Ordering.{is_runnable, waits_in, order_in, order_of, with_task, place, end_wait, begin_wait, requeue, behind, rejoin}
+use Rattle.fmp_rules.specs.Ordering.{is_runnable, waits_in, order_in, order_of, with_task, place, end_wait, begin_wait, requeue, put_last, rejoin}
 use Rattle.fmp_rules.specs.Arrivals.{Arrivals, State, numbered}
 use Rattle.fmp_rules.specs.Tasks.{finish, ended, change_priority}
 use Rattle.fmp_rules.specs.Arguments.{caller, is_zero, ticks_of}
@@ -85,7 +85,7 @@ module _ (m : State) (q : Queues) (s : AreListsOf q m) where
             ap (λ (a : QueueKind). order_in m a j) (sym k.kind) ∙ ap (λ (i : Object). order_in m k.at.kind i) (sym k.object) ∙ there in
             ap (λ i. rank_of i r.priority) here ∙ sym (ap (λ i. rank_of i o.priority) here)
 
-        go : (a : Option Wait) → o.wait ≡ a → Fits (behind listed w u r a) (behind numbered m u r a)
+        go : (a : Option Wait) → o.wait ≡ a → Fits (put_last listed w u r a) (put_last numbered m u r a)
         go None b = order_place m.tasks (order_in m) (count_in m) m.order u within r m.waits_left q s same (free_of_rank r b)
         go (Some x) b = by_order (order_of m x) refl
           where

@@ -70,12 +70,12 @@ module _ (v : State) (x : Queues) (s : AreListsOf x v) where
       let order : x ≡ (settle listed before.tops (with_order v x) before.processor).order = sym (ap (λ (y : World Queues). y.order) same) in
       record {
         stands = record { same = same ∙ ap (λ (y : Queues). with_order after y) order; order = subst (λ (y : Queues). AreListsOf y after) order (kept_settle before.tops before.processor) };
-        same = ap (λ (y : World Queues). told y (requests listed before.tops (with_order v x) before.processor)) same
-            ∙ ap (λ (rs : List Proc). told (with_order after x) rs) (same_requests before.tops before.processor);
+        same = ap (λ (y : World Queues). report y (requests listed before.tops (with_order v x) before.processor)) same
+            ∙ ap (λ (rs : List Proc). report (with_order after x) rs) (same_requests before.tops before.processor);
       }
     where
-      told : World Queues → List Proc → Record
-      told y rs = record {
+      report : World Queues → List Proc → Record
+      report y rs = record {
         event = before.event;
         runner = before.runner;
         answer = e.answer;

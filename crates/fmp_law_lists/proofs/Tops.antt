@@ -41,7 +41,7 @@ runs_within tasks t e = within_by tasks is_runnable refl t e
 pub waits_within : (tasks : List TaskRecord) (t : Task) → waits_for tasks t ≡ true → t.number ≤ length tasks
 waits_within tasks t e = within_by tasks (λ r. is_some r.wait) refl t e
 
--- Lists one behind another.
+-- Lists one after another.
 
 abbrev joined : List (List Task) → List Task
 joined [] = []

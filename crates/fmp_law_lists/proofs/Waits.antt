@@ -156,7 +156,7 @@ module _ (u : Task) (tasks : List TaskRecord) (orders : QueueKind → Object →
     left_counted = s.left_counted;
   }
 
-  -- It waits, behind all others.
+  -- It waits, after all others.
   module _ (last : (t : Task) → is_task t u ≡ false → waits_for tasks t ≡ true → item 0 ns t.number < item 0 ns u.number) (low : item 0 ns u.number < next)
       (w : Wait) (waiting : o.wait ≡ Some w) (s : WaitsBut u tasks orders left waits ticking ns next) where
     timed_last : (a : Option ℕ) → item None left u.number ≡ a → IsListOf (has_ticks left) (comes_before (λ t. 0) ns) (timed_by a u ticking)

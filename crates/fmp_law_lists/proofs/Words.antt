@@ -116,7 +116,7 @@ module _ (tasks : List TaskRecord) (orders : QueueKind → Object → Order) (co
             (λ _ _. refl) (λ t d. sym (other_item None left None u t d)) up refl (length-set left _ None)
             (waits_out u tasks orders left q.waits q.timed n.begun n.next s.waits))
 
-  -- A wait begins, or begins anew: the task joins its queue and the timed waits, behind all others.
+  -- A wait begins, or begins anew: the task joins its queue and the timed waits, after all others.
   module _ (x : Wait) (waiting : r.wait ≡ Some x) (i : Order) (ranks : HasOrder orders x i) where
     abbrev begun : List ℕ
     begun = with_item n.begun u.number n.next

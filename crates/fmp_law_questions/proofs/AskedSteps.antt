@@ -23,8 +23,8 @@ step_with moment without = record { moment = moment; without = without }
 
 module _ (names : NameLists) (steps : List Step) where
   -- so many steps were read, and nothing of the next
-  abbrev pub behind_steps : List Step → Draft
-  behind_steps more = fresh (steps ++ more) None None [] []
+  abbrev pub after_steps : List Step → Draft
+  after_steps more = fresh (steps ++ more) None None [] []
 
   times_led : (words : List (List ℕ)) (n : ℕ) → SpellsTimes words n
       → (times : Option ℕ) × (led names (fresh steps None None [] []) words ≡ Some (fresh steps times None [] [])) × (unwrap_or times 1 ≡ n)
@@ -37,13 +37,13 @@ module _ (names : NameLists) (steps : List Step) where
   without_taken e times moment is = rw is refl
 
   step_ends : (e : Draft) (times : Option ℕ) (moment : Option (List (List Item))) (parts : List (List Item)) → with_part e ≡ Some (fresh steps times moment parts [])
-      → with_step e ≡ Some (behind_steps (replicate (unwrap_or times 1) (step_of moment parts)))
+      → with_step e ≡ Some (after_steps (replicate (unwrap_or times 1) (step_of moment parts)))
   unfolding with_step
   step_ends e times moment parts is = rw is refl
 
   module _ (times : Option ℕ) (words rest : List (List ℕ)) (moment : List (List Item)) (is_moment : SpellsMoment names words moment) where
     moments_led : (without : Option (List (List Item))) → SpellsWithout names rest without
-        → Leads names (fresh steps times None [] []) (words ++ rest) with_step (behind_steps (replicate (unwrap_or times 1) (step_with moment without)))
+        → Leads names (fresh steps times None [] []) (words ++ rest) with_step (after_steps (replicate (unwrap_or times 1) (step_with moment without)))
     moments_led None none =
         let first = moment_led names steps times None [] words moment is_moment in
         (first.0, led_on names (fresh steps times None [] []) first.0 words rest first.1 ∙ ap (led names first.0) none, step_ends first.0 times None moment first.2)
@@ -57,14 +57,14 @@ module _ (names : NameLists) (steps : List Step) where
         )
 
   step_led : (words : List (List ℕ)) (n : ℕ) (step : Step) → SpellsStep names words n step
-      → Leads names (fresh steps None None [] []) words with_step (behind_steps (replicate n step))
+      → Leads names (fresh steps None None [] []) words with_step (after_steps (replicate n step))
   step_led words n step s =
       let times = times_led s.front n s.counted in
       let read = moments_led times.0 s.middle s.rest step.moment s.moment step.without s.without in (
         read.0,
         ap (led names (fresh steps None None [] [])) s.parts
             ∙ led_on names (fresh steps None None [] []) (fresh steps times.0 None [] []) s.front (s.middle ++ s.rest) times.1 ∙ read.1,
-        read.2 ∙ ap (λ (k : ℕ). Some (behind_steps (replicate k step))) times.2,
+        read.2 ∙ ap (λ (k : ℕ). Some (after_steps (replicate k step))) times.2,
       )
 
 -- ---- all steps
@@ -77,21 +77,21 @@ abbrev pub SpellsSteps : NameLists → List (List ℕ) → List (ℕ × Step) �
 SpellsSteps names words row = SpellsRow (λ front step. SpellsStep names front step.0 step.1) (codes "then") words row
 
 steps_led : (names : NameLists) (steps : List Step) (words : List (List ℕ)) (row : List (ℕ × Step)) → SpellsSteps names words row → length (steps ++ repeated row) ≤ 255
-    → Leads names (fresh steps None None [] []) words with_step (behind_steps names steps (repeated row))
+    → Leads names (fresh steps None None [] []) words with_step (after_steps names steps (repeated row))
 steps_led names steps words [] s few = absurd s
 steps_led names steps words (one ∷ []) s few =
     let read = step_led names steps words one.0 one.1 s in
-    (read.0, read.1, read.2 ∙ ap (λ (more : List Step). Some (behind_steps names steps more)) (sym (append-nil (replicate one.0 one.1))))
+    (read.0, read.1, read.2 ∙ ap (λ (more : List Step). Some (after_steps names steps more)) (sym (append-nil (replicate one.0 one.1))))
 steps_led names steps words (one ∷ next ∷ more) s few =
     let first = step_led names steps s.0 one.0 one.1 s.3 in
     let whole = append_assoc steps (replicate one.0 one.1) (repeated (next ∷ more)) in
     let fewer : length (steps ++ replicate one.0 one.1) ≤ 255 =
     omega (arith, ap length whole, few, length-append (steps ++ replicate one.0 one.1) (repeated (next ∷ more))) in
-    let closed = then_taken names first.0 (behind_steps names steps (replicate one.0 one.1)) first.2 fewer in
+    let closed = then_taken names first.0 (after_steps names steps (replicate one.0 one.1)) first.2 fewer in
     let others = steps_led names (steps ++ replicate one.0 one.1) s.1 (next ∷ more) s.4 (subst (λ (all : List Step). length all ≤ 255) (sym whole) few) in (
       others.0,
       ap (led names (fresh steps None None [] [])) s.2 ∙ led_on names (fresh steps None None [] []) first.0 s.0 (codes "then" ∷ s.1) first.1
-          ∙ led_first names first.0 (behind_steps names steps (replicate one.0 one.1)) (codes "then") s.1 closed ∙ others.1,
+          ∙ led_first names first.0 (after_steps names steps (replicate one.0 one.1)) (codes "then") s.1 closed ∙ others.1,
       others.2 ∙ ap (λ (all : List Step). Some (fresh all None None [] [])) whole,
     )
 

@@ -14,7 +14,7 @@ use Rattle.fmp_search_words.specs.Spots.{is_number, may_follow, stepped}
 use Rattle.fmp_search_words.specs.Words.{star}
 use Rattle.fmp_law_questions.specs.Grammar.{Negated, SpellsItem, SpellsWanted, is_pattern_word, may_stand, placed, spaced}
 use Rattle.fmp_law_questions.proofs.Patterns.{longer-more, next_place, not_parts, one_parts, or_parts, other_wanted, placed_parts, some_length}
-use Rattle.fmp_law_questions.proofs.Taken.{behind_word, when_false, when_true}
+use Rattle.fmp_law_questions.proofs.Taken.{following_word, when_false, when_true}
 
 -- ---- the words of a pattern
 
@@ -25,7 +25,7 @@ pub data Begun (names : NameLists) (words : List (List ℕ)) (pattern : List ℕ
   some : (first : List ℕ) (rest : List (List ℕ)) → words ≡ first ∷ rest → list_all (is_pattern_word names) (first ∷ rest) ≡ true → pattern ≡ spaced (first ∷ rest)
       → length (spaced (first ∷ rest)) ≤ 1024 → placed names nothing_read.spot (first ∷ rest) ≡ Some place → Begun names words pattern place
 
--- one word more behind the others
+-- one word more after the others
 spaced-more : (words : List (List ℕ)) (word : List ℕ) → (spaced words ++ word) ++ space ∷ [] ≡ spaced (words ++ word ∷ [])
 spaced-more [] word = refl
 spaced-more (first ∷ words) word =
@@ -107,14 +107,14 @@ negated_spelled Spells false words rest are s = subst Spells (sym are) s
 abbrev pub item_of : Draft → Item
 item_of d = record { negated = d.negated; pattern = wanted_by d.pattern }
 
-abbrev pub behind_item : Draft → Draft
-behind_item d = record d { items = d.items ++ item_of d ∷ []; negated = false; pattern = []; spot = nothing_read.spot }
+abbrev pub after_item : Draft → Draft
+after_item d = record d { items = d.items ++ item_of d ∷ []; negated = false; pattern = []; spot = nothing_read.spot }
 
 pub item_spelled : (names : NameLists) (words : List (List ℕ)) (d e : Draft) → HasItem names words d → with_pattern d ≡ Some e
-    → SpellsItem names words (item_of d) × (behind_item d ≡ e)
+    → SpellsItem names words (item_of d) × (after_item d ≡ e)
 unfolding with_pattern
 item_spelled names words d e s is =
-    let p = when_false (eqb (length d.pattern) 0 || is_number d.spot) (behind_item d) e is in
+    let p = when_false (eqb (length d.pattern) 0 || is_number d.spot) (after_item d) e is in
     let q = or_parts (eqb (length d.pattern) 0) (is_number d.spot) p.0 in
     let wanted = wanted_spelled names s.rest d.pattern d.spot s.pattern q.0 q.1 in
     (negated_spelled (λ rest. SpellsWanted names rest (wanted_by d.pattern)) d.negated words s.rest s.parts wanted, p.1)
@@ -163,7 +163,7 @@ module _ (names : NameLists) (words : List (List ℕ)) (d e : Draft) (s : HasIte
         nowhere (Some next) = refl
 
   pub word_taken : (word : List ℕ) (place : Spot) → is_pattern_word names word ≡ true → length (longer d.pattern word) ≤ 1024 → next_place names d.spot word ≡ Some place
-      → HasItem names (words ++ word ∷ []) (behind_word d word place)
+      → HasItem names (words ++ word ∷ []) (following_word d word place)
   word_taken word place is short stands =
       record {
         rest = s.rest ++ word ∷ [];

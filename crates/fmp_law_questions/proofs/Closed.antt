@@ -1,4 +1,4 @@
--- Rows of which each one is complete, and the word between stands behind it.
+-- Rows of which each one is complete, and the word between stands after it.
 use Rattle.std.proofs.Common.{◌≡◌, ℕ, List, [], ◌∷◌, ◌++◌, refl, sym, ap, subst, ◌∙◌, append_assoc}
 use Rattle.fmp_law_questions.specs.Rows.{SpellsRow}
 

@@ -29,14 +29,14 @@ inner pattern = take (length pattern - 2) (drop 1 pattern)
 -- what two words have between the blanks is no number
 two_words : (first second : List ℕ) (rest : List (List ℕ)) → are_digits 10 (inner (spaced (first ∷ second ∷ rest))) ≡ true → ⊥
 two_words first second rest is =
-    let behind = second ++ spaced rest in
-    let cut : length (spaced (first ∷ second ∷ rest)) - 2 ≡ length first + suc (length behind - 1) =
+    let following = second ++ spaced rest in
+    let cut : length (spaced (first ∷ second ∷ rest)) - 2 ≡ length first + suc (length following - 1) =
     omega (arith, length-append first (spaced (second ∷ rest)), length-append second (spaced rest), some rest) in
-    let taken : inner (spaced (first ∷ second ∷ rest)) ≡ first ++ space ∷ take (length behind - 1) behind =
-    ap (λ (n : ℕ). take n (first ++ spaced (second ∷ rest))) cut ∙ take-append-add first (spaced (second ∷ rest)) (suc (length behind - 1)) in
-    let digits = all_digits (first ++ space ∷ take (length behind - 1) behind) (ap (are_digits 10) (sym taken) ∙ is) in
-    let blank = list_all-parts (λ b. is_digit b 10) first (space ∷ take (length behind - 1) behind) digits in
-    false≢true (and_parts (is_digit space 10) (list_all (λ b. is_digit b 10) (take (length behind - 1) behind)) blank.1).0 where
+    let taken : inner (spaced (first ∷ second ∷ rest)) ≡ first ++ space ∷ take (length following - 1) following =
+    ap (λ (n : ℕ). take n (first ++ spaced (second ∷ rest))) cut ∙ take-append-add first (spaced (second ∷ rest)) (suc (length following - 1)) in
+    let digits = all_digits (first ++ space ∷ take (length following - 1) following) (ap (are_digits 10) (sym taken) ∙ is) in
+    let blank = list_all-parts (λ b. is_digit b 10) first (space ∷ take (length following - 1) following) digits in
+    false≢true (and_parts (is_digit space 10) (list_all (λ b. is_digit b 10) (take (length following - 1) following)) blank.1).0 where
       some : (words : List (List ℕ)) → 1 ≤ length (spaced words)
       some [] = omega arith
       some (word ∷ words) = omega arith
@@ -108,15 +108,15 @@ within_parts k n is =
     (p.1, leb-true 1 k q.0, leb-true k 255 q.1)
 
 -- the step stands so often
-abbrev pub behind_times : Draft → ℕ → Draft
-behind_times d n = record d { times = Some n; pattern = []; spot = nothing_read.spot }
+abbrev pub after_times : Draft → ℕ → Draft
+after_times d n = record d { times = Some n; pattern = []; spot = nothing_read.spot }
 
 pub count_read : (names : NameLists) (words : List (List ℕ)) (d e : Draft) → Begun names words d.pattern d.spot → with_times d ≡ Some e
-    → (n : ℕ) × (digits : List ℕ) × (words ≡ digits ∷ []) × SpellsCount digits n × IsAlone d × (behind_times d n ≡ e)
+    → (n : ℕ) × (digits : List ℕ) × (words ≡ digits ∷ []) × SpellsCount digits n × IsAlone d × (after_times d n ≡ e)
 unfolding with_times
 count_read names words d e s is =
     let p = when_none (has_begun d) _ e is in
-    let m = map_parts (behind_times d) (option_and_then times_within (number_in d.pattern)) e p.1 in
+    let m = map_parts (after_times d) (option_and_then times_within (number_in d.pattern)) e p.1 in
     let t = then_parts times_within (number_in d.pattern) m.0 m.1 in
     let w = within_parts t.0 m.0 t.2 in
     let c = number_begun names words d.pattern d.spot t.0 s t.1 w.1 w.2 in

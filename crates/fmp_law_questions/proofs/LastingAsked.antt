@@ -44,11 +44,11 @@ abbrev pub has_some : Draft → Bool
 has_some d = not (eqb (length d.items) 0 && eqb (length d.pattern) 0)
 
 longer_some : (pattern word : List ℕ) → eqb (length (reading.longer pattern word)) 0 ≡ false
-longer_some pattern word = behind (reading.longer pattern word) (cond (eqb (length pattern) 0) (space ∷ []) pattern ++ word) refl
+longer_some pattern word = following (reading.longer pattern word) (cond (eqb (length pattern) 0) (space ∷ []) pattern ++ word) refl
   where
-    behind : (whole front : List ℕ) → whole ≡ front ++ space ∷ [] → eqb (length whole) 0 ≡ false
-    behind whole [] is = rw is refl
-    behind whole (b ∷ front) is = rw is (some_length b (front ++ space ∷ []))
+    following : (whole front : List ℕ) → whole ≡ front ++ space ∷ [] → eqb (length whole) 0 ≡ false
+    following whole [] is = rw is refl
+    following whole (b ∷ front) is = rw is (some_length b (front ++ space ∷ []))
 
 items_some : (items : List Item) (item : Item) → eqb (length (items ++ item ∷ [])) 0 ≡ false
 items_some [] item = refl
@@ -97,7 +97,7 @@ printed_so names d e word is = elim (cases_Bool (is_printed word)) [
   | inr f ↦ let bad = rw f at is in absurd cc
 ]
 
--- where a word is no `deadlock` at the beginning, and no `&` behind `not`, it goes on with the moment
+-- where a word is no `deadlock` at the beginning, and no `&` after `not`, it goes on with the moment
 module _ (names : NameLists) (lasting : List Lasting) (negated : Bool) (d e : Draft) (word : List ℕ) (inner : IsInner word) (joins : (negated && bytes_eq word (codes "&")) ≡ false)
     (free : ((bytes_eq word (codes "deadlock") && is_fresh (parts_so lasting negated d stage.Words)) && eqb (length lasting) 0) ≡ false) (is : reading.after_word names d word ≡ Ok e) where
   goes_on : after_word names (parts_so lasting negated d stage.Words) word ≡ Ok (parts_so lasting negated e stage.Words)
@@ -119,7 +119,7 @@ abbrev pub AreInner : List (List ℕ) → Type 0
 AreInner [] = Unit {0}
 AreInner (word ∷ words) = IsInner word × AreInner words
 
--- behind `not` no word joins items
+-- after `not` no word joins items
 abbrev pub AreJoined : Bool → List (List ℕ) → Type 0
 AreJoined negated [] = Unit {0}
 AreJoined negated (word ∷ words) = ((negated && bytes_eq word (codes "&")) ≡ false) × AreJoined negated words
@@ -138,9 +138,9 @@ not_fresh true false c false n is = refl
 not_fresh false b c true n is = refl
 not_fresh false b c false n is = refl
 
-free_behind : (lasting : List Lasting) (negated : Bool) (d : Draft) (words : List (List ℕ)) → has_some d ≡ true → IsFree lasting negated d words
-free_behind lasting negated d [] some = tt
-free_behind lasting negated d (word ∷ words) some =
+free_after : (lasting : List Lasting) (negated : Bool) (d : Draft) (words : List (List ℕ)) → has_some d ≡ true → IsFree lasting negated d words
+free_after lasting negated d [] some = tt
+free_after lasting negated d (word ∷ words) some =
     not_fresh (not negated) (eqb (length d.items) 0) (eqb (length d.pattern) 0) (bytes_eq word (codes "deadlock")) (eqb (length lasting) 0) some
 
 pub lifted : (names : NameLists) (lasting : List Lasting) (negated : Bool) (words : List (List ℕ)) (d e : Draft) → AreInner words → AreJoined negated words → IsFree lasting negated d words
@@ -150,7 +150,7 @@ lifted names lasting negated (word ∷ words) d e inner joined free is =
     let p = led_parts names d e word words is in
     let some = some_read names d p.0 word inner.0 p.1 in
     led_to_first names (parts_so lasting negated d stage.Words) (parts_so lasting negated p.0 stage.Words) word words (goes_on names lasting negated d p.0 word inner.0 joined.0 free p.1)
-    ∙ lifted names lasting negated words p.0 e inner.1 joined.1 (free_behind lasting negated p.0 words some) p.2
+    ∙ lifted names lasting negated words p.0 e inner.1 joined.1 (free_after lasting negated p.0 words some) p.2
 
 -- ---- the words of a moment
 
@@ -322,11 +322,11 @@ row_led_to : (names : NameLists) (lasting : List Lasting) (words : List (List �
 row_led_to names lasting words [] s is_open = absurd s
 row_led_to names lasting words (one ∷ []) s is_open = lasting_led names lasting words one s is_open
 row_led_to names lasting words (one ∷ second ∷ more) s is_open =
-    let behind = lasting ++ one ∷ [] in
+    let following = lasting ++ one ∷ [] in
     ap (led_to names (words_at lasting)) s.2
-    ∙ led_to_on names (words_at lasting) (ever_at behind) s.0 (codes "or" ∷ s.1) (lasting_led names lasting s.0 one s.3 (open_front lasting words s.0 (codes "or" ∷ s.1) s.2 is_open))
-    ∙ led_to_first names (ever_at behind) (words_at behind) (codes "or") s.1 (or_taken names behind)
-    ∙ row_led_to names behind s.1 (second ∷ more) s.4 (inl (some_more lasting one))
+    ∙ led_to_on names (words_at lasting) (ever_at following) s.0 (codes "or" ∷ s.1) (lasting_led names lasting s.0 one s.3 (open_front lasting words s.0 (codes "or" ∷ s.1) s.2 is_open))
+    ∙ led_to_first names (ever_at following) (words_at following) (codes "or") s.1 (or_taken names following)
+    ∙ row_led_to names following s.1 (second ∷ more) s.4 (inl (some_more lasting one))
     ∙ ap (λ (ls : List Lasting). Some (ever_at ls)) (append_assoc lasting (one ∷ []) (second ∷ more))
 
 -- ---- `deadlock`

@@ -20,7 +20,7 @@ use Rattle.fmp_search_question.specs.Lasting.{Parts, after_word, after_words, ar
 use Rattle.fmp_law_questions.specs.Rows.{SpellsRow}
 use Rattle.fmp_law_questions.specs.Grammar.{Negated, SpellsItem, SpellsPart}
 use Rattle.fmp_law_questions.specs.ForEver.{AsksForEver, AsksForEverWords, SpellsLasting, SpellsPlain}
-use Rattle.fmp_law_questions.proofs.Begun.{behind_item, empty_begun, item_of, item_spelled, negated_spelled, not_words}
+use Rattle.fmp_law_questions.proofs.Begun.{after_item, empty_begun, item_of, item_spelled, negated_spelled, not_words}
 use Rattle.fmp_law_questions.proofs.Closed.{Closed, closed_more, closed_row}
 use Rattle.fmp_law_questions.proofs.LastingSteps.{led_to, led_to_parts, led_to_words}
 use Rattle.fmp_law_questions.proofs.LastingTaken.{IsMomentRead, TakenIn, all_more, all_wait, before_end, choose_parts, moment_moves, none_of, nothing_of_moment, of_moment, same_items, staged, taken_in}
@@ -114,7 +114,7 @@ module _ (names : NameLists) (words : List (List ℕ)) (d e : Parts) (word : Lis
     longer = ap (λ (ws : List (List ℕ)). ws ++ word ∷ []) are ∙ append_assoc done (not_words d.negated ++ rest) (word ∷ [])
 
     -- a part of one item more than the complete ones
-    part_done : (f : Draft) → with_pattern d.draft ≡ Some f → SpellsPlain names rest (d.draft.items ++ item_of d.draft ∷ []) × (behind_item d.draft ≡ f)
+    part_done : (f : Draft) → with_pattern d.draft ≡ Some f → SpellsPlain names rest (d.draft.items ++ item_of d.draft ∷ []) × (after_item d.draft ≡ f)
     part_done f ends =
         let p = item_spelled names moment.last d.draft f moment.has_item ends in
         let row = closed_row (SpellsItem names) (codes "&") moment.items moment.last d.draft.items (item_of d.draft) moment.are_items p.0 in
@@ -158,7 +158,7 @@ module _ (names : NameLists) (words : List (List ℕ)) (d e : Parts) (word : Lis
   same_so : (f : Parts) → ◌≡◌ {A = Result Parts QuestionFault} (Ok f) (Ok e) → f ≡ e
   same_so f is = cc
 
-  -- behind a moment
+  -- after a moment
   from_for : (done front : List (List ℕ)) → words ≡ done ++ (front ++ codes "for" ∷ []) → Closed (SpellsLasting names) (codes "or") done d.lasting
       → Negated (λ rest. SpellsPlain names rest d.draft.items) d.negated front → (d.negated ≡ true → length d.draft.items ≡ 1) → record d.draft { items = [] } ≡ nothing_read
       → IsOpened words → in_stage names d word stage.For ≡ Ok e → So e
@@ -239,7 +239,7 @@ all_so_far names before (word ∷ words) d e so is =
 not_there : (s t : Stage) → s ≡ t → may_end t ≡ false → may_end s ≡ true → ⊥
 not_there s t is no_end may = let bad = sym no_end ∙ ap may_end (sym is) ∙ may in absurd cc
 
--- behind the last word the question is complete
+-- after the last word the question is complete
 words_ask : (names : NameLists) (words : List (List ℕ)) (d : Parts) → IsSoFar names words d → may_end d.stage ≡ true → AsksForEverWords names words d.lasting
 words_ask names words d (at_start none start) may = absurd (not_there d.stage stage.Words (ap (λ (x : Parts). x.stage) start) refl may)
 words_ask names words d (in_moment done rest are closed moment one opened at) may = absurd (not_there d.stage stage.Words at refl may)

@@ -17,11 +17,11 @@ use Rattle.fmp_search_question.specs.Waiting.{waits_but}
 use Rattle.fmp_search_question.specs.Lasting.{Parts, after_word, before_ever, in_part, in_stage, is_elsewhere, is_fresh, with_draft}
 use Rattle.fmp_law_questions.specs.Grammar.{SpellsItem}
 use Rattle.fmp_law_questions.specs.ForEver.{is_end}
-use Rattle.fmp_law_questions.proofs.Begun.{HasItem, behind_item, item_of, item_spelled, no_item, refused_taken, word_taken}
+use Rattle.fmp_law_questions.proofs.Begun.{HasItem, after_item, item_of, item_spelled, no_item, refused_taken, word_taken}
 use Rattle.fmp_law_questions.proofs.Closed.{Closed, closed_more}
 use Rattle.fmp_law_questions.proofs.LastingAsked.{IsInner}
 use Rattle.fmp_law_questions.proofs.Patterns.{or_parts}
-use Rattle.fmp_law_questions.proofs.Taken.{Taken, and, behind_word, count, negation, next, or, plain, refusal, taken, when_true, without}
+use Rattle.fmp_law_questions.proofs.Taken.{Taken, and, following_word, count, negation, next, or, plain, refusal, taken, when_true, without}
 
 -- ---- a word of a moment
 
@@ -86,7 +86,7 @@ module _ (names : NameLists) (words : List (List ℕ)) (d e : Draft) (word : Lis
         last = [];
         whole = joined;
         are_items = closed_more (SpellsItem names) (codes "&") s.items s.last d.items (item_of d) s.are_items p.0;
-        has_item = no_item names (behind_item d) refl refl refl;
+        has_item = no_item names (after_item d) refl refl refl;
         there = all_more (λ (i : Item). not i.negated) d.items (item_of d) s.there (rw none refl);
         unnegated = refl;
         inner = all_more (λ w. not (is_end w)) words word s.inner (no_end word inner);
@@ -105,7 +105,7 @@ module _ (names : NameLists) (words : List (List ℕ)) (d e : Draft) (word : Lis
           (subst (λ (w : List ℕ). HasItem names (s.last ++ w ∷ []) (record d { pattern = e.pattern; spot = e.spot })) (sym is_refusal) p.0))
       go (plain place is_one short stands ends) =
           subst (λ (f : Draft). IsMomentRead names (words ++ word ∷ []) f) (sym ends)
-          (goes_on_so (behind_word d word place) refl refl s.bare (word_taken names s.last d e s.has_item word place is_one short stands))
+          (goes_on_so (following_word d word place) refl refl s.bare (word_taken names s.last d e s.has_item word place is_one short stands))
       go (or is_or ends) = let bad = no_word word (codes "or") inner.no_or is_or in absurd cc
       go (negation is_not ends) = let bad = no_word word (codes "not") inner.no_not is_not in absurd cc
       go (without is_without ends) = let bad = no_word word (codes "without") inner.no_without is_without in absurd cc
@@ -128,7 +128,7 @@ same_items names d e word inner no_and is = go (taken names d e word is)
 
 -- ---- a word where a moment stands
 
--- the word and what was read behind it
+-- the word and what was read after it
 pub data TakenIn (names : NameLists) (d : Parts) (word : List ℕ) (e : Parts) : Type 0 where
   before_end : word ≡ codes "for" → (f : Draft) → with_pattern d.draft ≡ Some f → record d { draft = f; stage = stage.For } ≡ e → TakenIn names d word e
   none_of : word ≡ codes "not" → is_fresh d ≡ true → record d { negated = true } ≡ e → TakenIn names d word e

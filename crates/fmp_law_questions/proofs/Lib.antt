@@ -3,7 +3,7 @@ mod Patterns  -- The words of a pattern, one after the other.
 mod Counts  -- The number of times that a step stands.
 mod Asked  -- What is asked is read.
 mod AskedSteps  -- Steps that are asked are read, and so are whole questions.
-mod Closed  -- Rows of which each one is complete, and the word between stands behind it.
+mod Closed  -- Rows of which each one is complete, and the word between stands after it.
 mod Taken  -- What one word of a question does, where it is not at fault.
 mod Begun  -- What was read of an item so far.
 mod ReadSoFar  -- What was read of a question so far, and what one word more makes of it.

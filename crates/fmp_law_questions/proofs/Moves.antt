@@ -9,10 +9,10 @@ use Rattle.fmp_search_question.specs.Reading.{with_pattern, with_read, with_refu
 use Rattle.fmp_law_questions.specs.Grammar.{SpellsItem, SpellsPart, is_pattern_word}
 use Rattle.fmp_law_questions.proofs.Patterns.{next_place}
 use Rattle.fmp_law_questions.proofs.Closed.{Closed, closed_more}
-use Rattle.fmp_law_questions.proofs.Taken.{Taken, and, behind_word, count, negation, next, or, plain, refusal, taken, then_parts, when_true, without}
-use Rattle.fmp_law_questions.proofs.Begun.{HasItem, behind_item, item_of, item_spelled, no_item, not_taken, not_words, refused_taken, word_taken}
-use Rattle.fmp_law_questions.proofs.CountsRead.{behind_times, count_read}
-use Rattle.fmp_law_questions.proofs.ReadSoFar.{HasCount, HasMoment, IsRead, SpellsCounted, behind_items, behind_last, behind_moment, behind_parts, behind_steps}
+use Rattle.fmp_law_questions.proofs.Taken.{Taken, and, following_word, count, negation, next, or, plain, refusal, taken, then_parts, when_true, without}
+use Rattle.fmp_law_questions.proofs.Begun.{HasItem, after_item, item_of, item_spelled, no_item, not_taken, not_words, refused_taken, word_taken}
+use Rattle.fmp_law_questions.proofs.CountsRead.{after_times, count_read}
+use Rattle.fmp_law_questions.proofs.ReadSoFar.{HasCount, HasMoment, IsRead, SpellsCounted, after_items, after_last, after_moment, after_parts, after_steps}
 use Rattle.fmp_law_questions.proofs.ReadSoFar.{moment_of, moment_read, part_read, step_is_read, step_read, steps_are_read}
 
 module _ (names : NameLists) (words : List (List ℕ)) (d e : Draft) (s : IsRead names words d) where
@@ -31,7 +31,7 @@ module _ (names : NameLists) (words : List (List ℕ)) (d e : Draft) (s : IsRead
         items = s.items;
         last = s.last ++ word ∷ [];
         row = s.row;
-        whole = ap (λ (ws : List (List ℕ)). ws ++ word ∷ []) s.whole ∙ behind_last s.done s.timed s.barred s.parts s.items s.last (word ∷ []);
+        whole = ap (λ (ws : List (List ℕ)). ws ++ word ∷ []) s.whole ∙ after_last s.done s.timed s.barred s.parts s.items s.last (word ∷ []);
         are_steps = s.are_steps;
         steps = s.steps;
         has_count = s.has_count;
@@ -52,7 +52,7 @@ module _ (names : NameLists) (words : List (List ℕ)) (d e : Draft) (s : IsRead
       subst (λ (f : Draft). IsRead names (words ++ codes "refused" ∷ []) f) p.1 (item_goes_on (codes "refused") d.negated e.pattern e.spot p.0)
 
   plain_moves : (word : List ℕ) (place : Spot) → is_pattern_word names word ≡ true → length (longer d.pattern word) ≤ 1024 → next_place names d.spot word ≡ Some place
-      → IsRead names (words ++ word ∷ []) (behind_word d word place)
+      → IsRead names (words ++ word ∷ []) (following_word d word place)
   plain_moves word place is short stands =
       item_goes_on word d.negated (longer d.pattern word) place (word_taken names s.last d e s.has_item word place is short stands)
 
@@ -68,14 +68,14 @@ module _ (names : NameLists) (words : List (List ℕ)) (d e : Draft) (s : IsRead
         items = s.items ++ (s.last ++ codes "&" ∷ []);
         last = [];
         row = s.row;
-        whole = ap (λ (ws : List (List ℕ)). ws ++ codes "&" ∷ []) s.whole ∙ behind_items s.done s.timed s.barred s.parts s.items s.last (codes "&" ∷ []);
+        whole = ap (λ (ws : List (List ℕ)). ws ++ codes "&" ∷ []) s.whole ∙ after_items s.done s.timed s.barred s.parts s.items s.last (codes "&" ∷ []);
         are_steps = s.are_steps;
         steps = s.steps;
         has_count = s.has_count;
         has_moment = s.has_moment;
         are_parts = s.are_parts;
         are_items = closed_more (SpellsItem names) (codes "&") s.items s.last d.items (item_of d) s.are_items p.0;
-        has_item = no_item names (behind_item d) refl refl refl;
+        has_item = no_item names (after_item d) refl refl refl;
       })
 
   -- a part is complete
@@ -90,14 +90,14 @@ module _ (names : NameLists) (words : List (List ℕ)) (d e : Draft) (s : IsRead
         items = [];
         last = [];
         row = s.row;
-        whole = ap (λ (ws : List (List ℕ)). ws ++ codes "or" ∷ []) s.whole ∙ behind_parts s.done s.timed s.barred s.parts s.items s.last (codes "or" ∷ []);
+        whole = ap (λ (ws : List (List ℕ)). ws ++ codes "or" ∷ []) s.whole ∙ after_parts s.done s.timed s.barred s.parts s.items s.last (codes "or" ∷ []);
         are_steps = s.are_steps;
         steps = s.steps;
         has_count = s.has_count;
         has_moment = s.has_moment;
         are_parts = closed_more (SpellsPart names) (codes "or") s.parts (s.items ++ s.last) d.parts (d.items ++ item_of d ∷ []) s.are_parts p.0;
         are_items = refl;
-        has_item = no_item names (part_ended (behind_item d)) refl refl refl;
+        has_item = no_item names (part_ended (after_item d)) refl refl refl;
       })
 
   -- a moment is complete, and `without` follows
@@ -118,14 +118,14 @@ module _ (names : NameLists) (words : List (List ℕ)) (d e : Draft) (s : IsRead
         last = [];
         row = s.row;
         whole = ap (λ (ws : List (List ℕ)). ws ++ codes "without" ∷ []) (s.whole ∙ unbarred)
-            ∙ behind_moment s.done s.timed [] s.parts s.items s.last (codes "without" ∷ []);
+            ∙ after_moment s.done s.timed [] s.parts s.items s.last (codes "without" ∷ []);
         are_steps = s.are_steps;
         steps = s.steps;
         has_count = s.has_count;
         has_moment = (s.parts ++ (s.items ++ s.last), refl, m.0);
         are_parts = refl;
         are_items = refl;
-        has_item = no_item names (record (part_ended (behind_item d)) { moment = Some (moment_of names words d e s); parts = [] }) refl refl refl;
+        has_item = no_item names (record (part_ended (after_item d)) { moment = Some (moment_of names words d e s); parts = [] }) refl refl refl;
       }) where
         empty : (o : Option (List (List Item))) → is_none o ≡ true → HasMoment names s.barred o → s.barred ≡ []
         empty None h none = none
@@ -145,14 +145,14 @@ module _ (names : NameLists) (words : List (List ℕ)) (d e : Draft) (s : IsRead
         items = [];
         last = [];
         row = s.row ++ step_read names words d e s ∷ [];
-        whole = ap (λ (ws : List (List ℕ)). ws ++ codes "then" ∷ []) s.whole ∙ behind_steps s.done s.timed s.barred s.parts s.items s.last (codes "then" ∷ []);
+        whole = ap (λ (ws : List (List ℕ)). ws ++ codes "then" ∷ []) s.whole ∙ after_steps s.done s.timed s.barred s.parts s.items s.last (codes "then" ∷ []);
         are_steps = closed_more (SpellsCounted names) (codes "then") s.done last s.row (step_read names words d e s) s.are_steps p.0;
         steps = ap (λ (f : Draft). f.steps) p.1 ∙ all;
         has_count = refl;
         has_moment = refl;
         are_parts = refl;
         are_items = refl;
-        has_item = no_item names (with_read (part_ended (behind_item d))) refl refl refl;
+        has_item = no_item names (with_read (part_ended (after_item d))) refl refl refl;
       })
 
   -- a number was read, and `times` follows
@@ -184,7 +184,7 @@ module _ (names : NameLists) (words : List (List ℕ)) (d e : Draft) (s : IsRead
         has_moment = subst (λ (m : Option (List (List Item))). HasMoment names [] m) (sym alone.moment) refl;
         are_parts = subst (λ (ps : List (List Item)). Closed (SpellsPart names) (codes "or") [] ps) (sym alone.parts) refl;
         are_items = subst (λ (is : List Item). Closed (SpellsItem names) (codes "&") [] is) (sym alone.items) refl;
-        has_item = no_item names (behind_times d c.0) alone.negated refl refl;
+        has_item = no_item names (after_times d c.0) alone.negated refl refl;
       })
 
   at_word : (word own : List ℕ) → word ≡ own → IsRead names (words ++ own ∷ []) e → IsRead names (words ++ word ∷ []) e

@@ -97,17 +97,17 @@ some_length x xs = grind (arith, nat_tests)
 pub longer-more : (b : ℕ) (pattern word : List ℕ) → longer (b ∷ pattern) word ≡ ((b ∷ pattern) ++ word) ++ space ∷ []
 longer-more b pattern word = let more = some_length b pattern in rw more refl
 
-longer-behind : (front word : List ℕ) → longer (front ++ space ∷ []) word ≡ (front ++ space ∷ word) ++ space ∷ []
-longer-behind [] word = longer-more space [] word
-longer-behind (b ∷ front) word = longer-more b (front ++ space ∷ []) word ∙ ap (λ (p : List ℕ). p ++ space ∷ []) (append_assoc (b ∷ front) (space ∷ []) word)
+longer-following : (front word : List ℕ) → longer (front ++ space ∷ []) word ≡ (front ++ space ∷ word) ++ space ∷ []
+longer-following [] word = longer-more space [] word
+longer-following (b ∷ front) word = longer-more b (front ++ space ∷ []) word ∙ ap (λ (p : List ℕ). p ++ space ∷ []) (append_assoc (b ∷ front) (space ∷ []) word)
 
-longer_by-behind : (front : List ℕ) (words : List (List ℕ)) → longer_by (front ++ space ∷ []) words ≡ front ++ spaced words
-longer_by-behind front [] = refl
-longer_by-behind front (word ∷ words) =
-    ap (λ (p : List ℕ). longer_by p words) (longer-behind front word) ∙ longer_by-behind (front ++ space ∷ word) words ∙ append_assoc front (space ∷ word) (spaced words)
+longer_by-following : (front : List ℕ) (words : List (List ℕ)) → longer_by (front ++ space ∷ []) words ≡ front ++ spaced words
+longer_by-following front [] = refl
+longer_by-following front (word ∷ words) =
+    ap (λ (p : List ℕ). longer_by p words) (longer-following front word) ∙ longer_by-following (front ++ space ∷ word) words ∙ append_assoc front (space ∷ word) (spaced words)
 
 pub longer_by-first : (word : List ℕ) (words : List (List ℕ)) → longer_by [] (word ∷ words) ≡ spaced (word ∷ words)
-longer_by-first word words = longer_by-behind (space ∷ word) words
+longer_by-first word words = longer_by-following (space ∷ word) words
 
 longer-grows : (pattern word : List ℕ) → length pattern ≤ length (longer pattern word)
 longer-grows [] word = omega arith
@@ -122,7 +122,7 @@ pub longer_by-grows : (pattern : List ℕ) (words : List (List ℕ)) → length 
 longer_by-grows pattern [] = omega arith
 longer_by-grows pattern (word ∷ words) = omega (arith, longer-grows pattern word, longer_by-grows (longer pattern word) words)
 
--- the first word stands somewhere, and the others behind it
+-- the first word stands somewhere, and the others after it
 pub placed_parts : (names : NameLists) (from place : Spot) (word : List ℕ) (words : List (List ℕ)) → placed names from (word ∷ words) ≡ Some place
     → (next : Spot) × (next_place names from word ≡ Some next) × (placed names next words ≡ Some place)
 placed_parts names from place word words is = parts (next_place names from word) refl is where
@@ -158,12 +158,12 @@ first_word (a ∷ word) rest (b ∷ front) apart e =
     let rest_same = first_word word rest front (and_parts (not (eqb b 32)) (list_all (λ b. not (eqb b 32)) front) apart).1 others in
     cc
 
--- behind the first word a blank follows
-abbrev pub behind_first : List (List ℕ) → List ℕ
-behind_first [] = []
-behind_first (word ∷ words) = word ++ spaced words
+-- after the first word a blank follows
+abbrev pub after_first : List (List ℕ) → List ℕ
+after_first [] = []
+after_first (word ∷ words) = word ++ spaced words
 
-pub spaced_begins : (words : List (List ℕ)) → spaced words ≡ space ∷ behind_first words
+pub spaced_begins : (words : List (List ℕ)) → spaced words ≡ space ∷ after_first words
 spaced_begins [] = refl
 spaced_begins (word ∷ words) = refl
 
@@ -173,7 +173,7 @@ pub other_wanted : (word : List ℕ) (words : List (List ℕ)) → bytes_eq word
 other_wanted word words other =
     let begins = spaced_begins words in
     let differs : bytes_eq (spaced (word ∷ words)) (codes " refused ") ≡ false = other_word (spaced (word ∷ words)) (codes " refused ") (λ e.
-    not_word word (codes "refused") other (first_word word (behind_first words) (codes "refused") refl (ap (λ (r : List ℕ). word ++ r) (sym begins) ∙ tail_same e))) in
+    not_word word (codes "refused") other (first_word word (after_first words) (codes "refused") refl (ap (λ (r : List ℕ). word ++ r) (sym begins) ∙ tail_same e))) in
     rw differs refl where
       tail_same : spaced (word ∷ words) ≡ codes " refused " → word ++ spaced words ≡ codes "refused" ++ 32 ∷ []
       tail_same e = cc

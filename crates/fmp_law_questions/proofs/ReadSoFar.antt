@@ -8,7 +8,7 @@ use Rattle.fmp_search_question.specs.Reading.{Draft, part_ended, step_of, with_p
 use Rattle.fmp_law_questions.specs.Grammar.{SpellsCount, SpellsItem, SpellsMoment, SpellsPart, SpellsStep, SpellsTimes, repeated}
 use Rattle.fmp_law_questions.proofs.Closed.{Closed, closed_row}
 use Rattle.fmp_law_questions.proofs.Taken.{map_parts}
-use Rattle.fmp_law_questions.proofs.Begun.{HasItem, behind_item, item_of, item_spelled}
+use Rattle.fmp_law_questions.proofs.Begun.{HasItem, after_item, item_of, item_spelled}
 
 -- a number and `times`, or nothing
 abbrev pub HasCount : List (List ℕ) → Option ℕ → Type 0
@@ -44,20 +44,20 @@ pub record IsRead (names : NameLists) (words : List (List ℕ)) (d : Draft) : Ty
 -- ---- where a word more stands
 
 module _ (a b c d e f x : List (List ℕ)) where
-  pub behind_last : (a ++ (b ++ (c ++ (d ++ (e ++ f))))) ++ x ≡ a ++ (b ++ (c ++ (d ++ (e ++ (f ++ x)))))
-  behind_last = simp append_assoc
+  pub after_last : (a ++ (b ++ (c ++ (d ++ (e ++ f))))) ++ x ≡ a ++ (b ++ (c ++ (d ++ (e ++ (f ++ x)))))
+  after_last = simp append_assoc
 
-  pub behind_items : (a ++ (b ++ (c ++ (d ++ (e ++ f))))) ++ x ≡ a ++ (b ++ (c ++ (d ++ ((e ++ (f ++ x)) ++ []))))
-  behind_items = simp (append_assoc, append-nil {A = List ℕ})
+  pub after_items : (a ++ (b ++ (c ++ (d ++ (e ++ f))))) ++ x ≡ a ++ (b ++ (c ++ (d ++ ((e ++ (f ++ x)) ++ []))))
+  after_items = simp (append_assoc, append-nil {A = List ℕ})
 
-  pub behind_parts : (a ++ (b ++ (c ++ (d ++ (e ++ f))))) ++ x ≡ a ++ (b ++ (c ++ ((d ++ ((e ++ f) ++ x)) ++ [])))
-  behind_parts = simp (append_assoc, append-nil {A = List ℕ})
+  pub after_parts : (a ++ (b ++ (c ++ (d ++ (e ++ f))))) ++ x ≡ a ++ (b ++ (c ++ ((d ++ ((e ++ f) ++ x)) ++ [])))
+  after_parts = simp (append_assoc, append-nil {A = List ℕ})
 
-  pub behind_moment : (a ++ (b ++ ([] ++ (d ++ (e ++ f))))) ++ x ≡ a ++ (b ++ (((d ++ (e ++ f)) ++ x) ++ []))
-  behind_moment = simp (append_assoc, append-nil {A = List ℕ})
+  pub after_moment : (a ++ (b ++ ([] ++ (d ++ (e ++ f))))) ++ x ≡ a ++ (b ++ (((d ++ (e ++ f)) ++ x) ++ []))
+  after_moment = simp (append_assoc, append-nil {A = List ℕ})
 
-  pub behind_steps : (a ++ (b ++ (c ++ (d ++ (e ++ f))))) ++ x ≡ (a ++ ((b ++ (c ++ (d ++ (e ++ f)))) ++ x)) ++ []
-  behind_steps = simp (append_assoc, append-nil {A = List ℕ})
+  pub after_steps : (a ++ (b ++ (c ++ (d ++ (e ++ f))))) ++ x ≡ (a ++ ((b ++ (c ++ (d ++ (e ++ f)))) ++ x)) ++ []
+  after_steps = simp (append_assoc, append-nil {A = List ℕ})
 
 -- ---- parts, moments and steps that are complete
 
@@ -104,21 +104,21 @@ module _ (names : NameLists) (words : List (List ℕ)) (d e : Draft) (s : IsRead
   abbrev pub step_read : ℕ × Step
   step_read = (unwrap_or d.times 1, step_of d.moment moment_of)
 
-  pub part_read : with_part d ≡ Some e → SpellsPart names (s.items ++ s.last) (d.items ++ item_of d ∷ []) × (part_ended (behind_item d) ≡ e)
+  pub part_read : with_part d ≡ Some e → SpellsPart names (s.items ++ s.last) (d.items ++ item_of d ∷ []) × (part_ended (after_item d) ≡ e)
   unfolding with_part
   part_read is =
       let p = map_parts part_ended (with_pattern d) e is in
       let i = item_spelled names s.last d p.0 s.has_item p.1 in
       (closed_row (SpellsItem names) (codes "&") s.items s.last d.items (item_of d) s.are_items i.0, ap part_ended i.1 ∙ p.2)
 
-  pub moment_read : with_part d ≡ Some e → SpellsMoment names (s.parts ++ (s.items ++ s.last)) moment_of × (part_ended (behind_item d) ≡ e)
+  pub moment_read : with_part d ≡ Some e → SpellsMoment names (s.parts ++ (s.items ++ s.last)) moment_of × (part_ended (after_item d) ≡ e)
   moment_read is =
       let p = part_read is in
       (closed_row (SpellsPart names) (codes "or") s.parts (s.items ++ s.last) d.parts (d.items ++ item_of d ∷ []) s.are_parts p.0, p.1)
 
 -- a step that is complete
 pub step_is_read : (names : NameLists) (words : List (List ℕ)) (d e : Draft) (s : IsRead names words d) → with_step d ≡ Some e
-    → SpellsCounted names (s.timed ++ (s.barred ++ (s.parts ++ (s.items ++ s.last)))) (step_read names words d e s) × (with_read (part_ended (behind_item d)) ≡ e)
+    → SpellsCounted names (s.timed ++ (s.barred ++ (s.parts ++ (s.items ++ s.last)))) (step_read names words d e s) × (with_read (part_ended (after_item d)) ≡ e)
 unfolding with_step
 step_is_read names words d e s is =
     let p = map_parts with_read (with_part d) e is in

@@ -47,7 +47,7 @@ all_read names before (word ∷ words) d e s is =
     subst (λ (ws : List (List ℕ)). IsRead names ws e) (append_assoc before (word ∷ []) words)
     (all_read names (before ++ word ∷ []) words p.0 e (moves names before d p.0 s word p.1) p.2)
 
--- behind the last word a step is complete
+-- after the last word a step is complete
 pub words_asked : (names : NameLists) (words : List (List ℕ)) (d e : Draft) → IsRead names words d → with_step d ≡ Some e → AsksWords names words e.steps
 words_asked names words d e s is =
     let p = step_is_read names words d e s is in

@@ -52,10 +52,10 @@ module _ (e : Draft) where
 -- ---- one word
 
 -- the pattern has a word more
-abbrev pub behind_word : Draft → List ℕ → Spot → Draft
-behind_word d word place = record d { pattern = longer d.pattern word; spot = place }
+abbrev pub following_word : Draft → List ℕ → Spot → Draft
+following_word d word place = record d { pattern = longer d.pattern word; spot = place }
 
--- what the word is, and what was read behind it
+-- what the word is, and what was read after it
 pub data Taken (names : NameLists) (d : Draft) (word : List ℕ) (e : Draft) : Type 0 where
   and : word ≡ codes "&" → with_pattern d ≡ Some e → Taken names d word e
   or : word ≡ codes "or" → with_part d ≡ Some e → Taken names d word e
@@ -65,10 +65,10 @@ pub data Taken (names : NameLists) (d : Draft) (word : List ℕ) (e : Draft) : T
   next : word ≡ codes "then" → with_step d ≡ Some e → Taken names d word e
   count : word ≡ codes "times" → with_times d ≡ Some e → Taken names d word e
   plain : (place : Spot) → is_pattern_word names word ≡ true → length (longer d.pattern word) ≤ 1024 → next_place names d.spot word ≡ Some place
-      → e ≡ behind_word d word place → Taken names d word e
+      → e ≡ following_word d word place → Taken names d word e
 
 spot_parts : (names : NameLists) (d e : Draft) (word : List ℕ) (o : Option Spot) → at_spot d word o ≡ Ok e
-    → (place : Spot) × (o ≡ Some place) × (e ≡ behind_word d word place)
+    → (place : Spot) × (o ≡ Some place) × (e ≡ following_word d word place)
 spot_parts names d e word None is = absurd cc
 spot_parts names d e word (Some place) is = (place, refl, cc)
 

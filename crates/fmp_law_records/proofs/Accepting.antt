@@ -26,13 +26,13 @@ use Rattle.fmp_rules.specs.TaskCalls.{is_sleep, act, mact, can_act, mig_tsk, ext
 use Rattle.fmp_rules.specs.Step.{row_of, step}
 use Rattle.fmp_law_safety.proofs.Calls.{from_task}
 use Rattle.fmp_law_balance.specs.Accepted.{is_accepted}
-use Rattle.fmp_law_balance.proofs.Steps.{told}
+use Rattle.fmp_law_balance.proofs.Steps.{report}
 use Rattle.fmp_law_waits.proofs.Events.{by_event}
 use Rattle.fmp_law_waits.proofs.Named.{task_known}
 use Rattle.fmp_law_counts.proofs.Tasks.{named_or_caller_is}
 use Rattle.fmp_law_records.specs.Suspensions.{is_overflow}
 use Rattle.fmp_law_records.specs.Lives.{queued_count}
-use Rattle.fmp_law_records.specs.Accepting.{TaskTold, is_about, suits, is_full, is_wakeup, is_unsuited, AnswerFits, TaskCallFits}
+use Rattle.fmp_law_records.specs.Accepting.{TaskReported, is_about, suits, is_full, is_wakeup, is_unsuited, AnswerFits, TaskCallFits}
 use Rattle.fmp_law_records.proofs.Allows.{allows, task_allows}
 
 -- What the first error says.
@@ -109,14 +109,14 @@ no_wait None h = refl
 no_wait (Some x) h = absurd (false≢true h)
 
 -- this is told of a task
-pub record Agrees (x : TaskTold) (r : TaskRecord) : Type 0 where
+pub record Agrees (x : TaskReported) (r : TaskRecord) : Type 0 where
   pub active : r.active ≡ x.life.active
   pub at : r.assigned ≡ x.life.at
   pub activations : r.activations ≡ queued_count x.life.queued
   pub suspended : r.suspended ≡ x.suspended
   pub waits : is_some r.wait ≡ is_some x.wait
 
-module _ (p : Proc) (x : TaskTold) (r : TaskRecord) (h : Agrees x r) where
+module _ (p : Proc) (x : TaskReported) (r : TaskRecord) (h : Agrees x r) where
   here : (r.assigned.number == p.number) ≡ (x.life.at.number == p.number)
   here = ap (λ (q : Proc). q.number == p.number) h.at
 
@@ -319,7 +319,7 @@ module _ {Q : Type 0} (k : Ordering Q) (w : World Q) (p : Proc) (t : Task) (few 
   accepted_found tasks.ExtTsk about yes_ = (refl, refl)
   accepted_found c about yes_ = found_so c (task w t) ((task_allows k w p t few c).found (and_from _ _ yes_ about))
 
-  module _ (x : TaskTold) (h : Agrees x (task w t)) where
+  module _ (x : TaskReported) (h : Agrees x (task w t)) where
     fits_called : (c : TaskCall) → is_about t (runner_of w p) c ≡ true → AnswerFits p c x (called w p (task_row k w p c)).1.answer
     fits_called c about = record {
       suited = λ yes_. sym (suits_same p x (task w t) h c) ∙ (accepted_found c about yes_).0;
@@ -329,15 +329,15 @@ module _ {Q : Type 0} (k : Ordering Q) (w : World Q) (p : Proc) (t : Task) (few 
       full = λ e. sym (ap (λ b. is_wakeup c || b) (full_same p x (task w t) h c)) ∙ (task_refuses c).full about e;
     }
 
-    fits_call : (c : Call) → TaskCallFits t x (told (event.Call p c) (runner_of w p) (called w p (row_of k w p c)).1)
+    fits_call : (c : Call) → TaskCallFits t x (report (event.Call p c) (runner_of w p) (called w p (row_of k w p c)).1)
     fits_call (call.Task c) = fits_called c
     fits_call c = tt
 
-    fits_idle : (c : Call) → TaskCallFits t x (told (event.Call p c) (runner_of w p) (plain answer.Idle))
+    fits_idle : (c : Call) → TaskCallFits t x (report (event.Call p c) (runner_of w p) (plain answer.Idle))
     fits_idle (call.Task c) = λ about. record { suited = λ e. absurd (false≢true e); free = λ e. absurd (false≢true e); unsuited = λ e. absurd (false≢true e); too_many = λ e. absurd (false≢true e); full = λ e. absurd (false≢true e) }
     fits_idle c = tt
 
-pub fits_step : {Q : Type 0} (k : Ordering Q) (w : World Q) (t : Task) (x : TaskTold) → Agrees x (task w t) → length w.tasks ≤ 64 → (e : Event) → TaskCallFits t x (step k w e).1
+pub fits_step : {Q : Type 0} (k : Ordering Q) (w : World Q) (t : Task) (x : TaskReported) → Agrees x (task w t) → length w.tasks ≤ 64 → (e : Event) → TaskCallFits t x (step k w e).1
 fits_step k w t x h few e =
     by_event k w (λ v r. TaskCallFits t x r) (λ v cs r y ps done_. done_)
     (λ p c. fits_call k w p t few x h c) (λ p c. fits_idle k w p t few x h c) (λ p. tt) (λ p. tt) (λ p. tt) (λ p a none. tt) e

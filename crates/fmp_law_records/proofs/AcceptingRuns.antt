@@ -13,7 +13,7 @@ use Rattle.fmp_rules.specs.Boot.{booted}
 use Rattle.fmp_law_safety.specs.Runs.{AreOn}
 use Rattle.fmp_law_waits.specs.Asked.{OpenWait}
 use Rattle.fmp_law_counts.proofs.Ready.{ready_after}
-use Rattle.fmp_law_records.specs.Accepting.{told_task, TaskCallFits}
+use Rattle.fmp_law_records.specs.Accepting.{report_task, TaskCallFits}
 use Rattle.fmp_law_records.proofs.TaskRuns.{suspension_from_boot}
 use Rattle.fmp_law_records.proofs.LivesRuns.{life_from_boot}
 use Rattle.fmp_law_records.proofs.Accepting.{Agrees, fits_step}
@@ -22,7 +22,7 @@ waits_same : (q : Option OpenWait) (o : Option Wait) → o ≡ option_map (λ y.
 waits_same None o e = ap is_some e
 waits_same (Some y) o e = ap is_some e
 
-pub agrees_from_boot : (c : Setup) (es : List Event) → IsValid c → AreOn c.processors es → (t : Task) → t.number ≤ length c.tasks → Agrees (told_task c t (answers numbered (booted c) es)) (task (replay numbered (booted c) es) t)
+pub agrees_from_boot : (c : Setup) (es : List Event) → IsValid c → AreOn c.processors es → (t : Task) → t.number ≤ length c.tasks → Agrees (report_task c t (answers numbered (booted c) es)) (task (replay numbered (booted c) es) t)
 agrees_from_boot c es valid on t here =
     let h = life_from_boot c t here es valid on in
     let m : State = replay numbered (booted c) es in
@@ -31,10 +31,10 @@ agrees_from_boot c es valid on t here =
       at = h.at;
       activations = h.activations;
       suspended = suspension_from_boot c t here es valid on;
-      waits = waits_same _ (task m t).wait ((ready_after c valid es on).told t).0.wait;
+      waits = waits_same _ (task m t).wait ((ready_after c valid es on).report t).0.wait;
     }
 
 pub calls_fit : (c : Setup) (events : List Event) → IsValid c → AreOn c.processors events → (e : Event) (t : Task) → t.number ≤ length c.tasks →
-    TaskCallFits t (told_task c t (answers numbered (booted c) events)) (step numbered (replay numbered (booted c) events) e).1
+    TaskCallFits t (report_task c t (answers numbered (booted c) events)) (step numbered (replay numbered (booted c) events) e).1
 calls_fit c events valid on e t here =
     fits_step numbered (replay numbered (booted c) events) t _ (agrees_from_boot c events valid on t here) (ready_after c valid events on).sound.few_tasks e

@@ -62,11 +62,11 @@ module _ {Q : Type 0} (k : Ordering Q) (w : World Q) (p : Proc) (a : Object) (fe
   abbrev now : Alarm
   now = alarm w a
 
-  pub record AlarmTold (c : Call) (did : World Q × Effect) : Type 0 where
+  pub record AlarmReported (c : Call) (did : World Q × Effect) : Type 0 where
     pub here : alarm did.0 a ≡ record now { assigned = at_with now.setup.class did.1.answer (takes_alarm a (event.Call p c)) now.assigned }
 
-  left_told : (c : Call) (did : World Q × Effect) → did.0.alarms ≡ w.alarms → at_with now.setup.class did.1.answer (takes_alarm a (event.Call p c)) now.assigned ≡ now.assigned → AlarmTold c did
-  left_told c did e same = record { here = ap (λ xs. item (record { setup = no_alarm; assigned = as_proc 1 }) xs a.number) e ∙ ap (λ q. record now { assigned = q }) (sym same) }
+  left_reported : (c : Call) (did : World Q × Effect) → did.0.alarms ≡ w.alarms → at_with now.setup.class did.1.answer (takes_alarm a (event.Call p c)) now.assigned ≡ now.assigned → AlarmReported c did
+  left_reported c did e same = record { here = ap (λ xs. item (record { setup = no_alarm; assigned = as_proc 1 }) xs a.number) e ∙ ap (λ q. record now { assigned = q }) (sym same) }
 
   moved : (c : Call) (id to : ℤ) (left : Option ℕ) → takes_alarm a (event.Call p c) ≡ (if names a id then Some to else None) → is_some (object_named w.alarms id) ≡ true →
       is_some (processor_or_initial w (alarm w (unwrap_or (object_named w.alarms id) (as_object 1))).setup.class to) ≡ true →
@@ -84,17 +84,17 @@ module _ {Q : Type 0} (k : Ordering Q) (w : World Q) (p : Proc) (a : Object) (fe
       (item_same blank w.alarms o.number y o.least named.within.1 ∙ ap (λ z. record (alarm w o) { assigned = z }) (taken_is w (alarm w o).setup.class to (alarm w o).assigned there))
       (λ d. item_other blank w.alarms o.number y a.number a.least o.least (λ e. d (sym e)))))
 
-  not_moved : (c : Call) (x : Code) → refuses x ≡ true → AlarmTold c (w, refused x)
-  not_moved c x e = left_told c (w, refused x) refl (cond-false (is_accepted (refused x).answer) _ _ (not_accepted x e))
+  not_moved : (c : Call) (x : Code) → refuses x ≡ true → AlarmReported c (w, refused x)
+  not_moved c x e = left_reported c (w, refused x) refl (cond-false (is_accepted (refused x).answer) _ _ (not_accepted x e))
 
-  time_told : (c : TimeCall) → AlarmTold (call.Time c) (called w p (time_row w c))
+  time_reported : (c : TimeCall) → AlarmReported (call.Time c) (called w p (time_row w c))
   unfolding sta_cyc msta_cyc stp_cyc sta_alm msta_alm stp_alm
-  time_told (time.MstaAlm id after q) = by_called w p (AlarmTold (call.Time (time.MstaAlm id after q))) (msta_alm w id after q) tt (not_moved (call.Time (time.MstaAlm id after q)))
+  time_reported (time.MstaAlm id after q) = by_called w p (AlarmReported (call.Time (time.MstaAlm id after q))) (msta_alm w id after q) tt (not_moved (call.Time (time.MstaAlm id after q)))
       (λ x. let known = and_parts (is_some (object_named w.alarms id)) _ x.known in record { here = moved (call.Time (time.MstaAlm id after q)) id q (ticks_of after) refl known.0 known.1 })
-  time_told (time.ImstaAlm id after q) = by_called w p (AlarmTold (call.Time (time.ImstaAlm id after q))) (in_handler (msta_alm w id after q)) tt (not_moved (call.Time (time.ImstaAlm id after q)))
+  time_reported (time.ImstaAlm id after q) = by_called w p (AlarmReported (call.Time (time.ImstaAlm id after q))) (in_handler (msta_alm w id after q)) tt (not_moved (call.Time (time.ImstaAlm id after q)))
       (λ x. let known = and_parts (is_some (object_named w.alarms id)) _ x.known in record { here = moved (call.Time (time.ImstaAlm id after q)) id q (ticks_of after) refl known.0 known.1 })
-  time_told c = either_way w p (AlarmTold (call.Time c)) (time_row w c) (λ x. left_told (call.Time c) (w, refused x) refl (untaken now.setup.class (refused x).answer now.assigned)) (left_told (call.Time c) (time_row w c).effect refl (untaken now.setup.class (time_row w c).effect.1.answer now.assigned))
+  time_reported c = either_way w p (AlarmReported (call.Time c)) (time_row w c) (λ x. left_reported (call.Time c) (w, refused x) refl (untaken now.setup.class (refused x).answer now.assigned)) (left_reported (call.Time c) (time_row w c).effect refl (untaken now.setup.class (time_row w c).effect.1.answer now.assigned))
 
-  pub alarm_call : (c : Call) → AlarmTold c (called w p (row_of k w p c))
-  alarm_call (call.Time c) = time_told c
-  alarm_call c = left_told c (called w p (row_of k w p c)) (ap (λ (x : Clock). x.alarms) (clock_call k w p c refl)) (untaken now.setup.class (called w p (row_of k w p c)).1.answer now.assigned)
+  pub alarm_call : (c : Call) → AlarmReported c (called w p (row_of k w p c))
+  alarm_call (call.Time c) = time_reported c
+  alarm_call c = left_reported c (called w p (row_of k w p c)) (ap (λ (x : Clock). x.alarms) (clock_call k w p c refl)) (untaken now.setup.class (called w p (row_of k w p c)).1.answer now.assigned)

@@ -28,7 +28,7 @@ use Rattle.fmp_law_counts.specs.Alarms.{starts_alarm, stops_alarm, alarm_time, w
 use Rattle.fmp_law_counts.proofs.HandlersRuns.{alarms_timed, clocks_step, clock_started, clock_running}
 use Rattle.fmp_law_counts.proofs.Sparing.{Clock}
 use Rattle.fmp_law_counts.proofs.Ready.{Ready, ready_next, ready_at_boot, prefix_on}
-use Rattle.fmp_law_records.specs.Handlers.{HandlerTold, takes_alarm, begun_with, alarm_after, alarm_by, alarm_at_boot, IsAlarmTold}
+use Rattle.fmp_law_records.specs.Handlers.{HandlerReported, takes_alarm, begun_with, alarm_after, alarm_by, alarm_at_boot, IsAlarmReported}
 use Rattle.fmp_law_records.proofs.Alarms.{at_with, untaken, tick_alarms, alarm_call}
 use Rattle.fmp_rules.specs.Tick.{tick}
 
@@ -50,7 +50,7 @@ same_begun (pos n) = refl
 same_begun (negsuc n) = refl
 
 -- what is left of it, where the processor is the machine's
-same_left : (c : Setup) (m : State) (a : Object) (r : Record) (x : HandlerTold) → m.timer ≡ c.timer → (alarm m a).assigned ≡ x.at → alarm_left_after m a r x.left ≡ (alarm_after c a r x).left
+same_left : (c : Setup) (m : State) (a : Object) (r : Record) (x : HandlerReported) → m.timer ≡ c.timer → (alarm m a).assigned ≡ x.at → alarm_left_after m a r x.left ≡ (alarm_after c a r x).left
 same_left c m a r x timer at =
     ap (λ (begun : Option ℕ). if starts_alarm a r.event && is_accepted r.answer then begun else if stops_alarm a r.event && is_accepted r.answer then None else if is_tick_for m.timer (alarm m a).assigned r.answer r.event then without_tick None x.left else x.left) (same_begun (alarm_time r.event))
     ∙ ap (λ (b : Bool). if starts_alarm a r.event && is_accepted r.answer then begun_with (alarm_time r.event) else if stops_alarm a r.event && is_accepted r.answer then None else if b then without_tick None x.left else x.left)
@@ -63,13 +63,13 @@ module _ (c : Setup) (valid : IsValid c) (a : Object) where
   abbrev With : Proc → Alarm
   With q = record { setup = setup_alarm c a; assigned = q }
 
-  alarm_run : (pending : OpenWaits) (m : State) (es : List Event) (x : HandlerTold) → Ready c pending m es → length m.alarms ≤ 32 → alarm m a ≡ With x.at → alarm (replay numbered m es) a ≡ With (alarm_by c a (answers numbered m es) x).at
+  alarm_run : (pending : OpenWaits) (m : State) (es : List Event) (x : HandlerReported) → Ready c pending m es → length m.alarms ≤ 32 → alarm m a ≡ With x.at → alarm (replay numbered m es) a ≡ With (alarm_by c a (answers numbered m es) x).at
   alarm_run pending m [] x ready few old = old
   alarm_run pending m (e ∷ es) x ready few old =
       alarm_run (after_record c pending (step numbered m e).1) (step numbered m e).0 es (alarm_after c a (step numbered m e).1 x) (ready_next c pending m e es ready) (rw (clocks_step numbered m e).alarms few)
       ((alarm_step m a few e).here ∙ ap (λ (y : Alarm). record y { assigned = at_with y.setup.class (step numbered m e).1.answer (takes_alarm a (step numbered m e).1.event) y.assigned }) old)
 
-  left_run : (pending : OpenWaits) (m : State) (es : List Event) (x : HandlerTold) → Ready c pending m es → length m.alarms ≤ 32 → alarm m a ≡ With x.at → alarm_left_by a m es x.left ≡ (alarm_by c a (answers numbered m es) x).left
+  left_run : (pending : OpenWaits) (m : State) (es : List Event) (x : HandlerReported) → Ready c pending m es → length m.alarms ≤ 32 → alarm m a ≡ With x.at → alarm_left_by a m es x.left ≡ (alarm_by c a (answers numbered m es) x).left
   left_run pending m [] x ready few old = refl
   left_run pending m (e ∷ es) x ready few old =
       let r : Record = (step numbered m e).1 in
@@ -87,13 +87,13 @@ booted_alarms c =
 booted_at : (c : Setup) (a : Object) → alarm (booted c) a ≡ resting_alarm (setup_alarm c a)
 booted_at c a = ap (λ xs. item blank_alarm xs a.number) (booted_alarms c) ∙ get_or-map resting_alarm c.alarms (a.number - 1) no_alarm
 
-pub alarms_told : (c : Setup) (events : List Event) → IsValid c → AreOn c.processors events → (n : ℕ) (a : Object) → a.number ≤ length c.alarms →
-    IsAlarmTold c (take n (answers numbered (booted c) events)) (replay numbered (booted c) (take n events)) a
-alarms_told c events valid on n a here =
+pub alarms_reported : (c : Setup) (events : List Event) → IsValid c → AreOn c.processors events → (n : ℕ) (a : Object) → a.number ≤ length c.alarms →
+    IsAlarmReported c (take n (answers numbered (booted c) events)) (replay numbered (booted c) (take n events)) a
+alarms_reported c events valid on n a here =
     let es : List Event = take n events in
     let ready = ready_at_boot c valid es (prefix_on n c.processors events on) in
     let few : length (booted c).alarms ≤ 32 = rw (ap length (booted_alarms c) ∙ length-map c.alarms resting_alarm) valid.few.alarms in
-    subst (λ rs. IsAlarmTold c rs (replay numbered (booted c) es) a) (answers_take n (booted c) events)
+    subst (λ rs. IsAlarmReported c rs (replay numbered (booted c) es) a) (answers_take n (booted c) events)
     (record {
       left = alarms_timed c es valid (prefix_on n c.processors events on) a here ∙ left_run c valid a nobody_waits (booted c) es (alarm_at_boot c a) ready few (booted_at c a);
       at = ap (λ (y : Alarm). y.assigned) (alarm_run c valid a nobody_waits (booted c) es (alarm_at_boot c a) ready few (booted_at c a));

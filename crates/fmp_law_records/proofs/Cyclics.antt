@@ -45,11 +45,11 @@ module _ {Q : Type 0} (k : Ordering Q) (w : World Q) (p : Proc) (a : Object) (fe
   abbrev now : Cyclic
   now = cyclic w a
 
-  pub record CyclicTold (c : Call) (did : World Q × Effect) : Type 0 where
+  pub record CyclicReported (c : Call) (did : World Q × Effect) : Type 0 where
     pub here : cyclic did.0 a ≡ record now { assigned = at_with now.setup.class did.1.answer (takes_cyclic a (event.Call p c)) now.assigned }
 
-  left_told : (c : Call) (did : World Q × Effect) → did.0.cyclics ≡ w.cyclics → at_with now.setup.class did.1.answer (takes_cyclic a (event.Call p c)) now.assigned ≡ now.assigned → CyclicTold c did
-  left_told c did e same = record { here = ap (λ xs. item (record { setup = no_cyclic; assigned = as_proc 1 }) xs a.number) e ∙ ap (λ q. record now { assigned = q }) (sym same) }
+  left_reported : (c : Call) (did : World Q × Effect) → did.0.cyclics ≡ w.cyclics → at_with now.setup.class did.1.answer (takes_cyclic a (event.Call p c)) now.assigned ≡ now.assigned → CyclicReported c did
+  left_reported c did e same = record { here = ap (λ xs. item (record { setup = no_cyclic; assigned = as_proc 1 }) xs a.number) e ∙ ap (λ q. record now { assigned = q }) (sym same) }
 
   moved : (c : Call) (id to : ℤ) → takes_cyclic a (event.Call p c) ≡ (if names a id then Some to else None) → is_some (object_named w.cyclics id) ≡ true →
       is_some (processor_or_initial w (cyclic w (unwrap_or (object_named w.cyclics id) (as_object 1))).setup.class to) ≡ true →
@@ -67,16 +67,16 @@ module _ {Q : Type 0} (k : Ordering Q) (w : World Q) (p : Proc) (a : Object) (fe
       (item_same blank w.cyclics o.number y o.least named.within.1 ∙ ap (λ z. record (cyclic w o) { assigned = z }) (taken_is w (cyclic w o).setup.class to (cyclic w o).assigned there))
       (λ d. item_other blank w.cyclics o.number y a.number a.least o.least (λ e. d (sym e)))))
 
-  not_moved : (c : Call) (x : Code) → refuses x ≡ true → CyclicTold c (w, refused x)
-  not_moved c x e = left_told c (w, refused x) refl (cond-false (is_accepted (refused x).answer) _ _ (not_accepted x e))
+  not_moved : (c : Call) (x : Code) → refuses x ≡ true → CyclicReported c (w, refused x)
+  not_moved c x e = left_reported c (w, refused x) refl (cond-false (is_accepted (refused x).answer) _ _ (not_accepted x e))
 
-  time_told : (c : TimeCall) → CyclicTold (call.Time c) (called w p (time_row w c))
+  time_reported : (c : TimeCall) → CyclicReported (call.Time c) (called w p (time_row w c))
   unfolding sta_cyc msta_cyc stp_cyc sta_alm msta_alm stp_alm
-  time_told (time.MstaCyc id q) =
-      by_called w p (CyclicTold (call.Time (time.MstaCyc id q))) (msta_cyc w id q) tt (not_moved (call.Time (time.MstaCyc id q)))
+  time_reported (time.MstaCyc id q) =
+      by_called w p (CyclicReported (call.Time (time.MstaCyc id q))) (msta_cyc w id q) tt (not_moved (call.Time (time.MstaCyc id q)))
       (λ x. let known = and_parts (is_some (object_named w.cyclics id)) _ x.known in record { here = moved (call.Time (time.MstaCyc id q)) id q refl known.0 known.1 })
-  time_told c = either_way w p (CyclicTold (call.Time c)) (time_row w c) (λ x. left_told (call.Time c) (w, refused x) refl (untaken now.setup.class (refused x).answer now.assigned)) (left_told (call.Time c) (time_row w c).effect refl (untaken now.setup.class (time_row w c).effect.1.answer now.assigned))
+  time_reported c = either_way w p (CyclicReported (call.Time c)) (time_row w c) (λ x. left_reported (call.Time c) (w, refused x) refl (untaken now.setup.class (refused x).answer now.assigned)) (left_reported (call.Time c) (time_row w c).effect refl (untaken now.setup.class (time_row w c).effect.1.answer now.assigned))
 
-  pub cyclic_call : (c : Call) → CyclicTold c (called w p (row_of k w p c))
-  cyclic_call (call.Time c) = time_told c
-  cyclic_call c = left_told c (called w p (row_of k w p c)) (ap (λ (x : Clock). x.cyclics) (clock_call k w p c refl)) (untaken now.setup.class (called w p (row_of k w p c)).1.answer now.assigned)
+  pub cyclic_call : (c : Call) → CyclicReported c (called w p (row_of k w p c))
+  cyclic_call (call.Time c) = time_reported c
+  cyclic_call c = left_reported c (called w p (row_of k w p c)) (ap (λ (x : Clock). x.cyclics) (clock_call k w p c refl)) (untaken now.setup.class (called w p (row_of k w p c)).1.answer now.assigned)

@@ -28,7 +28,7 @@ use Rattle.fmp_law_counts.specs.Cyclics.{starts_cyclic, stops_cyclic, cyclic_lef
 use Rattle.fmp_law_counts.proofs.HandlersRuns.{cyclics_timed, clocks_step, clock_started, clock_running}
 use Rattle.fmp_law_counts.proofs.Sparing.{Clock}
 use Rattle.fmp_law_counts.proofs.Ready.{Ready, ready_next, ready_at_boot, prefix_on}
-use Rattle.fmp_law_records.specs.Handlers.{HandlerTold, takes_cyclic, cyclic_after, cyclic_by, cyclic_told_at_boot, IsCyclicTold}
+use Rattle.fmp_law_records.specs.Handlers.{HandlerReported, takes_cyclic, cyclic_after, cyclic_by, cyclic_reported_at_boot, IsCyclicReported}
 use Rattle.fmp_law_records.proofs.Alarms.{at_with, untaken}
 use Rattle.fmp_law_records.proofs.Cyclics.{tick_cyclics, cyclic_call}
 use Rattle.fmp_rules.specs.Tick.{tick}
@@ -57,7 +57,7 @@ left_with t y a r left =
     else if is_tick_for t y.assigned r.answer r.event then without_tick (Some y.setup.period) left
     else left
 
-same_left : (c : Setup) (m : State) (a : Object) (r : Record) (x : HandlerTold) → m.timer ≡ c.timer → cyclic m a ≡ record { setup = setup_cyclic c a; assigned = x.at } → cyclic_left_after m a r x.left ≡ (cyclic_after c a r x).left
+same_left : (c : Setup) (m : State) (a : Object) (r : Record) (x : HandlerReported) → m.timer ≡ c.timer → cyclic m a ≡ record { setup = setup_cyclic c a; assigned = x.at } → cyclic_left_after m a r x.left ≡ (cyclic_after c a r x).left
 same_left c m a r x timer is =
     ap (λ (y : Cyclic). left_with m.timer y a r x.left) is ∙ ap (λ (t : Timer). left_with t (record { setup = setup_cyclic c a; assigned = x.at }) a r x.left) timer
 
@@ -65,13 +65,13 @@ module _ (c : Setup) (valid : IsValid c) (a : Object) where
   abbrev With : Proc → Cyclic
   With q = record { setup = setup_cyclic c a; assigned = q }
 
-  cyclic_run : (pending : OpenWaits) (m : State) (es : List Event) (x : HandlerTold) → Ready c pending m es → length m.cyclics ≤ 32 → cyclic m a ≡ With x.at → cyclic (replay numbered m es) a ≡ With (cyclic_by c a (answers numbered m es) x).at
+  cyclic_run : (pending : OpenWaits) (m : State) (es : List Event) (x : HandlerReported) → Ready c pending m es → length m.cyclics ≤ 32 → cyclic m a ≡ With x.at → cyclic (replay numbered m es) a ≡ With (cyclic_by c a (answers numbered m es) x).at
   cyclic_run pending m [] x ready few old = old
   cyclic_run pending m (e ∷ es) x ready few old =
       cyclic_run (after_record c pending (step numbered m e).1) (step numbered m e).0 es (cyclic_after c a (step numbered m e).1 x) (ready_next c pending m e es ready) (rw (clocks_step numbered m e).cyclics few)
       ((cyclic_step m a few e).here ∙ ap (λ (y : Cyclic). record y { assigned = at_with y.setup.class (step numbered m e).1.answer (takes_cyclic a (step numbered m e).1.event) y.assigned }) old)
 
-  left_run : (pending : OpenWaits) (m : State) (es : List Event) (x : HandlerTold) → Ready c pending m es → length m.cyclics ≤ 32 → cyclic m a ≡ With x.at → cyclic_left_by a m es x.left ≡ (cyclic_by c a (answers numbered m es) x).left
+  left_run : (pending : OpenWaits) (m : State) (es : List Event) (x : HandlerReported) → Ready c pending m es → length m.cyclics ≤ 32 → cyclic m a ≡ With x.at → cyclic_left_by a m es x.left ≡ (cyclic_by c a (answers numbered m es) x).left
   left_run pending m [] x ready few old = refl
   left_run pending m (e ∷ es) x ready few old =
       let r : Record = (step numbered m e).1 in
@@ -89,15 +89,15 @@ booted_cyclics c =
 booted_at : (c : Setup) (a : Object) → cyclic (booted c) a ≡ resting_cyclic (setup_cyclic c a)
 booted_at c a = ap (λ xs. item blank_cyclic xs a.number) (booted_cyclics c) ∙ get_or-map resting_cyclic c.cyclics (a.number - 1) no_cyclic
 
-pub cyclics_told : (c : Setup) (events : List Event) → IsValid c → AreOn c.processors events → (n : ℕ) (a : Object) → a.number ≤ length c.cyclics →
-    IsCyclicTold c (take n (answers numbered (booted c) events)) (replay numbered (booted c) (take n events)) a
-cyclics_told c events valid on n a here =
+pub cyclics_reported : (c : Setup) (events : List Event) → IsValid c → AreOn c.processors events → (n : ℕ) (a : Object) → a.number ≤ length c.cyclics →
+    IsCyclicReported c (take n (answers numbered (booted c) events)) (replay numbered (booted c) (take n events)) a
+cyclics_reported c events valid on n a here =
     let es : List Event = take n events in
     let ready = ready_at_boot c valid es (prefix_on n c.processors events on) in
     let few : length (booted c).cyclics ≤ 32 = rw (ap length (booted_cyclics c) ∙ length-map c.cyclics resting_cyclic) valid.few.cyclics in
-    subst (λ rs. IsCyclicTold c rs (replay numbered (booted c) es) a) (answers_take n (booted c) events)
+    subst (λ rs. IsCyclicReported c rs (replay numbered (booted c) es) a) (answers_take n (booted c) events)
     (record {
       left = cyclics_timed c es valid (prefix_on n c.processors events on) a here ∙ ap (λ (o : Option ℕ). cyclic_left_by a (booted c) es o) (get_or-map phase_left c.cyclics (a.number - 1) no_cyclic)
-          ∙ left_run c valid a nobody_waits (booted c) es (cyclic_told_at_boot c a) ready few (booted_at c a);
-      at = ap (λ (y : Cyclic). y.assigned) (cyclic_run c valid a nobody_waits (booted c) es (cyclic_told_at_boot c a) ready few (booted_at c a));
+          ∙ left_run c valid a nobody_waits (booted c) es (cyclic_reported_at_boot c a) ready few (booted_at c a);
+      at = ap (λ (y : Cyclic). y.assigned) (cyclic_run c valid a nobody_waits (booted c) es (cyclic_reported_at_boot c a) ready few (booted_at c a));
     })

@@ -41,13 +41,13 @@ use Rattle.fmp_law_safety.proofs.Items.{item_same, item_other}
 use Rattle.fmp_law_safety.proofs.KeepsDue.{alarms_keep, cyclics_keep, released_keep}
 use Rattle.fmp_law_balance.specs.Accepted.{is_accepted}
 use Rattle.fmp_law_balance.proofs.Called.{by_called, either_way, not_accepted}
-use Rattle.fmp_law_balance.proofs.Steps.{told}
+use Rattle.fmp_law_balance.proofs.Steps.{report}
 use Rattle.fmp_law_waits.proofs.Events.{by_event}
 use Rattle.fmp_law_counts.specs.Alarms.{is_last}
 use Rattle.fmp_law_counts.specs.Due.{by_number}
 use Rattle.fmp_law_counts.proofs.HandlersRuns.{Clocked}
 use Rattle.fmp_law_counts.proofs.HandlersTick.{same_passed, due_at_tick}
-use Rattle.fmp_law_records.specs.Due.{HandlersTold, is_at_end, made_due, due_after}
+use Rattle.fmp_law_records.specs.Due.{HandlersReported, is_at_end, made_due, due_after}
 use Rattle.fmp_law_records.proofs.Still.{call_still, still_in_rotate}
 
 -- Calls.
@@ -109,7 +109,7 @@ module _ {Q : Type 0} (k : Ordering Q) (w : World Q) (p : Proc) where
       (alarms_keep p S (λ x a h. item_other [] x.due p.number _ q.number q.least p.least d ∙ h) u (expired u.alarms_left u.alarms) (released_keep p S k (λ x t h. h) v ts refl))
 
 -- what is told of the alarms and of the cyclic handlers is so
-pub record AreTimed (c : Setup) (m : State) (x : HandlersTold) : Type 0 where
+pub record AreTimed (c : Setup) (m : State) (x : HandlersReported) : Type 0 where
   pub alarms : (a : Object) → a.number ≤ length c.alarms → (item None m.alarms_left a.number ≡ (x.alarms a).left) × ((alarm m a).assigned ≡ (x.alarms a).at)
   pub cyclics : (o : Object) → o.number ≤ length c.cyclics → (item None m.cyclics_left o.number ≡ (x.cyclics o).left) × ((cyclic m o).assigned ≡ (x.cyclics o).at)
 
@@ -118,13 +118,13 @@ same_numbers : {X Y : Type 0} (xs : List X) (ys : List Y) (test other : Object �
 same_numbers xs ys test other count same =
     ap (λ n. filter test (map as_object (range_with_len 1 n))) count ∙ same_passed test other (length ys) 1 (length ys) (omega arith) (omega arith) same
 
-module _ (c : Setup) (m : State) (x : HandlersTold) (q : Proc) (here : q.number ≤ c.processors) (range : CountsInRange m) (timer : m.timer ≡ c.timer) (count : Clocked c m) (timed : AreTimed c m x) (old : item [] m.due q.number ≡ x.due) where
-  abbrev pub DueTold : State → Record → Type 0
-  DueTold v r = item [] v.due q.number ≡ due_after c q r x
+module _ (c : Setup) (m : State) (x : HandlersReported) (q : Proc) (here : q.number ≤ c.processors) (range : CountsInRange m) (timer : m.timer ≡ c.timer) (count : Clocked c m) (timed : AreTimed c m x) (old : item [] m.due q.number ≡ x.due) where
+  abbrev pub DueReported : State → Record → Type 0
+  DueReported v r = item [] v.due q.number ≡ due_after c q r x
 
   -- those that a tick makes due are told
-  made_told : item [] (tick numbered m q).0.due q.number ≡ x.due ++ made_due c q x
-  made_told =
+  made_reported : item [] (tick numbered m q).0.due q.number ≡ x.due ++ made_due c q x
+  made_reported =
       let alarms : by_number m.alarms (λ a. counts_for m.timer q (alarm m a).assigned && is_last (item None m.alarms_left a.number)) ≡ by_number c.alarms (λ a. is_at_end c.timer q (x.alarms a)) =
       same_numbers m.alarms c.alarms _ _ count.alarms (λ a there. rw (timer, (timed.alarms a there).1, (timed.alarms a there).0) refl) in
       let cyclics : by_number m.cyclics (λ o. counts_for m.timer q (cyclic m o).assigned && is_last (item None m.cyclics_left o.number)) ≡ by_number c.cyclics (λ o. is_at_end c.timer q (x.cyclics o)) =
@@ -132,19 +132,19 @@ module _ (c : Setup) (m : State) (x : HandlersTold) (q : Proc) (here : q.number 
       due_at_tick numbered m q (rw count.due here) (count.alarms_left ∙ sym count.alarms) (count.cyclics_left ∙ sym count.cyclics) range.alarms range.cyclics
       ∙ rw (old, alarms, cyclics) (append_assoc x.due (map runner.Alarm (by_number c.alarms (λ a. is_at_end c.timer q (x.alarms a)))) (map runner.Cyclic (by_number c.cyclics (λ o. is_at_end c.timer q (x.cyclics o)))))
 
-  tick_told : (p : Proc) → DueTold (tick numbered m p).0 (told (event.Tick p) (runner_of m p) (tick numbered m p).1)
+  tick_reported : (p : Proc) → DueReported (tick numbered m p).0 (report (event.Tick p) (runner_of m p) (tick numbered m p).1)
   unfolding ticked
-  tick_told p =
+  tick_reported p =
       ⊎_elim
       (λ (e : p.number ≡ q.number).
       subst (λ (y : Proc). item [] (tick numbered m y).0.due q.number ≡ (if p.number == q.number then x.due ++ made_due c q x else x.due)) (sym (processors_same p q e))
-      (made_told ∙ sym (cond-true (p.number == q.number) _ x.due (eq-eqb p.number q.number e))))
+      (made_reported ∙ sym (cond-true (p.number == q.number) _ x.due (eq-eqb p.number q.number e))))
       (λ (d : p.number ≡ q.number → ⊥). due_elsewhere numbered m p q (λ e. d (sym e)) ∙ old ∙ sym (cond-false (p.number == q.number) (x.due ++ made_due c q x) x.due (ne_eqb p.number q.number d))) (cases_eq p.number q.number)
 
-  return_told : (p : Proc) → DueTold (called m p (ret_hdr m p)).0 (told (event.Call p call.RetHdr) (runner_of m p) (called m p (ret_hdr m p)).1)
+  return_reported : (p : Proc) → DueReported (called m p (ret_hdr m p)).0 (report (event.Call p call.RetHdr) (runner_of m p) (called m p (ret_hdr m p)).1)
   unfolding ret_hdr
-  return_told p =
-      by_called m p (λ did. DueTold did.0 (told (event.Call p call.RetHdr) (runner_of m p) did.1)) (ret_hdr m p) tt
+  return_reported p =
+      by_called m p (λ did. DueReported did.0 (report (event.Call p call.RetHdr) (runner_of m p) did.1)) (ret_hdr m p) tt
       (λ y e. old ∙ sym (cond-false (is_accepted (refused y).answer && (p.number == q.number)) (drop 1 x.due) x.due (ap (λ b. b && (p.number == q.number)) (not_accepted y e))))
       (λ a.
       ⊎_elim
@@ -152,13 +152,13 @@ module _ (c : Setup) (m : State) (x : HandlersTold) (q : Proc) (here : q.number 
       (subst (λ (y : Proc). item [] (with_item m.due y.number (rest (item [] m.due y.number))) q.number ≡ drop 1 x.due) (processors_same q p e) (item_same [] m.due q.number _ q.least (rw count.due here) ∙ ap rest old ∙ rest_is x.due)))
       (λ (d : q.number ≡ p.number → ⊥). rw (ne_eqb p.number q.number (λ e. d (sym e))) (item_other [] m.due p.number _ q.number q.least p.least d ∙ old)) (cases_eq q.number p.number))
 
-  call_told : (p : Proc) (c : Call) → DueTold (called m p (row_of numbered m p c)).0 (told (event.Call p c) (runner_of m p) (called m p (row_of numbered m p c)).1)
-  call_told p call.RetHdr = return_told p
-  call_told p c = ap (λ ds. item [] ds q.number) (due_call numbered m p c refl) ∙ old
+  call_reported : (p : Proc) (c : Call) → DueReported (called m p (row_of numbered m p c)).0 (report (event.Call p c) (runner_of m p) (called m p (row_of numbered m p c)).1)
+  call_reported p call.RetHdr = return_reported p
+  call_reported p c = ap (λ ds. item [] ds q.number) (due_call numbered m p c refl) ∙ old
 
-  idle_told : (p : Proc) (c : Call) → DueTold m (told (event.Call p c) (runner_of m p) (plain answer.Idle))
-  idle_told p call.RetHdr = old
-  idle_told p c = old
+  idle_reported : (p : Proc) (c : Call) → DueReported m (report (event.Call p c) (runner_of m p) (plain answer.Idle))
+  idle_reported p call.RetHdr = old
+  idle_reported p c = old
 
-  pub due_step : (e : Event) → DueTold (step numbered m e).0 (step numbered m e).1
-  due_step e = by_event numbered m DueTold (λ v cs r y ps h. h) call_told idle_told tick_told (λ p. old) (λ p. old) (λ p a none. old) e
+  pub due_step : (e : Event) → DueReported (step numbered m e).0 (step numbered m e).1
+  due_step e = by_event numbered m DueReported (λ v cs r y ps h. h) call_reported idle_reported tick_reported (λ p. old) (λ p. old) (λ p a none. old) e

@@ -66,11 +66,11 @@ no_leave (call.Task c) x = refl
 no_leave c x = refl
 
 module _ {Q : Type 0} (k : Ordering Q) (w : World Q) (p : Proc) (n : p.number ≤ length w.processors) where
-  pub record FlagsTold (c : Call) (did : World Q × Effect) : Type 0 where
+  pub record FlagsReported (c : Call) (did : World Q × Effect) : Type 0 where
     pub here : marks (processor did.0 p) ≡ record { flags = flags_with (Some c) did.1.answer (flags (processor w p)); latch = (processor w p).latch }
 
-  refused_told : (c : Call) (x : Code) → refuses x ≡ true → FlagsTold c (w, refused x)
-  refused_told c x e = record { here = ap (λ (y : Flags). record { flags = y; latch = (processor w p).latch }) (sym (undone (Some c) (refused x).answer (flags (processor w p)) (not_accepted x e) (no_leave c x))) }
+  refused_reported : (c : Call) (x : Code) → refuses x ≡ true → FlagsReported c (w, refused x)
+  refused_reported c x e = record { here = ap (λ (y : Flags). record { flags = y; latch = (processor w p).latch }) (sym (undone (Some c) (refused x).answer (flags (processor w p)) (not_accepted x e) (no_leave c x))) }
 
   put_here : (v : World Q) (x : Processor) → v.processors ≡ with_item w.processors p.number x → processor v p ≡ x
   put_here v x e = ap (λ cs. item no_processor cs p.number) e ∙ item_same no_processor w.processors p.number x p.least n
@@ -78,37 +78,37 @@ module _ {Q : Type 0} (k : Ordering Q) (w : World Q) (p : Proc) (n : p.number �
   still_here : (v : World Q) → Still w v → marks (processor v p) ≡ marks (processor w p)
   still_here v h = ap (λ cs. marks (item no_processor cs p.number)) h.processors
 
-  flags_system : (c : SystemCall) → FlagsTold (call.System c) (called w p (system_row k w p c))
+  flags_system : (c : SystemCall) → FlagsReported (call.System c) (called w p (system_row k w p c))
   unfolding rotation rotation_in_handler
-  flags_system (system.RotRdq x) = by_called w p (FlagsTold (call.System (system.RotRdq x))) (system_row k w p (system.RotRdq x)) tt (refused_told (call.System (system.RotRdq x))) (λ a. record { here = still_here _ (still_in_rotate k w p _) })
-  flags_system (system.IrotRdq x) = by_called w p (FlagsTold (call.System (system.IrotRdq x))) (system_row k w p (system.IrotRdq x)) tt (refused_told (call.System (system.IrotRdq x))) (λ a. record { here = still_here _ (still_in_rotate k w p _) })
-  flags_system (system.MrotRdq x q) = by_called w p (FlagsTold (call.System (system.MrotRdq x q))) (system_row k w p (system.MrotRdq x q)) tt (refused_told (call.System (system.MrotRdq x q))) (λ a. record { here = still_here _ (still_in_rotate k w p _) })
-  flags_system (system.ImrotRdq x q) = by_called w p (FlagsTold (call.System (system.ImrotRdq x q))) (system_row k w p (system.ImrotRdq x q)) tt (refused_told (call.System (system.ImrotRdq x q))) (λ a. record { here = still_here _ (still_in_rotate k w p _) })
-  flags_system system.LocCpu = by_called w p (FlagsTold (call.System system.LocCpu)) (loc_cpu w p) tt (refused_told (call.System system.LocCpu)) (λ a. record { here = ap marks (put_here (with_lock w p true) _ refl) })
-  flags_system system.IlocCpu = by_called w p (FlagsTold (call.System system.IlocCpu)) (in_handler (loc_cpu w p)) tt (refused_told (call.System system.IlocCpu)) (λ a. record { here = ap marks (put_here (with_lock w p true) _ refl) })
-  flags_system system.UnlCpu = by_called w p (FlagsTold (call.System system.UnlCpu)) (unl_cpu w p) (refl, tt) (refused_told (call.System system.UnlCpu)) (λ a. record { here = ap marks (put_here (with_lock w p false) _ refl) })
-  flags_system system.IunlCpu = by_called w p (FlagsTold (call.System system.IunlCpu)) (in_handler (unl_cpu w p)) (refl, tt) (refused_told (call.System system.IunlCpu)) (λ a. record { here = ap marks (put_here (with_lock w p false) _ refl) })
-  flags_system system.DisDsp = by_called w p (FlagsTold (call.System system.DisDsp)) (dis_dsp w p) tt (refused_told (call.System system.DisDsp)) (λ a. record { here = ap marks (put_here (with_dispatching_disabled w p true) _ refl) })
-  flags_system system.EnaDsp = by_called w p (FlagsTold (call.System system.EnaDsp)) (ena_dsp w p) tt (refused_told (call.System system.EnaDsp)) (λ a. record { here = ap marks (put_here (with_dispatching_disabled w p false) _ refl) })
-  flags_system c = by_called w p (FlagsTold (call.System c)) (system_row k w p c) tt (refused_told (call.System c)) (λ a. record { here = refl })
+  flags_system (system.RotRdq x) = by_called w p (FlagsReported (call.System (system.RotRdq x))) (system_row k w p (system.RotRdq x)) tt (refused_reported (call.System (system.RotRdq x))) (λ a. record { here = still_here _ (still_in_rotate k w p _) })
+  flags_system (system.IrotRdq x) = by_called w p (FlagsReported (call.System (system.IrotRdq x))) (system_row k w p (system.IrotRdq x)) tt (refused_reported (call.System (system.IrotRdq x))) (λ a. record { here = still_here _ (still_in_rotate k w p _) })
+  flags_system (system.MrotRdq x q) = by_called w p (FlagsReported (call.System (system.MrotRdq x q))) (system_row k w p (system.MrotRdq x q)) tt (refused_reported (call.System (system.MrotRdq x q))) (λ a. record { here = still_here _ (still_in_rotate k w p _) })
+  flags_system (system.ImrotRdq x q) = by_called w p (FlagsReported (call.System (system.ImrotRdq x q))) (system_row k w p (system.ImrotRdq x q)) tt (refused_reported (call.System (system.ImrotRdq x q))) (λ a. record { here = still_here _ (still_in_rotate k w p _) })
+  flags_system system.LocCpu = by_called w p (FlagsReported (call.System system.LocCpu)) (loc_cpu w p) tt (refused_reported (call.System system.LocCpu)) (λ a. record { here = ap marks (put_here (with_lock w p true) _ refl) })
+  flags_system system.IlocCpu = by_called w p (FlagsReported (call.System system.IlocCpu)) (in_handler (loc_cpu w p)) tt (refused_reported (call.System system.IlocCpu)) (λ a. record { here = ap marks (put_here (with_lock w p true) _ refl) })
+  flags_system system.UnlCpu = by_called w p (FlagsReported (call.System system.UnlCpu)) (unl_cpu w p) (refl, tt) (refused_reported (call.System system.UnlCpu)) (λ a. record { here = ap marks (put_here (with_lock w p false) _ refl) })
+  flags_system system.IunlCpu = by_called w p (FlagsReported (call.System system.IunlCpu)) (in_handler (unl_cpu w p)) (refl, tt) (refused_reported (call.System system.IunlCpu)) (λ a. record { here = ap marks (put_here (with_lock w p false) _ refl) })
+  flags_system system.DisDsp = by_called w p (FlagsReported (call.System system.DisDsp)) (dis_dsp w p) tt (refused_reported (call.System system.DisDsp)) (λ a. record { here = ap marks (put_here (with_dispatching_disabled w p true) _ refl) })
+  flags_system system.EnaDsp = by_called w p (FlagsReported (call.System system.EnaDsp)) (ena_dsp w p) tt (refused_reported (call.System system.EnaDsp)) (λ a. record { here = ap marks (put_here (with_dispatching_disabled w p false) _ refl) })
+  flags_system c = by_called w p (FlagsReported (call.System c)) (system_row k w p c) tt (refused_reported (call.System c)) (λ a. record { here = refl })
 
-  flags_spin : (c : SpinCall) → FlagsTold (call.Spin c) (called w p (spin_row w p c))
+  flags_spin : (c : SpinCall) → FlagsReported (call.Spin c) (called w p (spin_row w p c))
   unfolding loc_spn try_spn unl_spn
-  flags_spin (spin.LocSpn id) = by_called w p (FlagsTold (call.Spin (spin.LocSpn id))) (loc_spn w p id) tt (refused_told (call.Spin (spin.LocSpn id))) (λ a. cond_both (is_some (holder w (unwrap_or (object_named w.holders id) (as_object 1)))) _ _ (FlagsTold (call.Spin (spin.LocSpn id))) (λ _. record { here = refl }) (λ _. record { here = ap marks (put_here (taken w p (unwrap_or (object_named w.holders id) (as_object 1))) (record (processor w p) { locked = true }) refl) }))
-  flags_spin (spin.IlocSpn id) = by_called w p (FlagsTold (call.Spin (spin.IlocSpn id))) (in_handler (loc_spn w p id)) tt (refused_told (call.Spin (spin.IlocSpn id))) (λ a. cond_both (is_some (holder w (unwrap_or (object_named w.holders id) (as_object 1)))) _ _ (FlagsTold (call.Spin (spin.IlocSpn id))) (λ _. record { here = refl }) (λ _. record { here = ap marks (put_here (taken w p (unwrap_or (object_named w.holders id) (as_object 1))) (record (processor w p) { locked = true }) refl) }))
-  flags_spin (spin.TrySpn id) = by_called w p (FlagsTold (call.Spin (spin.TrySpn id))) (try_spn w p id) (refl, tt) (refused_told (call.Spin (spin.TrySpn id))) (λ a. record { here = ap marks (put_here (taken w p (unwrap_or (object_named w.holders id) (as_object 1))) (record (processor w p) { locked = true }) refl) })
-  flags_spin (spin.ItrySpn id) = by_called w p (FlagsTold (call.Spin (spin.ItrySpn id))) (in_handler (try_spn w p id)) (refl, tt) (refused_told (call.Spin (spin.ItrySpn id))) (λ a. record { here = ap marks (put_here (taken w p (unwrap_or (object_named w.holders id) (as_object 1))) (record (processor w p) { locked = true }) refl) })
-  flags_spin (spin.UnlSpn id) = by_called w p (FlagsTold (call.Spin (spin.UnlSpn id))) (unl_spn w p id) (refl, tt) (refused_told (call.Spin (spin.UnlSpn id))) (λ a. record { here = ap marks (put_here (unlocked w p) (record (processor w p) { locked = false }) refl) })
-  flags_spin (spin.IunlSpn id) = by_called w p (FlagsTold (call.Spin (spin.IunlSpn id))) (in_handler (unl_spn w p id)) (refl, tt) (refused_told (call.Spin (spin.IunlSpn id))) (λ a. record { here = ap marks (put_here (unlocked w p) (record (processor w p) { locked = false }) refl) })
+  flags_spin (spin.LocSpn id) = by_called w p (FlagsReported (call.Spin (spin.LocSpn id))) (loc_spn w p id) tt (refused_reported (call.Spin (spin.LocSpn id))) (λ a. cond_both (is_some (holder w (unwrap_or (object_named w.holders id) (as_object 1)))) _ _ (FlagsReported (call.Spin (spin.LocSpn id))) (λ _. record { here = refl }) (λ _. record { here = ap marks (put_here (taken w p (unwrap_or (object_named w.holders id) (as_object 1))) (record (processor w p) { locked = true }) refl) }))
+  flags_spin (spin.IlocSpn id) = by_called w p (FlagsReported (call.Spin (spin.IlocSpn id))) (in_handler (loc_spn w p id)) tt (refused_reported (call.Spin (spin.IlocSpn id))) (λ a. cond_both (is_some (holder w (unwrap_or (object_named w.holders id) (as_object 1)))) _ _ (FlagsReported (call.Spin (spin.IlocSpn id))) (λ _. record { here = refl }) (λ _. record { here = ap marks (put_here (taken w p (unwrap_or (object_named w.holders id) (as_object 1))) (record (processor w p) { locked = true }) refl) }))
+  flags_spin (spin.TrySpn id) = by_called w p (FlagsReported (call.Spin (spin.TrySpn id))) (try_spn w p id) (refl, tt) (refused_reported (call.Spin (spin.TrySpn id))) (λ a. record { here = ap marks (put_here (taken w p (unwrap_or (object_named w.holders id) (as_object 1))) (record (processor w p) { locked = true }) refl) })
+  flags_spin (spin.ItrySpn id) = by_called w p (FlagsReported (call.Spin (spin.ItrySpn id))) (in_handler (try_spn w p id)) (refl, tt) (refused_reported (call.Spin (spin.ItrySpn id))) (λ a. record { here = ap marks (put_here (taken w p (unwrap_or (object_named w.holders id) (as_object 1))) (record (processor w p) { locked = true }) refl) })
+  flags_spin (spin.UnlSpn id) = by_called w p (FlagsReported (call.Spin (spin.UnlSpn id))) (unl_spn w p id) (refl, tt) (refused_reported (call.Spin (spin.UnlSpn id))) (λ a. record { here = ap marks (put_here (unlocked w p) (record (processor w p) { locked = false }) refl) })
+  flags_spin (spin.IunlSpn id) = by_called w p (FlagsReported (call.Spin (spin.IunlSpn id))) (in_handler (unl_spn w p id)) (refl, tt) (refused_reported (call.Spin (spin.IunlSpn id))) (λ a. record { here = ap marks (put_here (unlocked w p) (record (processor w p) { locked = false }) refl) })
 
   -- a call on p
-  pub flags_call : (c : Call) → FlagsTold c (called w p (row_of k w p c))
+  pub flags_call : (c : Call) → FlagsReported c (called w p (row_of k w p c))
   unfolding ext_tsk ret_hdr finish
-  flags_call (call.Task tasks.ExtTsk) = by_called w p (FlagsTold (call.Task tasks.ExtTsk)) (ext_tsk k w p) tt (refused_told (call.Task tasks.ExtTsk)) (λ a. record { here = ap marks (opened_here w p (p.least, n)) })
+  flags_call (call.Task tasks.ExtTsk) = by_called w p (FlagsReported (call.Task tasks.ExtTsk)) (ext_tsk k w p) tt (refused_reported (call.Task tasks.ExtTsk)) (λ a. record { here = ap marks (opened_here w p (p.least, n)) })
   flags_call (call.Task c) = record { here = still_here _ (call_still k w p (call.Task c) refl) }
   flags_call (call.Sync c) = record { here = still_here _ (call_still k w p (call.Sync c) refl) }
   flags_call (call.Buffer c) = record { here = still_here _ (call_still k w p (call.Buffer c) refl) }
   flags_call (call.Time c) = record { here = still_here _ (call_still k w p (call.Time c) refl) }
   flags_call (call.System c) = flags_system c
   flags_call (call.Spin c) = flags_spin c
-  flags_call call.RetHdr = by_called w p (FlagsTold call.RetHdr) (ret_hdr w p) tt (refused_told call.RetHdr) (λ a. record { here = ap marks (put_here (unlocked w p) (record (processor w p) { locked = false }) refl) })
+  flags_call call.RetHdr = by_called w p (FlagsReported call.RetHdr) (ret_hdr w p) tt (refused_reported call.RetHdr) (λ a. record { here = ap marks (put_here (unlocked w p) (record (processor w p) { locked = false }) refl) })

@@ -36,7 +36,7 @@ use Rattle.fmp_law_safety.proofs.Settling.{with_latches, settle_is}
 use Rattle.fmp_law_safety.proofs.Stepping.{keeps_call}
 use Rattle.fmp_law_waits.specs.Waits.{OpenWaits, nobody_waits, after_record}
 use Rattle.fmp_law_counts.proofs.Ready.{Ready, ready_next, ready_at_boot, prefix_on}
-use Rattle.fmp_law_records.specs.Flags.{call_on, leaves, locked_after, disabled_after, locked_by, disabled_by, asked_of, number_if, AreFlagsTold, TellsFlags}
+use Rattle.fmp_law_records.specs.Flags.{call_on, leaves, locked_after, disabled_after, locked_by, disabled_by, asked_of, number_if, AreFlagsReported, TellsFlags}
 use Rattle.fmp_codes.specs.declared.calls.SystemCall.{SystemCall}
 use Rattle.fmp_codes.specs.declared.calls.SystemCall.TheVariants as system
 use Rattle.fmp_rules.specs.SystemCalls.{truth, sense}
@@ -71,29 +71,29 @@ abbrev pub flags_after : Proc → Record → Flags → Flags
 flags_after q r x = record { locked = locked_after q r x.locked; disabled = disabled_after q r x.disabled }
 
 module _ (m : State) (s : Safe numbered m) (q : Proc) where
-  abbrev Told : (State × Record) → Type 0
-  Told x = flags (processor x.0 q) ≡ flags_after q x.1 (flags (processor m q))
+  abbrev Report : (State × Record) → Type 0
+  Report x = flags (processor x.0 q) ≡ flags_after q x.1 (flags (processor m q))
 
   -- of an event on another processor nothing is told of q, and it leaves q
-  there_told : (p : Proc) (c : Call) (did : State × Effect) → (p.number ≡ q.number → ⊥) → KeepsOthers m did.0 p → Told (settled numbered (before_event numbered m (event.Call p c) p) did)
+  there_reported : (p : Proc) (c : Call) (did : State × Effect) → (p.number ≡ q.number → ⊥) → KeepsOthers m did.0 p → Report (settled numbered (before_event numbered m (event.Call p c) p) did)
   unfolding settled before_event
-  there_told p c did d keeps =
+  there_reported p c did d keeps =
       let none : call_on q (event.Call p c) ≡ None = cond-false (p.number == q.number) (Some c) None (ne_eqb p.number q.number d) in
       settled_flags numbered (tops numbered m) did.0 p q ∙ ap flags (keeps.processors q (λ e. d (sym e))) ∙ sym (ap (λ o. flags_with o did.1.answer (flags (processor m q))) none)
 
-  here_told : (c : Call) (did : State × Effect) → flags (processor did.0 q) ≡ flags_with (Some c) did.1.answer (flags (processor m q)) → Told (settled numbered (before_event numbered m (event.Call q c) q) did)
+  here_reported : (c : Call) (did : State × Effect) → flags (processor did.0 q) ≡ flags_with (Some c) did.1.answer (flags (processor m q)) → Report (settled numbered (before_event numbered m (event.Call q c) q) did)
   unfolding settled before_event
-  here_told c did h =
+  here_reported c did h =
       let some : call_on q (event.Call q c) ≡ Some c = cond-true (q.number == q.number) (Some c) None (eq-eqb q.number q.number refl) in
       settled_flags numbered (tops numbered m) did.0 q q ∙ h ∙ sym (ap (λ o. flags_with o did.1.answer (flags (processor m q))) some)
 
-  tick_told : (p : Proc) → Told (settled numbered (before_event numbered m (event.Tick p) p) (tick numbered m p))
+  tick_reported : (p : Proc) → Report (settled numbered (before_event numbered m (event.Tick p) p) (tick numbered m p))
   unfolding settled before_event
-  tick_told p = settled_flags numbered (tops numbered m) (tick numbered m p).0 p q ∙ ap (λ cs. flags (item no_processor cs q.number)) (tick_still numbered p m).0
+  tick_reported p = settled_flags numbered (tops numbered m) (tick numbered m p).0 p q ∙ ap (λ cs. flags (item no_processor cs q.number)) (tick_still numbered p m).0
 
-  ipi_told : (p : Proc) (a : Answer) → Told (settled numbered (before_event numbered m (event.Ipi p) p) (m, plain a))
+  ipi_reported : (p : Proc) (a : Answer) → Report (settled numbered (before_event numbered m (event.Ipi p) p) (m, plain a))
   unfolding settled before_event
-  ipi_told p a = settled_flags numbered (tops numbered m) m p q
+  ipi_reported p a = settled_flags numbered (tops numbered m) m p q
 
   idle_leaves : (p : Proc) (c : Call) → leaves (call_on q (event.Call p c)) answer.Idle ≡ false
   idle_leaves p c = cond_both (p.number == q.number) (Some c) None (λ o. leaves o answer.Idle ≡ false) (λ _. of_call c) (λ _. refl)
@@ -103,18 +103,18 @@ module _ (m : State) (s : Safe numbered m) (q : Proc) where
       of_call (call.Task c) = refl
       of_call c = refl
 
-  pub flags_step : (e : Event) → (processor_of e).number ≤ length m.processors → Told (step numbered m e)
+  pub flags_step : (e : Event) → (processor_of e).number ≤ length m.processors → Report (step numbered m e)
   unfolding unchanged
   flags_step (event.Call p c) n =
-      cond_both (is_some (runner_of m p)) _ _ Told
+      cond_both (is_some (runner_of m p)) _ _ Report
       (λ there.
       ⊎_elim
-      (λ (e : p.number ≡ q.number). subst (λ (x : Proc). x.number ≤ length m.processors → Told (settled numbered (before_event numbered m (event.Call x c) x) (called m x (row_of numbered m x c)))) (sym (processors_same p q e)) (λ here. here_told c (called m q (row_of numbered m q c)) (ap (λ (x : Marks). x.flags) (flags_call numbered m q here c).here)) n)
-      (λ (d : p.number ≡ q.number → ⊥). there_told p c (called m p (row_of numbered m p c)) d (keeps_call numbered m numbered_lists s p (p.least, n) there c)) (cases_eq p.number q.number))
+      (λ (e : p.number ≡ q.number). subst (λ (x : Proc). x.number ≤ length m.processors → Report (settled numbered (before_event numbered m (event.Call x c) x) (called m x (row_of numbered m x c)))) (sym (processors_same p q e)) (λ here. here_reported c (called m q (row_of numbered m q c)) (ap (λ (x : Marks). x.flags) (flags_call numbered m q here c).here)) n)
+      (λ (d : p.number ≡ q.number → ⊥). there_reported p c (called m p (row_of numbered m p c)) d (keeps_call numbered m numbered_lists s p (p.least, n) there c)) (cases_eq p.number q.number))
       (λ _. sym (undone (call_on q (event.Call p c)) answer.Idle (flags (processor m q)) refl (idle_leaves p c)))
   flags_step (event.Tick p) n =
-      cond_both (has_time m.timer p) _ _ Told (λ _. cond_both ((processor m p).locked || is_some (handler m p)) _ _ Told (λ _. refl) (λ _. tick_told p)) (λ _. refl)
-  flags_step (event.Ipi p) n = cond_both (is_held m p) _ _ Told (λ _. refl) (λ _. ipi_told p _)
+      cond_both (has_time m.timer p) _ _ Report (λ _. cond_both ((processor m p).locked || is_some (handler m p)) _ _ Report (λ _. refl) (λ _. tick_reported p)) (λ _. refl)
+  flags_step (event.Ipi p) n = cond_both (is_held m p) _ _ Report (λ _. refl) (λ _. ipi_reported p _)
 
 -- At boot no processor is locked, dispatching is disabled on none, and no request is pending.
 
@@ -147,14 +147,14 @@ module _ (c : Setup) (q : Proc) where
       (flags_step m h.safe q e (h.on 0 e (omega arith)) ∙ ap (flags_after q (step numbered m e).1) old)
 
   -- after all of these events
-  pub flags_after_all : (es : List Event) → IsValid c → AreOn c.processors es → AreFlagsTold (answers numbered (booted c) es) (replay numbered (booted c) es) q
+  pub flags_after_all : (es : List Event) → IsValid c → AreOn c.processors es → AreFlagsReported (answers numbered (booted c) es) (replay numbered (booted c) es) q
   flags_after_all es valid on =
       let all = flags_run nobody_waits (booted c) es none_set (ready_at_boot c valid es on) (booted_flags c q) in
       record { locked = ap (λ (x : Flags). x.locked) all; disabled = ap (λ (x : Flags). x.disabled) all }
 
-  pub flags_told : (events : List Event) → IsValid c → AreOn c.processors events → (n : ℕ) → AreFlagsTold (take n (answers numbered (booted c) events)) (replay numbered (booted c) (take n events)) q
-  flags_told events valid on n =
-      subst (λ rs. AreFlagsTold rs (replay numbered (booted c) (take n events)) q) (answers_take n (booted c) events) (flags_after_all (take n events) valid (prefix_on n c.processors events on))
+  pub flags_reported : (events : List Event) → IsValid c → AreOn c.processors events → (n : ℕ) → AreFlagsReported (take n (answers numbered (booted c) events)) (replay numbered (booted c) (take n events)) q
+  flags_reported events valid on n =
+      subst (λ rs. AreFlagsReported rs (replay numbered (booted c) (take n events)) q) (answers_take n (booted c) events) (flags_after_all (take n events) valid (prefix_on n c.processors events on))
 
 -- Who asks is told.
 

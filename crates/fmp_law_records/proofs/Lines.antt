@@ -8,7 +8,7 @@ use Rattle.fmp_codes.proofs.Same.{tasks_same}
 use Rattle.fmp_rules.specs.declared.machine.TaskRecord.{TaskRecord}
 use Rattle.fmp_rules.specs.declared.machine.Wait.{Wait}
 use Rattle.fmp_rules.specs.World.{no_task, item, with_item, task}
-use Rattle.fmp_rules.specs.Ordering.{is_runnable, arrive, place, begin_wait, end_wait, with_task, rejoin, behind, order_of}
+use Rattle.fmp_rules.specs.Ordering.{is_runnable, arrive, place, begin_wait, end_wait, with_task, rejoin, put_last as order_last, order_of}
 use Rattle.fmp_rules.specs.Arrivals.{Arrivals, State, numbered}
 use Rattle.fmp_rules.specs.Tasks.{make_ready, change_priority}
 use Rattle.fmp_codes.specs.declared.numbers.Pri.{Pri}
@@ -64,7 +64,7 @@ ordered_one l j ts us ns ms n m u h counts nexts lengths others this = record {
       (λ (i : t.number ≡ u.number). ⊎_elim
       (λ (k : v.number ≡ u.number). subst (λ (x : Task). nat_lt (j.since t) (j.since x) ≡ nat_lt (number_of ms t) (number_of ms x)) (tasks_same t v (i ∙ sym k))
       (le-ltb (j.since t) (j.since t) (omega arith) ∙ sym (le-ltb (number_of ms t) (number_of ms t) (omega arith))))
-      (λ d. subst (λ (x : Task). nat_lt (j.since x) (j.since v) ≡ nat_lt (number_of ms x) (number_of ms v)) (sym (tasks_same t u i)) (behind v d f (mine t i e))) (cases_eq v.number u.number))
+      (λ d. subst (λ (x : Task). nat_lt (j.since x) (j.since v) ≡ nat_lt (number_of ms x) (number_of ms v)) (sym (tasks_same t u i)) (last_after v d f (mine t i e))) (cases_eq v.number u.number))
       (λ d. ⊎_elim
       (λ (k : v.number ≡ u.number). subst (λ (x : Task). nat_lt (j.since t) (j.since x) ≡ nat_lt (number_of ms t) (number_of ms x)) (sym (tasks_same v u k)) (ahead t d e (mine v k f)))
       (λ g. let o = others t d e in let w = others v g f in
@@ -75,8 +75,8 @@ ordered_one l j ts us ns ms n m u h counts nexts lengths others this = record {
     mine : (t : Task) → t.number ≡ u.number → can_run us t ≡ true → (number_of ms u ≡ n) × (n < m) × (l.count < j.since u) × (j.since u ≤ j.count)
     mine t i e = this (subst (λ (x : Task). can_run us x ≡ true) (tasks_same t u i) e)
 
-    behind : (v : Task) → (v.number ≡ u.number → ⊥) → can_run us v ≡ true → (number_of ms u ≡ n) × (n < m) × (l.count < j.since u) × (j.since u ≤ j.count) → nat_lt (j.since u) (j.since v) ≡ nat_lt (number_of ms u) (number_of ms v)
-    behind v d f at =
+    last_after : (v : Task) → (v.number ≡ u.number → ⊥) → can_run us v ≡ true → (number_of ms u ≡ n) × (n < m) × (l.count < j.since u) × (j.since u ≤ j.count) → nat_lt (j.since u) (j.since v) ≡ nat_lt (number_of ms u) (number_of ms v)
+    last_after v d f at =
         let o = others v d f in
         let a = at.0 in let c = at.2 in let s = h.since v o.0 in let b = h.before v o.0 in let x = o.1 in let y = o.2 in
         le-ltb (j.since u) (j.since v) (omega (arith, c, s, y)) ∙ sym (le-ltb (number_of ms u) (number_of ms v) (omega (arith, a, b, x)))
@@ -157,7 +157,7 @@ module _ (m : State) where
       anew order.First y e left = ordered_apart l j u after m.order.next h counts others (omega arith) (stops y e)
       anew order.Priority y e left = ordered_apart l j u after (m.order.next + 1) h counts others (omega arith) (stops y e)
 
-      go : (o : Option Wait) → (task m u).wait ≡ o → Ordered j (with_item m.tasks u.number after) (behind numbered m u after o).ready (behind numbered m u after o).next
+      go : (o : Option Wait) → (task m u).wait ≡ o → Ordered j (with_item m.tasks u.number after) (order_last numbered m u after o).ready (order_last numbered m u after o).next
       go None e = ordered_place l j u after h counts others (λ within runs. this within)
       go (Some y) e = anew (order_of m y) y e (item None m.waits_left u.number)
 

@@ -25,28 +25,28 @@ use Rattle.fmp_rules.specs.TaskCalls.{is_sleep}
 use Rattle.fmp_rules.specs.Step.{step}
 use Rattle.fmp_law_balance.specs.Accepted.{is_accepted}
 use Rattle.fmp_law_balance.specs.Queues.{is_task}
-use Rattle.fmp_law_balance.proofs.Steps.{told}
+use Rattle.fmp_law_balance.proofs.Steps.{report}
 use Rattle.fmp_law_waits.specs.Waits.{is_number_of}
 use Rattle.fmp_law_counts.specs.Naming.{names_task}
 use Rattle.fmp_law_records.specs.Handlers.{taken_to}
-use Rattle.fmp_law_records.specs.Lives.{LifeTold, life_activated, life_ended, life_after, queued_count, queued_for}
+use Rattle.fmp_law_records.specs.Lives.{LifeReported, life_activated, life_ended, life_after, queued_count, queued_for}
 use Rattle.fmp_law_records.proofs.Alarms.{taken_is}
 use Rattle.fmp_law_records.proofs.Beside.{besides}
 use Rattle.fmp_law_records.specs.Accepting.{is_about}
 use Rattle.fmp_law_records.specs.Line.{is_done}
 use Rattle.fmp_law_records.proofs.Edits.{activated_as, edited}
 use Rattle.fmp_law_records.proofs.Allows.{allows}
-use Rattle.fmp_law_records.proofs.Told.{is_of_tasks, either, told_step}
+use Rattle.fmp_law_records.proofs.Report.{is_of_tasks, either, report_step}
 
 -- this life is told of a task of this class
-pub record HasLife (class : Class) (x : LifeTold) (r : TaskRecord) : Type 0 where
+pub record HasLife (class : Class) (x : LifeReported) (r : TaskRecord) : Type 0 where
   pub active : r.active ≡ x.active
   pub at : r.assigned ≡ x.at
   pub activations : r.activations ≡ queued_count x.queued
   pub kept : r.kept ≡ queued_for x.queued
   pub setup : r.setup.class ≡ class
 
-others_leave : (class : Class) (t : Task) (r : Record) → is_of_tasks r.event ≡ false → (x : LifeTold) → x ≡ life_after class t r x
+others_leave : (class : Class) (t : Task) (r : Record) → is_of_tasks r.event ≡ false → (x : LifeReported) → x ≡ life_after class t r x
 others_leave class t r no_call x = go r.event no_call
   where
     same : (a : Answer) → x ≡ (if is_accepted a then x else x)
@@ -57,7 +57,7 @@ others_leave class t r no_call x = go r.event no_call
     go (event.Call p c) h = same r.answer
     go e h = same r.answer
 
-besides_have : (class : Class) (x : LifeTold) (r s : TaskRecord) → besides r ≡ besides s → HasLife class x s → HasLife class x r
+besides_have : (class : Class) (x : LifeReported) (r s : TaskRecord) → besides r ≡ besides s → HasLife class x s → HasLife class x r
 besides_have class x r s same h =
     record {
       active = ap (λ (z : TaskRecord). z.active) same ∙ h.active;
@@ -86,7 +86,7 @@ module _ (class : Class) where
       (λ _. record { active = refl; at = ap (λ o. unwrap_or o r.assigned) kept ∙ ap (unwrap_or to) there; activations = ap (λ n. n - 1) count; kept = refl; setup = setup })
       (λ none. absurd (both_ways _ none (ap (nat_lt 0) count)))
 
-module _ {Q : Type 0} (w : World Q) (t : Task) (class : Class) (x : LifeTold) (old : HasLife class x (task w t)) where
+module _ {Q : Type 0} (w : World Q) (t : Task) (class : Class) (x : LifeReported) (old : HasLife class x (task w t)) where
   abbrev o : TaskRecord
   o = task w t
 
@@ -104,7 +104,7 @@ module _ {Q : Type 0} (w : World Q) (t : Task) (class : Class) (x : LifeTold) (o
   kept a b r h = unchanged a _ (cond_both b r o Has (λ _. h) (λ _. old))
 
   -- an accepted call that names it changes it
-  changed : (a b : Bool) (y : LifeTold) (r : TaskRecord) → ((a && b) ≡ true → HasLife class y r) → HasLife class (if a then (if b then y else x) else x) (if a && b then r else o)
+  changed : (a b : Bool) (y : LifeReported) (r : TaskRecord) → ((a && b) ≡ true → HasLife class y r) → HasLife class (if a then (if b then y else x) else x) (if a && b then r else o)
   changed true true y r h = h refl
   changed true false y r h = old
   changed false b y r h = old
@@ -128,7 +128,7 @@ module _ {Q : Type 0} (w : World Q) (t : Task) (class : Class) (x : LifeTold) (o
   ended_now = ended_has class x.queued x.at o old.at old.activations old.kept old.setup
 
   life_edits : (p : Proc) (c : TaskCall) (did : Effect) → ((is_done c did.answer && is_about t (runner_of w p) c) ≡ true → allows w p c o ≡ true) →
-      HasLife class (life_after class t (told (event.Call p (call.Task c)) (runner_of w p) did) x) (if is_done c did.answer && is_about t (runner_of w p) c then edited w c o else o)
+      HasLife class (life_after class t (report (event.Call p (call.Task c)) (runner_of w p) did) x) (if is_done c did.answer && is_about t (runner_of w p) c then edited w c o else o)
   life_edits p (tasks.ActTsk id) did may = changed _ _ _ _ (λ _. activated None o.assigned None old.at refl)
   life_edits p (tasks.IactTsk id) did may = changed _ _ _ _ (λ _. activated None o.assigned None old.at refl)
   life_edits p (tasks.MactTsk id to) did may = changed _ _ _ _ (λ e. activated_for to (and_parts _ _ (may e)).1)
@@ -157,8 +157,8 @@ module _ {Q : Type 0} (w : World Q) (t : Task) (class : Class) (x : LifeTold) (o
   life_edits p (tasks.IwupTsk id) did may = kept _ _ (edited w (tasks.IwupTsk id) o) (cond_both (is_sleep o.wait) o _ Has (λ _. old) (λ _. record { active = old.active; at = old.at; activations = old.activations; kept = old.kept; setup = old.setup }))
   life_edits p c did may = kept _ _ (edited w c o) (record { active = old.active; at = old.at; activations = old.activations; kept = old.kept; setup = old.setup })
 
-pub life_step : {Q : Type 0} (k : Ordering Q) (w : World Q) (t : Task) (class : Class) (x : LifeTold) → HasLife class x (task w t) → length w.tasks ≤ 64 → t.number ≤ length w.tasks → (e : Event) →
+pub life_step : {Q : Type 0} (k : Ordering Q) (w : World Q) (t : Task) (class : Class) (x : LifeReported) → HasLife class x (task w t) → length w.tasks ≤ 64 → t.number ≤ length w.tasks → (e : Event) →
     HasLife class (life_after class t (step k w e).1 x) (task (step k w e).0 t)
 life_step k w t class x old few here e =
-    told_step (HasLife class) (life_after class t) (λ y r q same h. besides_have class y r q same h) (λ r y ps z. refl) (others_leave class t) k w t few here x old
+    report_step (HasLife class) (life_after class t) (λ y r q same h. besides_have class y r q same h) (λ r y ps z. refl) (others_leave class t) k w t few here x old
     (life_edits w t class x old) e

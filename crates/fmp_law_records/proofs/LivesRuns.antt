@@ -16,7 +16,7 @@ use Rattle.fmp_rules.proofs.Replays.{answers_take}
 use Rattle.fmp_law_safety.specs.Runs.{AreOn}
 use Rattle.fmp_law_waits.specs.Waits.{OpenWaits, nobody_waits, after_record, setup_of}
 use Rattle.fmp_law_counts.proofs.Ready.{Ready, ready_next, ready_at_boot, prefix_on}
-use Rattle.fmp_law_records.specs.Lives.{LifeTold, life_after, life_by, life_at_boot, told_life, IsLifeTold}
+use Rattle.fmp_law_records.specs.Lives.{LifeReported, life_after, life_by, life_at_boot, report_life, IsLifeReported}
 use Rattle.fmp_law_records.proofs.Lives.{HasLife, life_step}
 use Rattle.fmp_law_records.proofs.Started.{booted_task}
 
@@ -24,7 +24,7 @@ module _ (c : Setup) (t : Task) (here : t.number ≤ length c.tasks) where
   abbrev class : Class
   class = (setup_of c t).class
 
-  life_run : (pending : OpenWaits) (m : State) (es : List Event) (x : LifeTold) → Ready c pending m es → HasLife class x (task m t) →
+  life_run : (pending : OpenWaits) (m : State) (es : List Event) (x : LifeReported) → Ready c pending m es → HasLife class x (task m t) →
       HasLife class (life_by class t (answers numbered m es) x) (task (replay numbered m es) t)
   life_run pending m [] x h old = old
   life_run pending m (e ∷ es) x h old =
@@ -39,12 +39,12 @@ module _ (c : Setup) (t : Task) (here : t.number ≤ length c.tasks) where
       (λ yes_. record { active = sym yes_; at = refl; activations = refl; kept = refl; setup = refl })
       (λ no_. record { active = sym no_; at = refl; activations = refl; kept = refl; setup = refl }))
 
-  pub life_from_boot : (es : List Event) → IsValid c → AreOn c.processors es → HasLife class (told_life c t (answers numbered (booted c) es)) (task (replay numbered (booted c) es) t)
+  pub life_from_boot : (es : List Event) → IsValid c → AreOn c.processors es → HasLife class (report_life c t (answers numbered (booted c) es)) (task (replay numbered (booted c) es) t)
   life_from_boot es valid on = life_run nobody_waits (booted c) es (life_at_boot c t) (ready_at_boot c valid es on) (booted_life valid)
 
-pub lives_told : (c : Setup) (events : List Event) → IsValid c → AreOn c.processors events → (n : ℕ) (t : Task) → t.number ≤ length c.tasks →
-    IsLifeTold c (take n (answers numbered (booted c) events)) (replay numbered (booted c) (take n events)) t
-lives_told c events valid on n t here =
+pub lives_reported : (c : Setup) (events : List Event) → IsValid c → AreOn c.processors events → (n : ℕ) (t : Task) → t.number ≤ length c.tasks →
+    IsLifeReported c (take n (answers numbered (booted c) events)) (replay numbered (booted c) (take n events)) t
+lives_reported c events valid on n t here =
     let es : List Event = take n events in
     let h = life_from_boot c t here es valid (prefix_on n c.processors events on) in
-    subst (λ rs. IsLifeTold c rs (replay numbered (booted c) es) t) (answers_take n (booted c) events) (record { active = h.active; at = h.at; activations = h.activations; kept = h.kept })
+    subst (λ rs. IsLifeReported c rs (replay numbered (booted c) es) t) (answers_take n (booted c) events) (record { active = h.active; at = h.at; activations = h.activations; kept = h.kept })

@@ -39,7 +39,7 @@ use Rattle.fmp_law_safety.proofs.KeepsProcessors.{freed}
 use Rattle.fmp_law_balance.specs.Accepted.{is_accepted, names}
 use Rattle.fmp_law_balance.proofs.Called.{refuses, by_called, either_way, not_accepted}
 use Rattle.fmp_law_balance.proofs.Objects.{IsNamed, object_known, by_object}
-use Rattle.fmp_law_balance.proofs.Steps.{told}
+use Rattle.fmp_law_balance.proofs.Steps.{report}
 use Rattle.fmp_law_records.specs.Locks.{asks_for, gives_back, ends_there, is_holder, holder_after, LocksFit}
 use Rattle.fmp_law_records.proofs.Still.{Still, call_still, still_in_rotate}
 
@@ -61,23 +61,23 @@ same_freed p None = refl
 same_freed p (Some q) = refl
 
 module _ {Q : Type 0} (k : Ordering Q) (w : World Q) (s : Safe k w) (p : Proc) (l : Object) (few : length w.holders ≤ 32) where
-  pub record HolderTold (c : Call) (did : World Q × Effect) : Type 0 where
-    pub here : holder did.0 l ≡ holder_after l (told (event.Call p c) (runner_of w p) did.1) (holder w l)
+  pub record HolderReported (c : Call) (did : World Q × Effect) : Type 0 where
+    pub here : holder did.0 l ≡ holder_after l (report (event.Call p c) (runner_of w p) did.1) (holder w l)
     pub count : length did.0.holders ≡ length w.holders
 
-  refused_told : (c : Call) (x : Code) → refuses x ≡ true → HolderTold c (w, refused x)
-  refused_told c x e = record { here = sym (unchanged_holder l (told (event.Call p c) (runner_of w p) (refused x)) (holder w l) (not_accepted x e) (no_end p c x e)); count = refl }
+  refused_reported : (c : Call) (x : Code) → refuses x ≡ true → HolderReported c (w, refused x)
+  refused_reported c x e = record { here = sym (unchanged_holder l (report (event.Call p c) (runner_of w p) (refused x)) (holder w l) (not_accepted x e) (no_end p c x e)); count = refl }
 
-  still_told : (c : Call) (did : World Q × Effect) → Still w did.0 → holder w l ≡ holder_after l (told (event.Call p c) (runner_of w p) did.1) (holder w l) → HolderTold c did
-  still_told c did h same = record { here = ap (λ hs. item None hs l.number) h.holders ∙ same; count = ap length h.holders }
+  still_reported : (c : Call) (did : World Q × Effect) → Still w did.0 → holder w l ≡ holder_after l (report (event.Call p c) (runner_of w p) did.1) (holder w l) → HolderReported c did
+  still_reported c did h same = record { here = ap (λ hs. item None hs l.number) h.holders ∙ same; count = ap length h.holders }
 
-  held_system : (c : SystemCall) → HolderTold (call.System c) (called w p (system_row k w p c))
+  held_system : (c : SystemCall) → HolderReported (call.System c) (called w p (system_row k w p c))
   unfolding rotation rotation_in_handler
-  held_system (system.RotRdq x) = either_way w p (HolderTold (call.System (system.RotRdq x))) (system_row k w p (system.RotRdq x)) (λ c. record { here = refl; count = refl }) (still_told (call.System (system.RotRdq x)) _ (still_in_rotate k w p _) refl)
-  held_system (system.IrotRdq x) = either_way w p (HolderTold (call.System (system.IrotRdq x))) (system_row k w p (system.IrotRdq x)) (λ c. record { here = refl; count = refl }) (still_told (call.System (system.IrotRdq x)) _ (still_in_rotate k w p _) refl)
-  held_system (system.MrotRdq x q) = either_way w p (HolderTold (call.System (system.MrotRdq x q))) (system_row k w p (system.MrotRdq x q)) (λ c. record { here = refl; count = refl }) (still_told (call.System (system.MrotRdq x q)) _ (still_in_rotate k w p _) refl)
-  held_system (system.ImrotRdq x q) = either_way w p (HolderTold (call.System (system.ImrotRdq x q))) (system_row k w p (system.ImrotRdq x q)) (λ c. record { here = refl; count = refl }) (still_told (call.System (system.ImrotRdq x q)) _ (still_in_rotate k w p _) refl)
-  held_system c = either_way w p (HolderTold (call.System c)) (system_row k w p c) (λ x. record { here = refl; count = refl }) (record { here = refl; count = refl })
+  held_system (system.RotRdq x) = either_way w p (HolderReported (call.System (system.RotRdq x))) (system_row k w p (system.RotRdq x)) (λ c. record { here = refl; count = refl }) (still_reported (call.System (system.RotRdq x)) _ (still_in_rotate k w p _) refl)
+  held_system (system.IrotRdq x) = either_way w p (HolderReported (call.System (system.IrotRdq x))) (system_row k w p (system.IrotRdq x)) (λ c. record { here = refl; count = refl }) (still_reported (call.System (system.IrotRdq x)) _ (still_in_rotate k w p _) refl)
+  held_system (system.MrotRdq x q) = either_way w p (HolderReported (call.System (system.MrotRdq x q))) (system_row k w p (system.MrotRdq x q)) (λ c. record { here = refl; count = refl }) (still_reported (call.System (system.MrotRdq x q)) _ (still_in_rotate k w p _) refl)
+  held_system (system.ImrotRdq x q) = either_way w p (HolderReported (call.System (system.ImrotRdq x q))) (system_row k w p (system.ImrotRdq x q)) (λ c. record { here = refl; count = refl }) (still_reported (call.System (system.ImrotRdq x q)) _ (still_in_rotate k w p _) refl)
+  held_system c = either_way w p (HolderReported (call.System c)) (system_row k w p c) (λ x. record { here = refl; count = refl }) (record { here = refl; count = refl })
 
   -- a lock is taken
   abbrev the : ℤ → Object
@@ -118,29 +118,29 @@ module _ {Q : Type 0} (k : Ordering Q) (w : World Q) (s : Safe k w) (p : Proc) (
           (λ same. absurd (d (s.in_range.one_lock (the id) l p (at_is (holder w (the id)) at) (e ∙ ap Some (sym (processors_same p q (eqb-true p.number q.number same)))))))
           (λ _. refl)
 
-  held_spin : (c : SpinCall) → HolderTold (call.Spin c) (called w p (spin_row w p c))
+  held_spin : (c : SpinCall) → HolderReported (call.Spin c) (called w p (spin_row w p c))
   unfolding loc_spn try_spn unl_spn
-  held_spin (spin.LocSpn id) = by_called w p (HolderTold (call.Spin (spin.LocSpn id))) (loc_spn w p id) tt (refused_told (call.Spin (spin.LocSpn id)))
-      (λ a. cond_both (is_some (holder w (the id))) _ _ (HolderTold (call.Spin (spin.LocSpn id))) (λ _. record { here = sym (unchanged_holder l (told (event.Call p (call.Spin (spin.LocSpn id))) (runner_of w p) (plain answer.Spin)) (holder w l) refl refl); count = refl })
+  held_spin (spin.LocSpn id) = by_called w p (HolderReported (call.Spin (spin.LocSpn id))) (loc_spn w p id) tt (refused_reported (call.Spin (spin.LocSpn id)))
+      (λ a. cond_both (is_some (holder w (the id))) _ _ (HolderReported (call.Spin (spin.LocSpn id))) (λ _. record { here = sym (unchanged_holder l (report (event.Call p (call.Spin (spin.LocSpn id))) (runner_of w p) (plain answer.Spin)) (holder w l) refl refl); count = refl })
       (λ _. record { here = taken_holder id a.known; count = length-set w.holders _ _ }))
-  held_spin (spin.IlocSpn id) = by_called w p (HolderTold (call.Spin (spin.IlocSpn id))) (in_handler (loc_spn w p id)) tt (refused_told (call.Spin (spin.IlocSpn id)))
-      (λ a. cond_both (is_some (holder w (the id))) _ _ (HolderTold (call.Spin (spin.IlocSpn id))) (λ _. record { here = sym (unchanged_holder l (told (event.Call p (call.Spin (spin.IlocSpn id))) (runner_of w p) (plain answer.Spin)) (holder w l) refl refl); count = refl })
+  held_spin (spin.IlocSpn id) = by_called w p (HolderReported (call.Spin (spin.IlocSpn id))) (in_handler (loc_spn w p id)) tt (refused_reported (call.Spin (spin.IlocSpn id)))
+      (λ a. cond_both (is_some (holder w (the id))) _ _ (HolderReported (call.Spin (spin.IlocSpn id))) (λ _. record { here = sym (unchanged_holder l (report (event.Call p (call.Spin (spin.IlocSpn id))) (runner_of w p) (plain answer.Spin)) (holder w l) refl refl); count = refl })
       (λ _. record { here = taken_holder id a.known; count = length-set w.holders _ _ }))
-  held_spin (spin.TrySpn id) = by_called w p (HolderTold (call.Spin (spin.TrySpn id))) (try_spn w p id) (refl, tt) (refused_told (call.Spin (spin.TrySpn id))) (λ a. record { here = taken_holder id a.known; count = length-set w.holders _ _ })
-  held_spin (spin.ItrySpn id) = by_called w p (HolderTold (call.Spin (spin.ItrySpn id))) (in_handler (try_spn w p id)) (refl, tt) (refused_told (call.Spin (spin.ItrySpn id))) (λ a. record { here = taken_holder id a.known; count = length-set w.holders _ _ })
-  held_spin (spin.UnlSpn id) = by_called w p (HolderTold (call.Spin (spin.UnlSpn id))) (unl_spn w p id) (refl, tt) (refused_told (call.Spin (spin.UnlSpn id))) (λ a. record { here = freed_there ∙ given_back_holder id a.known (not-false _ a.errors.0); count = length-map w.holders (freed p) })
-  held_spin (spin.IunlSpn id) = by_called w p (HolderTold (call.Spin (spin.IunlSpn id))) (in_handler (unl_spn w p id)) (refl, tt) (refused_told (call.Spin (spin.IunlSpn id))) (λ a. record { here = freed_there ∙ given_back_holder id a.known (not-false _ a.errors.0); count = length-map w.holders (freed p) })
+  held_spin (spin.TrySpn id) = by_called w p (HolderReported (call.Spin (spin.TrySpn id))) (try_spn w p id) (refl, tt) (refused_reported (call.Spin (spin.TrySpn id))) (λ a. record { here = taken_holder id a.known; count = length-set w.holders _ _ })
+  held_spin (spin.ItrySpn id) = by_called w p (HolderReported (call.Spin (spin.ItrySpn id))) (in_handler (try_spn w p id)) (refl, tt) (refused_reported (call.Spin (spin.ItrySpn id))) (λ a. record { here = taken_holder id a.known; count = length-set w.holders _ _ })
+  held_spin (spin.UnlSpn id) = by_called w p (HolderReported (call.Spin (spin.UnlSpn id))) (unl_spn w p id) (refl, tt) (refused_reported (call.Spin (spin.UnlSpn id))) (λ a. record { here = freed_there ∙ given_back_holder id a.known (not-false _ a.errors.0); count = length-map w.holders (freed p) })
+  held_spin (spin.IunlSpn id) = by_called w p (HolderReported (call.Spin (spin.IunlSpn id))) (in_handler (unl_spn w p id)) (refl, tt) (refused_reported (call.Spin (spin.IunlSpn id))) (λ a. record { here = freed_there ∙ given_back_holder id a.known (not-false _ a.errors.0); count = length-map w.holders (freed p) })
 
-  pub held_call : (c : Call) → HolderTold c (called w p (row_of k w p c))
+  pub held_call : (c : Call) → HolderReported c (called w p (row_of k w p c))
   unfolding ext_tsk ret_hdr finish opened
-  held_call (call.Task tasks.ExtTsk) = by_called w p (HolderTold (call.Task tasks.ExtTsk)) (ext_tsk k w p) tt (refused_told (call.Task tasks.ExtTsk)) (λ a. record { here = freed_there ∙ same_freed p (holder w l); count = length-map w.holders (freed p) })
-  held_call (call.Task c) = still_told (call.Task c) _ (call_still k w p (call.Task c) refl) refl
-  held_call (call.Sync c) = still_told (call.Sync c) _ (call_still k w p (call.Sync c) refl) refl
-  held_call (call.Buffer c) = still_told (call.Buffer c) _ (call_still k w p (call.Buffer c) refl) refl
-  held_call (call.Time c) = still_told (call.Time c) _ (call_still k w p (call.Time c) refl) refl
+  held_call (call.Task tasks.ExtTsk) = by_called w p (HolderReported (call.Task tasks.ExtTsk)) (ext_tsk k w p) tt (refused_reported (call.Task tasks.ExtTsk)) (λ a. record { here = freed_there ∙ same_freed p (holder w l); count = length-map w.holders (freed p) })
+  held_call (call.Task c) = still_reported (call.Task c) _ (call_still k w p (call.Task c) refl) refl
+  held_call (call.Sync c) = still_reported (call.Sync c) _ (call_still k w p (call.Sync c) refl) refl
+  held_call (call.Buffer c) = still_reported (call.Buffer c) _ (call_still k w p (call.Buffer c) refl) refl
+  held_call (call.Time c) = still_reported (call.Time c) _ (call_still k w p (call.Time c) refl) refl
   held_call (call.System c) = held_system c
   held_call (call.Spin c) = held_spin c
-  held_call call.RetHdr = by_called w p (HolderTold call.RetHdr) (ret_hdr w p) tt (refused_told call.RetHdr) (λ a. record { here = freed_there ∙ same_freed p (holder w l); count = length-map w.holders (freed p) })
+  held_call call.RetHdr = by_called w p (HolderReported call.RetHdr) (ret_hdr w p) tt (refused_reported call.RetHdr) (λ a. record { here = freed_there ∙ same_freed p (holder w l); count = length-map w.holders (freed p) })
 
 -- A lock is taken only where nobody holds it, and given back only where its own processor does.
 
@@ -184,7 +184,7 @@ module _ {Q : Type 0} (w : World Q) (p : Proc) (l : Object) (few : length w.hold
   unl_gives id known at h = of_lock (λ o. is_holder p (holder w o) ≡ true) id known (there (holder w (named_of id)) (not-false _ at)) (and_parts (names l id) true h).0
 
   abbrev FitsWith : Call → Answer → Type 0
-  FitsWith c a = LocksFit l (holder w l) (told (event.Call p c) (runner_of w p) (plain a))
+  FitsWith c a = LocksFit l (holder w l) (report (event.Call p c) (runner_of w p) (plain a))
 
   fits_spin : (c : SpinCall) → FitsWith (call.Spin c) (called w p (spin_row w p c)).1.answer
   unfolding loc_spn try_spn unl_spn

@@ -32,11 +32,11 @@ use Rattle.fmp_rules.proofs.Replays.{answers_take}
 use Rattle.fmp_law_safety.specs.Runs.{AreOn}
 use Rattle.fmp_law_safety.specs.Safe.{Safe}
 use Rattle.fmp_law_safety.proofs.Items.{item_holds}
-use Rattle.fmp_law_balance.proofs.Steps.{told}
+use Rattle.fmp_law_balance.proofs.Steps.{report}
 use Rattle.fmp_law_waits.specs.Waits.{OpenWaits, nobody_waits, after_record}
 use Rattle.fmp_law_waits.proofs.Events.{by_event}
 use Rattle.fmp_law_counts.proofs.Ready.{Ready, ready_next, ready_at_boot, prefix_on}
-use Rattle.fmp_law_records.specs.Locks.{asks_for, gives_back, ends_there, holder_after, holder_by, IsHolderTold, LocksFit}
+use Rattle.fmp_law_records.specs.Locks.{asks_for, gives_back, ends_there, holder_after, holder_by, IsHolderReported, LocksFit}
 use Rattle.fmp_law_records.proofs.Still.{tick_still}
 use Rattle.fmp_law_records.proofs.Locks.{unchanged_holder, held_call, call_fits}
 
@@ -55,7 +55,7 @@ pub held_step : (m : State) → Safe numbered m → (l : Object) → length m.ho
 held_step m s l few e =
     by_event numbered m (λ v r. HeldAs l m v r) (λ v cs r y ps h. record { here = h.here; count = h.count })
     (λ p c. let h = held_call numbered m s p l few c in record { here = h.here; count = h.count })
-    (λ p c. record { here = sym (unchanged_holder l (told (event.Call p c) (runner_of m p) (plain answer.Idle)) (holder m l) refl (idle_ends_nobody p c)); count = refl })
+    (λ p c. record { here = sym (unchanged_holder l (report (event.Call p c) (runner_of m p) (plain answer.Idle)) (holder m l) refl (idle_ends_nobody p c)); count = refl })
     (λ p. record { here = ap (λ hs. item None hs l.number) (tick_still numbered p m).1; count = ap length (tick_still numbered p m).1 })
     (λ p. record { here = refl; count = refl }) (λ p. record { here = refl; count = refl }) (λ p a h. record { here = refl; count = refl }) e
 
@@ -87,18 +87,18 @@ module _ (c : Setup) (l : Object) where
       held_run (after_record c pending (step numbered m e).1) (step numbered m e).0 es (holder_after l (step numbered m e).1 h) (ready_next c pending m e es ready) (rw one.count few)
       (one.here ∙ ap (holder_after l (step numbered m e).1) old)
 
-  pub holders_told : (events : List Event) → IsValid c → AreOn c.processors events → (n : ℕ) → IsHolderTold (take n (answers numbered (booted c) events)) (replay numbered (booted c) (take n events)) l
-  holders_told events valid on n =
+  pub holders_reported : (events : List Event) → IsValid c → AreOn c.processors events → (n : ℕ) → IsHolderReported (take n (answers numbered (booted c) events)) (replay numbered (booted c) (take n events)) l
+  holders_reported events valid on n =
       let es : List Event = take n events in
-      subst (λ rs. IsHolderTold rs (replay numbered (booted c) es) l) (answers_take n (booted c) events)
+      subst (λ rs. IsHolderReported rs (replay numbered (booted c) es) l) (answers_take n (booted c) events)
       (held_run nobody_waits (booted c) es None (ready_at_boot c valid es (prefix_on n c.processors events on)) (rw (ap length (booted_holders c) ∙ length-replicate c.spin_locks None) valid.few.spin_locks) (booted_free c l))
 
 -- Each record fits who holds the lock.
 
-idle_fits : (l : Object) (h : Option Proc) (e : Event) (r : Option Runner) → LocksFit l h (told e r (plain answer.Idle))
+idle_fits : (l : Object) (h : Option Proc) (e : Event) (r : Option Runner) → LocksFit l h (report e r (plain answer.Idle))
 idle_fits l h e r = record { taken = λ x. absurd (false≢true (and_parts (asks_for l e) false x).1); given_back = λ x. absurd (false≢true (and_parts (gives_back l e) false x).1) }
 
-no_call_fits : (l : Object) (h : Option Proc) (e : Event) (r : Option Runner) (did : Effect) → is_call e ≡ false → LocksFit l h (told e r did)
+no_call_fits : (l : Object) (h : Option Proc) (e : Event) (r : Option Runner) (did : Effect) → is_call e ≡ false → LocksFit l h (report e r did)
 no_call_fits l h (event.Call p c) r did no_call = absurd (false≢true (sym no_call))
 no_call_fits l h e r did no_call = record { taken = λ x. absurd (false≢true x); given_back = λ x. absurd (false≢true x) }
 

@@ -38,10 +38,10 @@ use Rattle.fmp_law_safety.proofs.Items.{item_same, item_other}
 use Rattle.fmp_law_balance.specs.Accepted.{is_accepted, accepted_value, names}
 use Rattle.fmp_law_balance.proofs.Called.{refuses, by_called, not_accepted}
 use Rattle.fmp_law_balance.proofs.Objects.{IsNamed, object_known, by_object}
-use Rattle.fmp_law_balance.proofs.Steps.{told}
+use Rattle.fmp_law_balance.proofs.Steps.{report}
 use Rattle.fmp_law_records.specs.Patterns.{Asked, is_there, handed_on, after_releases, set_by, sets_bits, keeps_bits, asks_bits, pattern_after, values_from, PatternFits}
 use Rattle.fmp_law_records.proofs.Calm.{call_calm}
-use Rattle.fmp_law_records.proofs.Told.{either}
+use Rattle.fmp_law_records.proofs.Report.{either}
 
 pub unchanged_pattern : (clears : Bool) (f : Object) (r : Record) (x : ℕ) → is_accepted r.answer ≡ false → pattern_after clears f r x ≡ x
 unchanged_pattern clears f r x refusal = go (sets_bits f r.event) (keeps_bits f r.event) (asks_bits f r.event)
@@ -85,17 +85,17 @@ module _ {Q : Type 0} (k : Ordering Q) (w : World Q) (p : Proc) (f : Object) (fe
   abbrev now : Eventflag
   now = eventflag w f
 
-  pub record FlagTold (c : Call) (did : World Q × Effect) : Type 0 where
-    pub here : eventflag did.0 f ≡ record now { pattern = pattern_after now.setup.clears f (told (event.Call p c) (runner_of w p) did.1) now.pattern }
+  pub record FlagReported (c : Call) (did : World Q × Effect) : Type 0 where
+    pub here : eventflag did.0 f ≡ record now { pattern = pattern_after now.setup.clears f (report (event.Call p c) (runner_of w p) did.1) now.pattern }
 
   abbrev the : ℤ → Object
   the id = unwrap_or (object_named w.eventflags id) (as_object 1)
 
-  left_told : (c : Call) (v : World Q) (a : Answer) → v.eventflags ≡ w.eventflags → is_accepted a ≡ false → FlagTold c (v, plain a)
-  left_told c v a e refusal = record { here = ap (λ xs. item blank_eventflag xs f.number) e ∙ ap (λ y. record now { pattern = y }) (sym (unchanged_pattern now.setup.clears f (told (event.Call p c) (runner_of w p) (plain a)) now.pattern refusal)) }
+  left_reported : (c : Call) (v : World Q) (a : Answer) → v.eventflags ≡ w.eventflags → is_accepted a ≡ false → FlagReported c (v, plain a)
+  left_reported c v a e refusal = record { here = ap (λ xs. item blank_eventflag xs f.number) e ∙ ap (λ y. record now { pattern = y }) (sym (unchanged_pattern now.setup.clears f (report (event.Call p c) (runner_of w p) (plain a)) now.pattern refusal)) }
 
-  refused_told : (c : Call) (x : Code) → refuses x ≡ true → FlagTold c (w, refused x)
-  refused_told c x e = left_told c w (refused x).answer refl (not_accepted x e)
+  refused_reported : (c : Call) (x : Code) → refuses x ≡ true → FlagReported c (w, refused x)
+  refused_reported c x e = left_reported c w (refused x).answer refl (not_accepted x e)
 
   -- the flag that is named gets another pattern
   put : (id : ℤ) (new : Eventflag → ℕ) (v : World Q) → is_some (object_named w.eventflags id) ≡ true → v.eventflags ≡ with_bits k w (the id) (new (eventflag w (the id))) →
@@ -109,11 +109,11 @@ module _ {Q : Type 0} (k : Ordering Q) (w : World Q) (p : Proc) (f : Object) (fe
       (by_object (λ x b. item blank_eventflag (with_item w.eventflags o.number y) x.number ≡ (if b then record (eventflag w x) { pattern = new (eventflag w x) } else eventflag w x)) o f
       (item_same blank_eventflag w.eventflags o.number y o.least named.within.1) (λ d. item_other blank_eventflag w.eventflags o.number y f.number f.least o.least (λ q. d (sym q))))
 
-  set_told : (c : Call) (id : ℤ) (bits : ℕ) → is_some (object_named w.eventflags id) ≡ true → sets_bits f (event.Call p c) ≡ (if names f id then Some bits else None) → keeps_bits f (event.Call p c) ≡ None → asks_bits f (event.Call p c) ≡ None →
-      let did = served k w (the id) (bit_or (eventflag w (the id)).pattern bits) (queue k w kind.Eventflag (the id)) in FlagTold c (did.0, record done { releases = did.1 })
-  set_told c id bits known a b d =
+  set_reported : (c : Call) (id : ℤ) (bits : ℕ) → is_some (object_named w.eventflags id) ≡ true → sets_bits f (event.Call p c) ≡ (if names f id then Some bits else None) → keeps_bits f (event.Call p c) ≡ None → asks_bits f (event.Call p c) ≡ None →
+      let did = served k w (the id) (bit_or (eventflag w (the id)).pattern bits) (queue k w kind.Eventflag (the id)) in FlagReported c (did.0, record done { releases = did.1 })
+  set_reported c id bits known a b d =
       let did : World Q × List Release = served k w (the id) (bit_or (eventflag w (the id)).pattern bits) (queue k w kind.Eventflag (the id)) in
-      let r : Record = told (event.Call p c) (runner_of w p) (record done { releases = did.1 }) in
+      let r : Record = report (event.Call p c) (runner_of w p) (record done { releases = did.1 }) in
       record {
         here =
             put id (λ y. after_releases y.setup.clears (bit_or y.pattern bits) did.1) did.0 known (served_pattern k w (the id) (bit_or (eventflag w (the id)).pattern bits) (queue k w kind.Eventflag (the id)))
@@ -122,10 +122,10 @@ module _ {Q : Type 0} (k : Ordering Q) (w : World Q) (p : Proc) (f : Object) (fe
       }
 
   -- who asks gets the pattern
-  got_told : (c : Call) (id : ℤ) (x : Asked) → is_some (object_named w.eventflags id) ≡ true → sets_bits f (event.Call p c) ≡ None → keeps_bits f (event.Call p c) ≡ None → asks_bits f (event.Call p c) ≡ (if names f id then Some x else None) →
-      FlagTold c (answered w (the id))
-  got_told c id x known a b d =
-      let r : Record = told (event.Call p c) (runner_of w p) (answered w (the id)).1 in
+  got_reported : (c : Call) (id : ℤ) (x : Asked) → is_some (object_named w.eventflags id) ≡ true → sets_bits f (event.Call p c) ≡ None → keeps_bits f (event.Call p c) ≡ None → asks_bits f (event.Call p c) ≡ (if names f id then Some x else None) →
+      FlagReported c (answered w (the id))
+  got_reported c id x known a b d =
+      let r : Record = report (event.Call p c) (runner_of w p) (answered w (the id)).1 in
       record {
         here =
             put id (λ y. handed_on y.setup.clears y.pattern) (answered w (the id)).0 known refl
@@ -133,25 +133,25 @@ module _ {Q : Type 0} (k : Ordering Q) (w : World Q) (p : Proc) (f : Object) (fe
             (λ q. (if q then record now { pattern = handed_on now.setup.clears now.pattern } else now) ≡ record now { pattern = set_by now.setup.clears now.pattern r None None (if q then Some x else None) }) refl refl);
       }
 
-  wait_told : (c : Call) (id timeout : ℤ) (bits : ℕ) (m : Mode) → is_some (object_named w.eventflags id) ≡ true → sets_bits f (event.Call p c) ≡ None → keeps_bits f (event.Call p c) ≡ None →
+  wait_reported : (c : Call) (id timeout : ℤ) (bits : ℕ) (m : Mode) → is_some (object_named w.eventflags id) ≡ true → sets_bits f (event.Call p c) ≡ None → keeps_bits f (event.Call p c) ≡ None →
       asks_bits f (event.Call p c) ≡ (if names f id then Some (record { bits = bits; mode = m }) else None) →
-      FlagTold c (done_or_wait k w p (holds (eventflag w (the id)).pattern bits m) (answered w (the id)) (wait.Eventflag (the id) bits m) timeout)
-  wait_told c id timeout bits m known a b d =
-      cond_both (holds (eventflag w (the id)).pattern bits m) _ _ (FlagTold c) (λ _. got_told c id (record { bits = bits; mode = m }) known a b d)
-      (λ _. cond_both (is_zero timeout) _ _ (FlagTold c) (λ _. refused_told c code.TimedOut refl) (λ _. left_told c (begin_wait k w (caller w p) (wait.Eventflag (the id) bits m) (ticks_of timeout)) answer.Wait refl refl))
+      FlagReported c (done_or_wait k w p (holds (eventflag w (the id)).pattern bits m) (answered w (the id)) (wait.Eventflag (the id) bits m) timeout)
+  wait_reported c id timeout bits m known a b d =
+      cond_both (holds (eventflag w (the id)).pattern bits m) _ _ (FlagReported c) (λ _. got_reported c id (record { bits = bits; mode = m }) known a b d)
+      (λ _. cond_both (is_zero timeout) _ _ (FlagReported c) (λ _. refused_reported c code.TimedOut refl) (λ _. left_reported c (begin_wait k w (caller w p) (wait.Eventflag (the id) bits m) (ticks_of timeout)) answer.Wait refl refl))
 
-  flags_sync : (c : SyncCall) → FlagTold (call.Sync c) (called w p (sync_row k w p c))
+  flags_sync : (c : SyncCall) → FlagReported (call.Sync c) (called w p (sync_row k w p c))
   unfolding set_flg clr_flg twai_flg pol_flg
-  flags_sync (sync.SetFlg id bits) = by_called w p (FlagTold (call.Sync (sync.SetFlg id bits))) (set_flg k w id bits) tt (refused_told (call.Sync (sync.SetFlg id bits))) (λ a. set_told (call.Sync (sync.SetFlg id bits)) id bits a.known refl refl refl)
-  flags_sync (sync.IsetFlg id bits) = by_called w p (FlagTold (call.Sync (sync.IsetFlg id bits))) (in_handler (set_flg k w id bits)) tt (refused_told (call.Sync (sync.IsetFlg id bits))) (λ a. set_told (call.Sync (sync.IsetFlg id bits)) id bits a.known refl refl refl)
-  flags_sync (sync.ClrFlg id bits) = by_called w p (FlagTold (call.Sync (sync.ClrFlg id bits))) (clr_flg w id bits) tt (refused_told (call.Sync (sync.ClrFlg id bits)))
-      (λ a. record { here = put id (λ y. bit_and y.pattern bits) (with_pattern w (the id) (bit_and (eventflag w (the id)).pattern bits)) a.known refl ∙ either (names f id) (λ q. (if q then record now { pattern = bit_and now.pattern bits } else now) ≡ record now { pattern = set_by now.setup.clears now.pattern (told (event.Call p (call.Sync (sync.ClrFlg id bits))) (runner_of w p) done) None (if q then Some bits else None) None }) refl refl })
-  flags_sync (sync.WaiFlg id bits m) = by_called w p (FlagTold (call.Sync (sync.WaiFlg id bits m))) (twai_flg k w p id bits m forever) (refl, tt) (refused_told (call.Sync (sync.WaiFlg id bits m))) (λ a. wait_told (call.Sync (sync.WaiFlg id bits m)) id forever bits m a.known refl refl refl)
-  flags_sync (sync.TwaiFlg id bits m timeout) = by_called w p (FlagTold (call.Sync (sync.TwaiFlg id bits m timeout))) (twai_flg k w p id bits m timeout) (refl, tt) (refused_told (call.Sync (sync.TwaiFlg id bits m timeout))) (λ a. wait_told (call.Sync (sync.TwaiFlg id bits m timeout)) id timeout bits m a.known refl refl refl)
-  flags_sync (sync.PolFlg id bits m) = by_called w p (FlagTold (call.Sync (sync.PolFlg id bits m))) (pol_flg k w id bits m) (refl, (refl, tt)) (refused_told (call.Sync (sync.PolFlg id bits m))) (λ a. got_told (call.Sync (sync.PolFlg id bits m)) id (record { bits = bits; mode = m }) a.known refl refl refl)
+  flags_sync (sync.SetFlg id bits) = by_called w p (FlagReported (call.Sync (sync.SetFlg id bits))) (set_flg k w id bits) tt (refused_reported (call.Sync (sync.SetFlg id bits))) (λ a. set_reported (call.Sync (sync.SetFlg id bits)) id bits a.known refl refl refl)
+  flags_sync (sync.IsetFlg id bits) = by_called w p (FlagReported (call.Sync (sync.IsetFlg id bits))) (in_handler (set_flg k w id bits)) tt (refused_reported (call.Sync (sync.IsetFlg id bits))) (λ a. set_reported (call.Sync (sync.IsetFlg id bits)) id bits a.known refl refl refl)
+  flags_sync (sync.ClrFlg id bits) = by_called w p (FlagReported (call.Sync (sync.ClrFlg id bits))) (clr_flg w id bits) tt (refused_reported (call.Sync (sync.ClrFlg id bits)))
+      (λ a. record { here = put id (λ y. bit_and y.pattern bits) (with_pattern w (the id) (bit_and (eventflag w (the id)).pattern bits)) a.known refl ∙ either (names f id) (λ q. (if q then record now { pattern = bit_and now.pattern bits } else now) ≡ record now { pattern = set_by now.setup.clears now.pattern (report (event.Call p (call.Sync (sync.ClrFlg id bits))) (runner_of w p) done) None (if q then Some bits else None) None }) refl refl })
+  flags_sync (sync.WaiFlg id bits m) = by_called w p (FlagReported (call.Sync (sync.WaiFlg id bits m))) (twai_flg k w p id bits m forever) (refl, tt) (refused_reported (call.Sync (sync.WaiFlg id bits m))) (λ a. wait_reported (call.Sync (sync.WaiFlg id bits m)) id forever bits m a.known refl refl refl)
+  flags_sync (sync.TwaiFlg id bits m timeout) = by_called w p (FlagReported (call.Sync (sync.TwaiFlg id bits m timeout))) (twai_flg k w p id bits m timeout) (refl, tt) (refused_reported (call.Sync (sync.TwaiFlg id bits m timeout))) (λ a. wait_reported (call.Sync (sync.TwaiFlg id bits m timeout)) id timeout bits m a.known refl refl refl)
+  flags_sync (sync.PolFlg id bits m) = by_called w p (FlagReported (call.Sync (sync.PolFlg id bits m))) (pol_flg k w id bits m) (refl, (refl, tt)) (refused_reported (call.Sync (sync.PolFlg id bits m))) (λ a. got_reported (call.Sync (sync.PolFlg id bits m)) id (record { bits = bits; mode = m }) a.known refl refl refl)
   flags_sync c = record { here = ap (λ xs. item blank_eventflag xs f.number) (call_calm k w p (call.Sync c) refl).flags }
 
-  pub pattern_call : (c : Call) → FlagTold c (called w p (row_of k w p c))
+  pub pattern_call : (c : Call) → FlagReported c (called w p (row_of k w p c))
   pattern_call (call.Sync c) = flags_sync c
   pattern_call c = record { here = ap (λ xs. item blank_eventflag xs f.number) (call_calm k w p c refl).flags }
 
@@ -169,7 +169,7 @@ module _ {Q : Type 0} (k : Ordering Q) (w : World Q) (p : Proc) (f : Object) (fe
   flag = eventflag w f
 
   abbrev pub Fits : Call → World Q × Effect → Type 0
-  Fits c did = PatternFits flag.setup.clears f flag.pattern (told (event.Call p c) (runner_of w p) did.1)
+  Fits c did = PatternFits flag.setup.clears f flag.pattern (report (event.Call p c) (runner_of w p) did.1)
 
   abbrev this : ℤ → Object
   this id = unwrap_or (object_named w.eventflags id) (as_object 1)

@@ -27,11 +27,11 @@ use Rattle.fmp_rules.specs.Step.{step, replay, answers}
 use Rattle.fmp_rules.specs.Boot.{blank, all_started, with_top_running, with_tops_running, booted, unnumbered}
 use Rattle.fmp_rules.proofs.Replays.{answers_take}
 use Rattle.fmp_law_safety.specs.Runs.{AreOn}
-use Rattle.fmp_law_balance.proofs.Steps.{told}
+use Rattle.fmp_law_balance.proofs.Steps.{report}
 use Rattle.fmp_law_waits.specs.Waits.{OpenWaits, nobody_waits, after_record}
 use Rattle.fmp_law_waits.proofs.Events.{by_event}
 use Rattle.fmp_law_counts.proofs.Ready.{Ready, ready_next, ready_at_boot, ready_after, prefix_on}
-use Rattle.fmp_law_records.specs.Patterns.{asks_bits, sets_bits, pattern_after, pattern_by, told_pattern, IsPatternTold, PatternFits}
+use Rattle.fmp_law_records.specs.Patterns.{asks_bits, sets_bits, pattern_after, pattern_by, report_pattern, IsPatternReported, PatternFits}
 use Rattle.fmp_law_records.proofs.Calm.{tick_calm}
 use Rattle.fmp_law_records.proofs.Patterns.{unchanged_pattern, pattern_call, pattern_fits}
 
@@ -41,17 +41,17 @@ now_of m f r = record (eventflag m f) { pattern = pattern_after (eventflag m f).
 pattern_step : (m : State) (f : Object) → length m.eventflags ≤ 32 → (e : Event) → eventflag (step numbered m e).0 f ≡ now_of m f (step numbered m e).1
 pattern_step m f few e =
     by_event numbered m (λ v r. eventflag v f ≡ now_of m f r) (λ v cs r y ps h. h) (λ p c. (pattern_call numbered m p f few c).here)
-    (λ p c. ap (λ y. record (eventflag m f) { pattern = y }) (sym (unchanged_pattern (eventflag m f).setup.clears f (told (event.Call p c) (runner_of m p) (plain answer.Idle)) (eventflag m f).pattern refl)))
+    (λ p c. ap (λ y. record (eventflag m f) { pattern = y }) (sym (unchanged_pattern (eventflag m f).setup.clears f (report (event.Call p c) (runner_of m p) (plain answer.Idle)) (eventflag m f).pattern refl)))
     (λ p. ap (λ xs. item blank_eventflag xs f.number) (tick_calm numbered p m).flags) (λ p. refl) (λ p. refl) (λ p a h. refl) e
 
 if_all : {X : Type 0} (o : Option X) (P : X → Type 0) → ((x : X) → P x) → IfSome o P
 if_all None P h = tt
 if_all (Some x) P h = h x
 
-idle_fits : (clears : Bool) (f : Object) (x : ℕ) (e : Event) (r : Option Runner) → PatternFits clears f x (told e r (plain answer.Idle))
+idle_fits : (clears : Bool) (f : Object) (x : ℕ) (e : Event) (r : Option Runner) → PatternFits clears f x (report e r (plain answer.Idle))
 idle_fits clears f x e r = record { got = if_all (asks_bits f e) _ (λ b h. absurd (false≢true h)); handed = if_all (sets_bits f e) _ (λ b h. absurd (false≢true h)) }
 
-no_call_fits : (clears : Bool) (f : Object) (x : ℕ) (e : Event) (r : Option Runner) (did : Effect) → is_call e ≡ false → PatternFits clears f x (told e r did)
+no_call_fits : (clears : Bool) (f : Object) (x : ℕ) (e : Event) (r : Option Runner) (did : Effect) → is_call e ≡ false → PatternFits clears f x (report e r did)
 no_call_fits clears f x (event.Call p c) r did no_call = absurd (false≢true (sym no_call))
 no_call_fits clears f x e r did no_call = record { got = tt; handed = tt }
 
@@ -92,14 +92,14 @@ module _ (c : Setup) (f : Object) where
       pattern_run (after_record c pending (step numbered m e).1) (step numbered m e).0 es (pattern_after (setup_flag c f).clears f (step numbered m e).1 x) (ready_next c pending m e es ready)
       (pattern_step m f ready.sound.few_eventflags e ∙ ap (λ (y : Eventflag). record y { pattern = pattern_after y.setup.clears f (step numbered m e).1 y.pattern }) old)
 
-  pub patterns_told : (events : List Event) → IsValid c → AreOn c.processors events → (n : ℕ) → IsPatternTold c (take n (answers numbered (booted c) events)) (replay numbered (booted c) (take n events)) f
-  patterns_told events valid on n =
+  pub patterns_reported : (events : List Event) → IsValid c → AreOn c.processors events → (n : ℕ) → IsPatternReported c (take n (answers numbered (booted c) events)) (replay numbered (booted c) (take n events)) f
+  patterns_reported events valid on n =
       let es : List Event = take n events in
-      subst (λ rs. IsPatternTold c rs (replay numbered (booted c) es) f) (answers_take n (booted c) events)
+      subst (λ rs. IsPatternReported c rs (replay numbered (booted c) es) f) (answers_take n (booted c) events)
       (ap (λ (y : Eventflag). y.pattern) (pattern_run nobody_waits (booted c) es (setup_flag c f).initial (ready_at_boot c valid es (prefix_on n c.processors events on)) (booted_flag c f)))
 
 pub patterns_fit : (c : Setup) (events : List Event) → IsValid c → AreOn c.processors events → (e : Event) (f : Object) →
-    PatternFits (setup_flag c f).clears f (told_pattern c f (answers numbered (booted c) events)) (step numbered (replay numbered (booted c) events) e).1
+    PatternFits (setup_flag c f).clears f (report_pattern c f (answers numbered (booted c) events)) (step numbered (replay numbered (booted c) events) e).1
 patterns_fit c events valid on e f =
     let m : State = replay numbered (booted c) events in
     let now = pattern_run c f nobody_waits (booted c) events (setup_flag c f).initial (ready_at_boot c valid events on) (booted_flag c f) in

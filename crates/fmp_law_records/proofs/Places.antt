@@ -30,7 +30,7 @@ use Rattle.fmp_rules.specs.declared.machine.Wait.TheVariants as wait
 use Rattle.fmp_rules.specs.declared.machine.QueueKind.{QueueKind}
 use Rattle.fmp_rules.specs.declared.machine.QueueKind.TheVariants as kind
 use Rattle.fmp_rules.specs.World.{no_task, item, with_item, task, runner_of}
-use Rattle.fmp_rules.specs.Ordering.{order_in, order_of, rejoin, behind}
+use Rattle.fmp_rules.specs.Ordering.{order_in, order_of, rejoin, put_last}
 use Rattle.fmp_rules.specs.Arrivals.{Arrivals, State, numbered}
 use Rattle.fmp_rules.specs.Arguments.{caller, task_or_caller, priority_or}
 use Rattle.fmp_rules.specs.Rows.{called, plain, refused, done}
@@ -46,7 +46,7 @@ use Rattle.fmp_law_safety.proofs.Listed.{not_past}
 use Rattle.fmp_law_balance.specs.Accepted.{is_accepted}
 use Rattle.fmp_law_balance.specs.Queues.{is_task, is_call_of}
 use Rattle.fmp_law_balance.proofs.Called.{by_called, not_accepted}
-use Rattle.fmp_law_balance.proofs.Steps.{told}
+use Rattle.fmp_law_balance.proofs.Steps.{report}
 use Rattle.fmp_law_waits.specs.Asked.{OpenWait, asked_by}
 use Rattle.fmp_law_waits.specs.Waits.{OpenWaits, begins, is_waiting, ends, lasts, after_record, setup_of}
 use Rattle.fmp_law_waits.proofs.Events.{by_event}
@@ -104,9 +104,9 @@ waited c pending r t = go (ends t r) (begins t r) (pending t)
     go false None (Some q) h = (λ e. absurd (false≢true (sym e)), λ _. refl)
     go false None None h = absurd (false≢true h)
 
-no_wait_told : (o : Option Wait) (q : Option OpenWait) → o ≡ option_map (λ y. y.wait) q → o ≡ None → is_some q ≡ false
-no_wait_told o None is none = refl
-no_wait_told o (Some y) is none = absurd (false≢true (ap is_some (sym none ∙ is)))
+no_wait_reported : (o : Option Wait) (q : Option OpenWait) → o ≡ option_map (λ y. y.wait) q → o ≡ None → is_some q ≡ false
+no_wait_reported o None is none = refl
+no_wait_reported o (Some y) is none = absurd (false≢true (ap is_some (sym none ∙ is)))
 
 module _ (c : Setup) (m : State) (x : Places) (placed_before : ArePlaced c x m) (s : Safe numbered m) (sound : Sound c m) (waits : (t : Task) → IsKept c m t (x.waits t)) where
   abbrev pub TakesIn : State → Record → Type 0
@@ -123,9 +123,9 @@ module _ (c : Setup) (m : State) (x : Places) (placed_before : ArePlaced c x m) 
   }
 
   -- no wait begins, and no priority is given
-  stands_takes : (p : Proc) (a : Call) → is_of_priority a ≡ false → (did : State × Effect) → Stands m (event.Call p a) did → TakesIn did.0 (told (event.Call p a) (runner_of m p) did.1)
+  stands_takes : (p : Proc) (a : Call) → is_of_priority a ≡ false → (did : State × Effect) → Stands m (event.Call p a) did → TakesIn did.0 (report (event.Call p a) (runner_of m p) did.1)
   stands_takes p a other did h =
-      let r : Record = told (event.Call p a) (runner_of m p) did.1 in
+      let r : Record = report (event.Call p a) (runner_of m p) did.1 in
       none_takes did.0 r h.quiet
       (λ t.
       let given : Option Pri = gives_priority (setup_of c t).priority t r.runner r.event in
@@ -134,13 +134,13 @@ module _ (c : Setup) (m : State) (x : Places) (placed_before : ArePlaced c x m) 
       ap (λ b. b || (is_accepted r.answer && is_placed_anew c (x.waits t) given)) begun ∙ and_right (is_accepted r.answer) (is_placed_anew c (x.waits t) given) anew)
 
   -- the caller waits
-  joins_takes : (p : Proc) (a : Call) (did : State × Effect) → Joins m p did → TakesIn did.0 (told (event.Call p a) (runner_of m p) did.1)
+  joins_takes : (p : Proc) (a : Call) (did : State × Effect) → Joins m p did → TakesIn did.0 (report (event.Call p a) (runner_of m p) did.1)
   joins_takes p a did h =
-      let r : Record = told (event.Call p a) (runner_of m p) did.1 in
+      let r : Record = report (event.Call p a) (runner_of m p) did.1 in
       let u : Task = caller m p in
       let runs : runner_of m p ≡ Some (runner.Task u) = caller_runs m p h.from in
       let within : u.number ≤ length m.order.begun = rw placed_before.count (running_within numbered m p s u h.from.running) in
-      let none : is_some (x.waits u) ≡ false = no_wait_told (task m u).wait (x.waits u) (waits u).0.wait (running_waits_not numbered m p s u h.from.running) in
+      let none : is_some (x.waits u) ≡ false = no_wait_reported (task m u).wait (x.waits u) (waits u).0.wait (running_waits_not numbered m p s u h.from.running) in
       let begun_at : (t : Task) → is_some (after_record c x.waits r t) ≡ true → item 0 did.0.order.begun t.number ≡ (if takes_place c x r t then m.order.next else item 0 m.order.begun t.number) =
       λ t after.
       ⊎_elim
@@ -187,39 +187,39 @@ module _ (c : Setup) (m : State) (x : Places) (placed_before : ArePlaced c x m) 
   rejoins order.First u r left = record { begun = refl; next = omega arith; later = λ e. absurd (false≢true e) }
   rejoins order.Priority u r left = record { begun = refl; next = omega arith; later = λ e. omega arith }
 
-  goes_behind : (o : Option Wait) (u : Task) (r : TaskRecord) → Anew (joins_anew o) u (behind numbered m u r o)
-  goes_behind None u r = let h = placed m.order (task m u) r u in record { begun = h.0; next = h.1; later = λ e. absurd (false≢true e) }
-  goes_behind (Some y) u r = rejoins (order_of m y) u r (item None m.waits_left u.number)
+  goes_after : (o : Option Wait) (u : Task) (r : TaskRecord) → Anew (joins_anew o) u (put_last numbered m u r o)
+  goes_after None u r = let h = placed m.order (task m u) r u in record { begun = h.0; next = h.1; later = λ e. absurd (false≢true e) }
+  goes_after (Some y) u r = rejoins (order_of m y) u r (item None m.waits_left u.number)
 
-  anew_told : (o : Option Wait) (q : Option OpenWait) (given : Pri) → o ≡ option_map (λ y. y.wait) q → joins_anew o ≡ is_placed_anew c q (Some given)
-  anew_told o None given is = ap joins_anew is
-  anew_told o (Some y) given is = ap joins_anew is ∙ order_is y.wait
+  anew_reported : (o : Option Wait) (q : Option OpenWait) (given : Pri) → o ≡ option_map (λ y. y.wait) q → joins_anew o ≡ is_placed_anew c q (Some given)
+  anew_reported o None given is = ap joins_anew is
+  anew_reported o (Some y) given is = ap joins_anew is ∙ order_is y.wait
 
   anew_waits : (o : Option Wait) → joins_anew o ≡ true → is_some o ≡ true
   anew_waits None e = e
   anew_waits (Some y) e = refl
 
   priority_takes : (p : Proc) (id n : ℤ) (few : length m.tasks ≤ 64) →
-      TakesIn (called m p (chg_pri numbered m (task_or_caller m p id) n)).0 (told (event.Call p (call.Task (tasks.ChgPri id n))) (runner_of m p) (called m p (chg_pri numbered m (task_or_caller m p id) n)).1)
+      TakesIn (called m p (chg_pri numbered m (task_or_caller m p id) n)).0 (report (event.Call p (call.Task (tasks.ChgPri id n))) (runner_of m p) (called m p (chg_pri numbered m (task_or_caller m p id) n)).1)
   unfolding chg_pri
   priority_takes p id n few =
       let e : Event = event.Call p (call.Task (tasks.ChgPri id n)) in
-      by_called m p (λ did. TakesIn did.0 (told e (runner_of m p) did.1)) (chg_pri numbered m (task_or_caller m p id) n) (refl, tt)
+      by_called m p (λ did. TakesIn did.0 (report e (runner_of m p) did.1)) (chg_pri numbered m (task_or_caller m p id) n) (refl, tt)
       (λ y refuses_.
-      none_takes m (told e (runner_of m p) (refused y)) (quiet_all m)
+      none_takes m (report e (runner_of m p) (refused y)) (quiet_all m)
       (λ t. ap (λ b. b && is_placed_anew c (x.waits t) (gives_priority (setup_of c t).priority t (runner_of m p) e)) (not_accepted y refuses_)))
       (λ a.
       let u : Task = unwrap_or (task_or_caller m p id) (as_task 1) in
-      let r : Record = told e (runner_of m p) done in
+      let r : Record = report e (runner_of m p) done in
       let after : TaskRecord = record (task m u) { priority = priority_or (task m u).setup.priority n } in
       let v : State = change_priority numbered m u (priority_or (task m u).setup.priority n) in
       let b : Bool = joins_anew (task m u).wait in
-      let h : Anew b u v.order = goes_behind (task m u).wait u after in
+      let h : Anew b u v.order = goes_after (task m u).wait u after in
       let names : (t : Task) → names_task t (runner_of m p) id ≡ (u.number == t.number) = λ t. named_or_caller_is m p t id few (from_task m p false false a.rule) a.known in
       let within : b ≡ true → u.number ≤ length m.order.begun = λ yes_. rw placed_before.count (not_past (λ (z : TaskRecord). is_some z.wait) no_task m.tasks u.number u.least refl (anew_waits (task m u).wait yes_)) in
       let mine : takes_place c x r u ≡ b =
       ap (λ (k : Bool). is_placed_anew c (x.waits u) (if k then Some (given_by (setup_of c u).priority n) else None)) (names u ∙ eq-eqb u.number u.number refl)
-      ∙ sym (anew_told (task m u).wait (x.waits u) (given_by (setup_of c u).priority n) (waits u).0.wait) in
+      ∙ sym (anew_reported (task m u).wait (x.waits u) (given_by (setup_of c u).priority n) (waits u).0.wait) in
       let others : (t : Task) → (u.number ≡ t.number → ⊥) → takes_place c x r t ≡ false =
       λ t d. ap (λ (k : Bool). is_placed_anew c (x.waits t) (if k then Some (given_by (setup_of c t).priority n) else None)) (names t ∙ ne_eqb u.number t.number d) ∙ not_anew c (x.waits t) in
       let old : Task → ℕ = λ t. item 0 m.order.begun t.number in
@@ -243,10 +243,10 @@ module _ (c : Setup) (m : State) (x : Places) (placed_before : ArePlaced c x m) 
         orders = λ k o. refl;
       })
 
-  by_kind : (p : Proc) (a : Call) → is_of_priority a ≡ false → TakesIn (called m p (row_of numbered m p a)).0 (told (event.Call p a) (runner_of m p) (called m p (row_of numbered m p a)).1)
+  by_kind : (p : Proc) (a : Call) → is_of_priority a ≡ false → TakesIn (called m p (row_of numbered m p a)).0 (report (event.Call p a) (runner_of m p) (called m p (row_of numbered m p a)).1)
   by_kind p a other = ⊎_elim (λ h. stands_takes p a other (called m p (row_of numbered m p a)) h) (λ h. joins_takes p a (called m p (row_of numbered m p a)) h) (call_did m p sound.few_tasks a other)
 
-  call_takes : (p : Proc) (a : Call) → TakesIn (called m p (row_of numbered m p a)).0 (told (event.Call p a) (runner_of m p) (called m p (row_of numbered m p a)).1)
+  call_takes : (p : Proc) (a : Call) → TakesIn (called m p (row_of numbered m p a)).0 (report (event.Call p a) (runner_of m p) (called m p (row_of numbered m p a)).1)
   call_takes p (call.Task (tasks.ChgPri id n)) = priority_takes p id n sound.few_tasks
   call_takes p (call.Task a) = by_kind p (call.Task a) refl
   call_takes p a = by_kind p a refl
@@ -262,21 +262,21 @@ module _ (c : Setup) (m : State) (x : Places) (placed_before : ArePlaced c x m) 
       (alarms_keep p S (λ y o h. record { begun = h.begun; next = h.next; orders = h.orders }) u (expired u.alarms_left u.alarms)
       (released_keep p S numbered (λ y t h. quiet_then m y (make_ready numbered y t) h (quiet_ready y t)) v ts (record { begun = refl; next = omega arith; orders = λ k o. refl })))
 
-  tick_takes : (p : Proc) → TakesIn (tick numbered m p).0 (told (event.Tick p) (runner_of m p) (tick numbered m p).1)
+  tick_takes : (p : Proc) → TakesIn (tick numbered m p).0 (report (event.Tick p) (runner_of m p) (tick numbered m p).1)
   unfolding ticked
-  tick_takes p = none_takes (tick numbered m p).0 (told (event.Tick p) (runner_of m p) (tick numbered m p).1) (tick_quiet p) (λ t. refl)
+  tick_takes p = none_takes (tick numbered m p).0 (report (event.Tick p) (runner_of m p) (tick numbered m p).1) (tick_quiet p) (λ t. refl)
 
-  interrupt_takes : (p : Proc) (a : Answer) → is_accepted a ≡ false → TakesIn m (told (event.Ipi p) (runner_of m p) (plain a))
+  interrupt_takes : (p : Proc) (a : Answer) → is_accepted a ≡ false → TakesIn m (report (event.Ipi p) (runner_of m p) (plain a))
   interrupt_takes p a none =
-      none_takes m (told (event.Ipi p) (runner_of m p) (plain a)) (quiet_all m)
+      none_takes m (report (event.Ipi p) (runner_of m p) (plain a)) (quiet_all m)
       (λ t.
       cond_both (is_waiting a && false) None None (λ (o : Option OpenWait). (is_some o || (is_accepted a && is_placed_anew c (x.waits t) None)) ≡ false) (λ _. ap (λ b. b && is_placed_anew c (x.waits t) None) none) (λ _. ap (λ b. b && is_placed_anew c (x.waits t) None) none))
 
   takes_step : (e : Event) → TakesIn (step numbered m e).0 (step numbered m e).1
   takes_step e =
       by_event numbered m TakesIn (λ v cs r y ps h. record { begun = h.begun; next = h.next; later = h.later; count = h.count; orders = h.orders }) call_takes
-      (λ p a. none_takes m (told (event.Call p a) (runner_of m p) (plain answer.Idle)) (quiet_all m) (λ t. refl)) tick_takes
-      (λ p. none_takes m (told (event.Tick p) (runner_of m p) (plain answer.Held)) (quiet_all m) (λ t. refl)) (λ p. none_takes m (told (event.Tick p) (runner_of m p) (plain answer.Nothing)) (quiet_all m) (λ t. refl))
+      (λ p a. none_takes m (report (event.Call p a) (runner_of m p) (plain answer.Idle)) (quiet_all m) (λ t. refl)) tick_takes
+      (λ p. none_takes m (report (event.Tick p) (runner_of m p) (plain answer.Held)) (quiet_all m) (λ t. refl)) (λ p. none_takes m (report (event.Tick p) (runner_of m p) (plain answer.Nothing)) (quiet_all m) (λ t. refl))
       interrupt_takes e
 
   -- So the places stay those that the records say.

@@ -33,7 +33,7 @@ use Rattle.std.proofs.lemmas.Bool.{not-false, eqb-true}
 use Rattle.fmp_rules.specs.Arguments.{priority_or, task_or_caller}
 use Rattle.fmp_law_balance.specs.Accepted.{is_accepted, accepted_value}
 use Rattle.fmp_law_balance.specs.Queues.{is_task}
-use Rattle.fmp_law_balance.proofs.Steps.{told}
+use Rattle.fmp_law_balance.proofs.Steps.{report}
 use Rattle.fmp_law_waits.specs.Waits.{is_number_of}
 use Rattle.fmp_law_counts.specs.Naming.{names_task}
 use Rattle.fmp_law_records.specs.Priorities.{given_by, given_or, asks_priority, priority_after, TellsPriority}
@@ -42,7 +42,7 @@ use Rattle.fmp_law_records.specs.Accepting.{is_about}
 use Rattle.fmp_law_records.specs.Line.{is_done}
 use Rattle.fmp_law_records.proofs.Edits.{activated_as, edited}
 use Rattle.fmp_law_records.proofs.Allows.{allows}
-use Rattle.fmp_law_records.proofs.Told.{is_of_tasks, either, told_step}
+use Rattle.fmp_law_records.proofs.Report.{is_of_tasks, either, report_step}
 
 -- An active task has this priority, and of a dormant one the next life begins with it. Its initial one is this
 pub record HasPriority (initial x : Pri) (r : TaskRecord) : Type 0 where
@@ -117,7 +117,7 @@ module _ {Q : Type 0} (w : World Q) (t : Task) (initial x : Pri) (old : HasPrior
       (λ _. record { active = λ e. absurd (false≢true e); dormant = λ _. refl; setup = old.setup })
 
   priority_edits : (p : Proc) (c : TaskCall) (did : Effect) → ((is_done c did.answer && is_about t (runner_of w p) c) ≡ true → allows w p c o ≡ true) →
-      HasPriority initial (priority_after initial t (told (event.Call p (call.Task c)) (runner_of w p) did) x) (if is_done c did.answer && is_about t (runner_of w p) c then edited w c o else o)
+      HasPriority initial (priority_after initial t (report (event.Call p (call.Task c)) (runner_of w p) did) x) (if is_done c did.answer && is_about t (runner_of w p) c then edited w c o else o)
   priority_edits p (tasks.ActTsk id) did may = kept _ _ _ (activated _ _)
   priority_edits p (tasks.IactTsk id) did may = kept _ _ _ (activated _ _)
   priority_edits p (tasks.MactTsk id to) did may = kept _ _ _ (activated _ _)
@@ -135,7 +135,7 @@ module _ {Q : Type 0} (w : World Q) (t : Task) (initial x : Pri) (old : HasPrior
 pub priority_step : {Q : Type 0} (k : Ordering Q) (w : World Q) (t : Task) (initial x : Pri) → HasPriority initial x (task w t) → length w.tasks ≤ 64 → t.number ≤ length w.tasks → (e : Event) →
     HasPriority initial (priority_after initial t (step k w e).1 x) (task (step k w e).0 t)
 priority_step k w t initial x old few here e =
-    told_step (HasPriority initial) (priority_after initial t) (λ y r q same h. besides_have initial y r q same h) (λ r y ps z. refl) (others_leave initial t) k w t few here x old
+    report_step (HasPriority initial) (priority_after initial t) (λ y r q same h. besides_have initial y r q same h) (λ r y ps z. refl) (others_leave initial t) k w t few here x old
     (priority_edits w t initial x old) e
 
 -- Who asks is told.
@@ -156,15 +156,15 @@ module _ {Q : Type 0} (k : Ordering Q) (w : World Q) (p : Proc) (t : Task) (init
       let active : (task w u).active ≡ true = not-false _ a.errors.0 in
       ap (λ (y : Pri). Some (pos y.number)) (subst (λ (y : Task). (task w y).active ≡ true → (task w y).priority ≡ x) (sym here) old.active active))
 
-  tells_task : (c : TaskCall) → TellsPriority t x (told (event.Call p (call.Task c)) (runner_of w p) (called w p (task_row k w p c)).1)
+  tells_task : (c : TaskCall) → TellsPriority t x (report (event.Call p (call.Task c)) (runner_of w p) (called w p (task_row k w p c)).1)
   tells_task (tasks.GetPri id) = asked_tells id
   tells_task c = λ h. absurd (false≢true h)
 
-  tells_call : (c : Call) → TellsPriority t x (told (event.Call p c) (runner_of w p) (called w p (row_of k w p c)).1)
+  tells_call : (c : Call) → TellsPriority t x (report (event.Call p c) (runner_of w p) (called w p (row_of k w p c)).1)
   tells_call (call.Task c) = tells_task c
   tells_call c = λ h. absurd (false≢true h)
 
-  tells_idle : (c : Call) → TellsPriority t x (told (event.Call p c) (runner_of w p) (plain answer.Idle))
+  tells_idle : (c : Call) → TellsPriority t x (report (event.Call p c) (runner_of w p) (plain answer.Idle))
   tells_idle c = λ h. absurd (false≢true (and_parts (asks_priority t (runner_of w p) (event.Call p c)) false h).1)
 
 pub tells_step : {Q : Type 0} (k : Ordering Q) (w : World Q) (t : Task) (initial x : Pri) → HasPriority initial x (task w t) → length w.tasks ≤ 64 → (e : Event) → TellsPriority t x (step k w e).1

@@ -13,7 +13,7 @@ use Rattle.fmp_rules.specs.Ordering.{top}
 use Rattle.fmp_rules.specs.Arrivals.{State, numbered, in_order, is_ready_on, priority_in, comes_before}
 use Rattle.fmp_law_waits.specs.Waits.{setup_of}
 use Rattle.fmp_law_waits.specs.Asked.{OpenWait}
-use Rattle.fmp_law_records.specs.Standing.{Standing, stands_at, comes_first, ready_told, top_told}
+use Rattle.fmp_law_records.specs.Standing.{Standing, stands_at, comes_first, ready_reported, top_reported}
 use Rattle.fmp_law_records.proofs.Alike.{in_order_alike}
 use Rattle.fmp_law_records.proofs.Lines.{OrderedIn, can_run, number_of}
 use Rattle.fmp_law_records.proofs.Lives.{HasLife}
@@ -62,7 +62,7 @@ module _ (c : Setup) (s : Standing) (m : State) (h : Stands c s m) (few : length
       ∙ ap (λ n. nat_lt (s.priority t).number n || ((s.priority t).number == n && v)) y
       ∙ ap (λ z. nat_lt (s.priority t).number (s.priority u).number || ((s.priority t).number == (s.priority u).number && z)) (sym (h.line.same t u (runs t e) (runs u f)))
 
-  pub ready_same : (n : Pri) → numbered.ready m.order m.tasks p n ≡ ready_told c s p n
+  pub ready_same : (n : Pri) → numbered.ready m.order m.tasks p n ≡ ready_reported c s p n
   unfolding numbered
   ready_same n =
       in_order_alike (length m.tasks) few (λ t. is_ready_on m.tasks p t && priority_in m.tasks t == n.number) (λ t. stands_at s p t && (s.priority t).number == n.number) (comes_before (priority_in m.tasks) m.order.ready) (comes_first s)
@@ -70,7 +70,7 @@ module _ (c : Setup) (s : Standing) (m : State) (h : Stands c s m) (few : length
       (λ t u a b e f. first_same t u a b (and_parts _ _ e).0 (and_parts _ _ f).0) (length m.tasks) (omega arith)
       ∙ ap (in_order (λ t. stands_at s p t && (s.priority t).number == n.number) (comes_first s)) h.count
 
-  pub top_same : top numbered m p ≡ top_told c s p
+  pub top_same : top numbered m p ≡ top_reported c s p
   unfolding numbered
   top_same =
       ap first

@@ -52,8 +52,8 @@ pending_there : (among ends held l : Bool) → ends ≡ false → (if among then
 pending_there among ends held l e = rw e refl
 
 module _ (m : State) (p : Proc) (n : p.number ≤ length m.processors) where
-  abbrev pub PendingTold : (State × Record) → Type 0
-  PendingTold x = (processor x.0 p).latch ≡ pending_after p x.1 (is_held x.0 p) (processor m p).latch
+  abbrev pub PendingReported : (State × Record) → Type 0
+  PendingReported x = (processor x.0 p).latch ≡ pending_after p x.1 (is_held x.0 p) (processor m p).latch
 
   module _ (before : List (Option Task)) (v : State) (count : length v.processors ≡ length m.processors) where
     -- nothing of it is held otherwise at the end of the event
@@ -93,10 +93,10 @@ module _ (m : State) (p : Proc) (n : p.number ≤ length m.processors) where
 
   -- an event on q that did this comes to its end
   module _ (e : Event) (did : State × Effect) (count : length did.0.processors ≡ length m.processors) (same : (processor did.0 p).latch ≡ (processor m p).latch) where
-    abbrev EndTold : Proc → Type 0
-    EndTold q = (processor_of e).number ≡ q.number → came_to_end (runner_of m q) did.1.answer e ≡ true → PendingTold (settled numbered (before_event numbered m e q) did)
+    abbrev EndReported : Proc → Type 0
+    EndReported q = (processor_of e).number ≡ q.number → came_to_end (runner_of m q) did.1.answer e ≡ true → PendingReported (settled numbered (before_event numbered m e q) did)
 
-    end_here : EndTold p
+    end_here : EndReported p
     unfolding settled before_event
     end_here is came =
         let before : List (Option Task) = tops numbered m in
@@ -108,7 +108,7 @@ module _ (m : State) (p : Proc) (n : p.number ≤ length m.processors) where
         ∙ pending_here among ends (is_held did.0 p) (processor m p).latch (not_sent before did.0 count) ended
         ∙ ap (λ (h : Bool). if among then true else if ends && not h then false else (processor m p).latch) (sym (held_settled before did.0 count p))
 
-    end_there : (q : Proc) → (p.number ≡ q.number → ⊥) → EndTold q
+    end_there : (q : Proc) → (p.number ≡ q.number → ⊥) → EndReported q
     unfolding settled before_event
     end_there q d is came =
         let before : List (Option Task) = tops numbered m in
@@ -118,13 +118,13 @@ module _ (m : State) (p : Proc) (n : p.number ≤ length m.processors) where
         ∙ ap (λ (l : Bool). if among then true else l) same
         ∙ pending_there among ((processor_of e).number == p.number && came_to_end (runner_of m q) did.1.answer e) (is_held (settle numbered before did.0 q) p) (processor m p).latch (ap (λ b. b && came_to_end (runner_of m q) did.1.answer e) other)
 
-    end_told : (q : Proc) → EndTold q
-    end_told q = ⊎_elim (λ (i : p.number ≡ q.number). subst EndTold (processors_same p q i) end_here) (λ (d : p.number ≡ q.number → ⊥). end_there q d) (cases_eq p.number q.number)
+    end_reported : (q : Proc) → EndReported q
+    end_reported q = ⊎_elim (λ (i : p.number ≡ q.number). subst EndReported (processors_same p q i) end_here) (λ (d : p.number ≡ q.number → ⊥). end_there q d) (cases_eq p.number q.number)
 
   -- an event that changes nothing
-  stays_told : (e : Event) (q : Proc) (a : Answer) → came_to_end (runner_of m q) a e ≡ false → PendingTold (unchanged m e q a)
+  stays_reported : (e : Event) (q : Proc) (a : Answer) → came_to_end (runner_of m q) a e ≡ false → PendingReported (unchanged m e q a)
   unfolding unchanged
-  stays_told e q a not_ =
+  stays_reported e q a not_ =
       let b : Bool = (processor_of e).number == p.number in
       let none : (b && came_to_end (runner_of m q) a e) ≡ false = rw not_ (and_false b) in
       sym (cond-false (b && came_to_end (runner_of m q) a e && not (is_held m p)) false (processor m p).latch (ap (λ x. x && not (is_held m p)) none))
@@ -140,23 +140,23 @@ module _ (m : State) (p : Proc) (n : p.number ≤ length m.processors) where
         (λ (i : p.number ≡ q.number). subst (λ (x : Proc). (processor (called m x (row_of numbered m x c)).0 p).latch ≡ (processor m p).latch) (processors_same p q i) (ap (λ (x : Marks). x.latch) (flags_call numbered m p n c).here))
         (λ (d : p.number ≡ q.number → ⊥). ap (λ (x : Processor). x.latch) ((keeps_call numbered m numbered_lists s q (q.least, within) there c).processors p d)) (cases_eq p.number q.number)
 
-    pub pending_step : (e : Event) → (processor_of e).number ≤ length m.processors → PendingTold (step numbered m e)
+    pub pending_step : (e : Event) → (processor_of e).number ≤ length m.processors → PendingReported (step numbered m e)
     unfolding ticked
     pending_step (event.Call q c) within =
-        cond_both (is_some (runner_of m q)) _ _ PendingTold
-        (λ there. end_told (event.Call q c) (called m q (row_of numbered m q c)) (keeps_call numbered m numbered_lists s q (q.least, within) there c).count (call_latch q c there within) q refl there)
-        (λ none. stays_told (event.Call q c) q answer.Idle none)
+        cond_both (is_some (runner_of m q)) _ _ PendingReported
+        (λ there. end_reported (event.Call q c) (called m q (row_of numbered m q c)) (keeps_call numbered m numbered_lists s q (q.least, within) there c).count (call_latch q c there within) q refl there)
+        (λ none. stays_reported (event.Call q c) q answer.Idle none)
     pending_step (event.Tick q) within =
-        cond_both (has_time m.timer q) _ _ PendingTold
+        cond_both (has_time m.timer q) _ _ PendingReported
         (λ _.
-        cond_both ((processor m q).locked || is_some (handler m q)) _ _ PendingTold (λ _. stays_told (event.Tick q) q answer.Held refl)
+        cond_both ((processor m q).locked || is_some (handler m q)) _ _ PendingReported (λ _. stays_reported (event.Tick q) q answer.Held refl)
         (λ _.
-        end_told (event.Tick q) (tick numbered m q) (ap length (tick_still numbered q m).0) (ap (λ cs. (item no_processor cs p.number).latch) (tick_still numbered q m).0) q refl refl))
-        (λ _. stays_told (event.Tick q) q answer.Nothing refl)
+        end_reported (event.Tick q) (tick numbered m q) (ap length (tick_still numbered q m).0) (ap (λ cs. (item no_processor cs p.number).latch) (tick_still numbered q m).0) q refl refl))
+        (λ _. stays_reported (event.Tick q) q answer.Nothing refl)
     pending_step (event.Ipi q) within =
-        cond_both (is_held m q) _ _ PendingTold (λ _. stays_told (event.Ipi q) q answer.Held refl)
+        cond_both (is_held m q) _ _ PendingReported (λ _. stays_reported (event.Ipi q) q answer.Held refl)
         (λ _.
-        end_told (event.Ipi q) (m, plain (if (processor m q).latch then answer.Taken else answer.Nothing)) refl refl q refl
+        end_reported (event.Ipi q) (m, plain (if (processor m q).latch then answer.Taken else answer.Nothing)) refl refl q refl
         (cond_both (processor m q).latch answer.Taken answer.Nothing (λ a. not (is_held_back a) ≡ true) (λ _. refl) (λ _. refl)))
 
 -- What an interrupt and a tick answer.

@@ -50,9 +50,9 @@ pub waits_by : (c : Setup) (rs : List Record) (x : Places) → (places_by c rs x
 waits_by c [] x = refl
 waits_by c (r ∷ rs) x = waits_by c rs (places_after c r x)
 
-pub priority_told_by : (c : Setup) (t : Task) (rs : List Record) (x : Places) → (places_by c rs x).priority t ≡ priority_by (setup_of c t).priority t rs (x.priority t)
-priority_told_by c t [] x = refl
-priority_told_by c t (r ∷ rs) x = priority_told_by c t rs (places_after c r x)
+pub priority_reported_by : (c : Setup) (t : Task) (rs : List Record) (x : Places) → (places_by c rs x).priority t ≡ priority_by (setup_of c t).priority t rs (x.priority t)
+priority_reported_by c t [] x = refl
+priority_reported_by c t (r ∷ rs) x = priority_reported_by c t rs (places_after c r x)
 
 -- At boot nobody waits.
 
@@ -93,7 +93,7 @@ module _ (c : Setup) where
   placed_run x m [] ready placed = placed
   placed_run x m (e ∷ es) ready placed =
       placed_run (places_after c (step numbered m e).1 x) (step numbered m e).0 es (ready_next c x.waits m e es ready)
-      (placed_step c m x placed ready.safe ready.sound ready.told e (followed c x.waits m (e ∷ es) ready e).counts.0)
+      (placed_step c m x placed ready.safe ready.sound ready.report e (followed c x.waits m (e ∷ es) ready e).counts.0)
 
 -- who waits is active
 pub waiting_active : (m : State) → Safe numbered m → (t : Task) → is_some (task m t).wait ≡ true → (task m t).active ≡ true
@@ -117,10 +117,10 @@ serves_in_order c events valid on e =
     let rs : List Record = answers numbered (booted c) events in
     let x : Places = places_by c rs (places_at_boot c) in
     let ready = ready_after c valid events on in
-    let waits : (t : Task) → IsKept c m t (x.waits t) = λ t. subst (λ (pending : OpenWaits). IsKept c m t (pending t)) (sym (waits_by c rs (places_at_boot c))) (ready.told t) in
+    let waits : (t : Task) → IsKept c m t (x.waits t) = λ t. subst (λ (pending : OpenWaits). IsKept c m t (pending t)) (sym (waits_by c rs (places_at_boot c))) (ready.report t) in
     serves_step c m x (placed_run c (places_at_boot c) (booted c) events (ready_at_boot c valid events on) (placed_booted c valid.few_tasks)) ready.safe ready.sound waits
     (λ t open_.
     let waits_now : is_some (task m t).wait ≡ true = open_waits (task m t).wait (x.waits t) (waits t).0.wait open_ in
     let here : t.number ≤ length c.tasks = rw (sym ready.tasks) (not_past (λ (r : TaskRecord). is_some r.wait) no_task m.tasks t.number t.least refl waits_now) in
-    priority_after_all c events valid on t here (waiting_active m ready.safe t waits_now) ∙ sym (priority_told_by c t rs (places_at_boot c)))
+    priority_after_all c events valid on t here (waiting_active m ready.safe t waits_now) ∙ sym (priority_reported_by c t rs (places_at_boot c)))
     e

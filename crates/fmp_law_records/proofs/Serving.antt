@@ -1,5 +1,5 @@
 -- What each call that is none on tasks and none on the processors leaves of the order of the ready tasks: those that it releases are
--- put last, one behind the other.
+-- put last, one after the other.
 use Rattle.std.proofs.Common.{◌≡◌, ℕ, ℤ, true, false, List, [], ◌∷◌, Option, Some, None, Bool}
 use Rattle.std.specs.Prelude.{if◌then◌else◌, is_some, nat_lt, unwrap_or}
 use Rattle.std.proofs.lemmas.Bool.{cond_both, false≢true}

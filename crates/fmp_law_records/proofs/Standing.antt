@@ -41,7 +41,7 @@ use Rattle.fmp_law_safety.specs.Safe.{Safe}
 use Rattle.fmp_law_safety.proofs.Calls.{FromTask, from_task}
 use Rattle.fmp_law_balance.specs.Accepted.{is_accepted}
 use Rattle.fmp_law_balance.proofs.Called.{refuses, by_called, either_way, not_accepted}
-use Rattle.fmp_law_balance.proofs.Steps.{told}
+use Rattle.fmp_law_balance.proofs.Steps.{report}
 use Rattle.fmp_law_waits.specs.Waits.{setup_of}
 use Rattle.fmp_law_waits.proofs.Events.{by_event}
 use Rattle.fmp_law_waits.proofs.Follows.{running_within, running_may}
@@ -49,13 +49,13 @@ use Rattle.fmp_law_waits.proofs.Named.{caller_runs, task_known}
 use Rattle.fmp_law_counts.proofs.Tasks.{is_caller_of, named_or_caller_is}
 use Rattle.fmp_law_records.specs.Priorities.{given_by}
 use Rattle.fmp_law_records.specs.Handlers.{taken_to}
-use Rattle.fmp_law_records.specs.Lives.{LifeTold}
+use Rattle.fmp_law_records.specs.Lives.{LifeReported}
 use Rattle.fmp_law_records.specs.Accepting.{is_about}
 use Rattle.fmp_law_records.specs.Line.{Line, put_released, is_done, puts_it_last}
-use Rattle.fmp_law_records.specs.Standing.{Standing, puts_last, line_after, is_that, rotates, own_priority, processor_of_number, ready_told}
+use Rattle.fmp_law_records.specs.Standing.{Standing, puts_last, line_after, is_that, rotates, own_priority, processor_of_number, ready_reported}
 use Rattle.fmp_law_records.proofs.Alarms.{taken_is}
 use Rattle.fmp_law_records.proofs.Edits.{refusal}
-use Rattle.fmp_law_records.proofs.Told.{idle_undone}
+use Rattle.fmp_law_records.proofs.Report.{idle_undone}
 use Rattle.fmp_law_records.proofs.Priorities.{given_same}
 use Rattle.fmp_law_records.proofs.Lines.{OrderedIn, can_run, ready_within, ordered_still, ordered_place, ordered_end, ordered_requeue, ordered_with, ordered_ready, ordered_begin}
 use Rattle.fmp_law_records.proofs.Serving.{Serves, done_or_waits, is_other, call_serves, tick_serves}
@@ -72,7 +72,7 @@ and_undone false b c e = refl
 
 module _ (c : Setup) (s : Standing) (m : State) (h : Stands c s m) (safe : Safe numbered m) (few : length m.tasks ≤ 64) (p : Proc) where
   abbrev record_of : Event → Effect → Record
-  record_of e a = told e (runner_of m p) a
+  record_of e a = report e (runner_of m p) a
 
   abbrev Lined : Event → State × Effect → Type 0
   Lined e did = OrderedIn (line_after c s (record_of e did.1)) did.0
@@ -116,7 +116,7 @@ module _ (c : Setup) (s : Standing) (m : State) (h : Stands c s m) (safe : Safe 
     LinedBy did = Lined e did
 
     -- the call puts nobody last
-    never : ((k : Class) (y : LifeTold) → puts_it_last k y x ≡ false) → (did : State × Effect) → OrderedIn (put_released s.line did.1.releases) did.0 → LinedBy did
+    never : ((k : Class) (y : LifeReported) → puts_it_last k y x ≡ false) → (did : State × Effect) → OrderedIn (put_released s.line did.1.releases) did.0 → LinedBy did
     never none did old = unput e did (λ t runs. ap (λ b. is_about t (runner_of m p) x && (is_done x did.1.answer && b)) (none (setup_of c t).class (s.life t)) ∙ and_none (is_about t (runner_of m p) x) (is_done x did.1.answer)) old
 
     undone : (did : State × Effect) → is_done x did.1.answer ≡ false → OrderedIn (put_released s.line did.1.releases) did.0 → LinedBy did
@@ -151,7 +151,7 @@ module _ (c : Setup) (s : Standing) (m : State) (h : Stands c s m) (safe : Safe 
           (λ d. others_not t d) (cases_eq t.number u.number)) old
 
     acted : (u : Task) → ((t : Task) → is_about t (runner_of m p) x ≡ (u.number == t.number)) → (to : Proc) (kept : Option Proc) →
-        ((k : Class) (y : LifeTold) → (is_done x (answer.Done code.Accepted None) && puts_it_last k y x) ≡ not y.active) → LinedBy (activate numbered m u to kept, done)
+        ((k : Class) (y : LifeReported) → (is_done x (answer.Done code.Accepted None) && puts_it_last k y x) ≡ not y.active) → LinedBy (activate numbered m u to kept, done)
     acted u named to kept puts =
         let r : TaskRecord = record (task m u) { activations = 1; kept = kept } in
         cond_both (task m u).active (with_task m u r) (start numbered m u to) (λ (v : State). LinedBy (v, done))
@@ -179,7 +179,7 @@ module _ (c : Setup) (s : Standing) (m : State) (h : Stands c s m) (safe : Safe 
       (λ here. task_stays (tasks.MigTsk id to) u named ok m refl (λ within. ap not (sym (same within) ∙ here)) h.line)
       (λ there. task_placed (tasks.MigTsk id to) u named ok r (λ within _. ap not (sym (same within) ∙ there)))
 
-  slept : (x : TaskCall) → ((k : Class) (y : LifeTold) → puts_it_last k y x ≡ false) → (timeout : ℤ) → LinedBy x (called m p (tslp_tsk numbered m p timeout))
+  slept : (x : TaskCall) → ((k : Class) (y : LifeReported) → puts_it_last k y x ≡ false) → (timeout : ℤ) → LinedBy x (called m p (tslp_tsk numbered m p timeout))
   unfolding tslp_tsk
   slept x none timeout =
       let u : Task = caller m p in
@@ -195,7 +195,7 @@ module _ (c : Setup) (s : Standing) (m : State) (h : Stands c s m) (safe : Safe 
       let r : TaskRecord = record (task m u) { wakeups = (task m u).wakeups + 1 } in
       cond_both (is_sleep (task m u).wait) _ _ (Serves m) (λ _. record { line = λ l g. ordered_ready m l u g }) (λ _. record { line = λ l g. ordered_with m l u r refl g })
 
-  served : (x : TaskCall) → ((k : Class) (y : LifeTold) → puts_it_last k y x ≡ false) → (row : Row Arrivals) → Serves m row.effect → LinedBy x (called m p row)
+  served : (x : TaskCall) → ((k : Class) (y : LifeReported) → puts_it_last k y x ≡ false) → (row : Row Arrivals) → Serves m row.effect → LinedBy x (called m p row)
   served x none row accepted = never x none (called m p row) ((either_way m p (Serves m) row (λ y. record { line = λ l g. g }) accepted).line s.line h.line)
 
   suspended_stops : (b d : Bool) → (b && d && not true) ≡ false
@@ -298,8 +298,8 @@ module _ (c : Setup) (s : Standing) (m : State) (h : Stands c s m) (safe : Safe 
   refused_at x y refusing =
       unput (event.Call p (call.System x)) (m, refused y) (λ t runs. ap (λ b. b && is_that (rotates c s (runner_of m p) (event.Call p (call.System x))) t) (not_accepted y refusing)) h.line
 
-  first_told : (q r : Proc) (n j : Pri) → q ≡ r → n ≡ j → first (numbered.ready m.order m.tasks q n) ≡ first (ready_told c s r j)
-  first_told q r n j same there = ap first (ready_same c s m h few q n ∙ ap (λ y. ready_told c s y n) same ∙ ap (ready_told c s r) there)
+  first_reported : (q r : Proc) (n j : Pri) → q ≡ r → n ≡ j → first (numbered.ready m.order m.tasks q n) ≡ first (ready_reported c s r j)
+  first_reported q r n j same there = ap first (ready_same c s m h few q n ∙ ap (λ y. ready_reported c s y n) same ∙ ap (ready_reported c s r) there)
 
   nobody : (b : Bool) → (b && false) ≡ false
   nobody true = refl
@@ -315,16 +315,16 @@ module _ (c : Setup) (s : Standing) (m : State) (h : Stands c s m) (safe : Safe 
   unfolding rotation rotation_in_handler
   system_line (system.RotRdq n) =
       by_called m p (LinedAt (system.RotRdq n)) (rotation numbered m p (Some p) n) tt (refused_at (system.RotRdq n))
-      (λ a. rotated (system.RotRdq n) _ (first_told p p _ _ refl (own_of_task (from_task m p false false a.rule) n)))
+      (λ a. rotated (system.RotRdq n) _ (first_reported p p _ _ refl (own_of_task (from_task m p false false a.rule) n)))
   system_line (system.IrotRdq n) =
       by_called m p (LinedAt (system.IrotRdq n)) (rotation_in_handler numbered m p (Some p) n) tt (refused_at (system.IrotRdq n))
-      (λ a. rotated (system.IrotRdq n) _ (first_told p p _ _ refl (of_number _ _ n a.proper)))
+      (λ a. rotated (system.IrotRdq n) _ (first_reported p p _ _ refl (of_number _ _ n a.proper)))
   system_line (system.MrotRdq n q) =
       by_called m p (LinedAt (system.MrotRdq n q)) (rotation numbered m p (processor_named m q) n) tt (refused_at (system.MrotRdq n q))
-      (λ a. rotated (system.MrotRdq n q) _ (first_told _ _ _ _ (named_there q a.known) (own_of_task (from_task m p false false a.rule) n)))
+      (λ a. rotated (system.MrotRdq n q) _ (first_reported _ _ _ _ (named_there q a.known) (own_of_task (from_task m p false false a.rule) n)))
   system_line (system.ImrotRdq n q) =
       by_called m p (LinedAt (system.ImrotRdq n q)) (rotation_in_handler numbered m p (processor_named m q) n) tt (refused_at (system.ImrotRdq n q))
-      (λ a. rotated (system.ImrotRdq n q) _ (first_told _ _ _ _ (named_there q a.known) (of_number _ _ n a.proper)))
+      (λ a. rotated (system.ImrotRdq n q) _ (first_reported _ _ _ _ (named_there q a.known) (of_number _ _ n a.proper)))
   system_line x = at_rest x (λ t a. nobody (is_accepted a)) (record { line = λ l g. g })
 
   -- Any event.

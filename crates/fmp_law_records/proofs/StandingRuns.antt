@@ -24,7 +24,7 @@ use Rattle.fmp_law_safety.proofs.Items.{item_holds}
 use Rattle.fmp_law_waits.specs.Waits.{setup_of}
 use Rattle.fmp_law_counts.proofs.Ready.{Ready, ready_next, ready_at_boot, prefix_on}
 use Rattle.fmp_law_records.specs.Line.{Line}
-use Rattle.fmp_law_records.specs.Standing.{Standing, standing_after, standing_by, standing_at_boot, told_standing, AreReadyTold}
+use Rattle.fmp_law_records.specs.Standing.{Standing, standing_after, standing_by, standing_at_boot, report_standing, AreReadyReported}
 use Rattle.fmp_law_records.proofs.Booted.{booted_unsuspended, booted_priority}
 use Rattle.fmp_law_records.proofs.Lives.{life_step}
 use Rattle.fmp_law_records.proofs.LivesRuns.{booted_life}
@@ -85,7 +85,7 @@ module _ (c : Setup) where
         life = λ t n. let here : t.number ≤ length m.tasks = rw (sym same) n in life_step numbered m t (setup_of c t).class (s.life t) (h.life t here) few here e;
         suspended = λ t n. let here : t.number ≤ length m.tasks = rw (sym same) n in suspension_step numbered m t (s.suspended t) (h.suspended t here) ready.safe few here e;
         priority = λ t n. let here : t.number ≤ length m.tasks = rw (sym same) n in priority_step numbered m t (setup_of c t).priority (s.priority t) (h.priority t here) few here e;
-        waits = λ t. (next.told t).0.wait;
+        waits = λ t. (next.report t).0.wait;
         line = line_step c s m h ready.safe few e;
         count = next.tasks;
       }
@@ -101,24 +101,24 @@ module _ (c : Setup) where
       record {
         life = λ t n. booted_life c t (rw (sym ready.tasks) n) valid;
         suspended = λ t n. booted_unsuspended c few t;
-        priority = λ t n. booted_priority c few t (ap (λ s. s.priority) (ready.told t).1);
-        waits = λ t. (ready.told t).0.wait;
+        priority = λ t n. booted_priority c few t (ap (λ s. s.priority) (ready.report t).1);
+        waits = λ t. (ready.report t).0.wait;
         line = booted_line few;
         count = ready.tasks;
       }
 
-  pub stands_from_boot : (es : List Event) → IsValid c → AreOn c.processors es → Stands c (told_standing c (answers numbered (booted c) es)) (replay numbered (booted c) es)
+  pub stands_from_boot : (es : List Event) → IsValid c → AreOn c.processors es → Stands c (report_standing c (answers numbered (booted c) es)) (replay numbered (booted c) es)
   stands_from_boot es valid on = stands_run (standing_at_boot c) (booted c) es (ready_at_boot c valid es on) (booted_stands valid es on)
 
-  after_all : (es : List Event) → IsValid c → AreOn c.processors es → (p : Proc) → AreReadyTold c (told_standing c (answers numbered (booted c) es)) (replay numbered (booted c) es) p
+  after_all : (es : List Event) → IsValid c → AreOn c.processors es → (p : Proc) → AreReadyReported c (report_standing c (answers numbered (booted c) es)) (replay numbered (booted c) es) p
   after_all es valid on p =
       let h = stands_from_boot es valid on in
       let m : State = replay numbered (booted c) es in
       let few : length m.tasks ≤ 64 = rw h.count valid.few_tasks in
       record { ready = ready_same c _ m h few p; top = top_same c _ m h few p }
 
-pub order_told : (c : Setup) (events : List Event) → IsValid c → AreOn c.processors events → (n : ℕ) (p : Proc) →
-    AreReadyTold c (told_standing c (take n (answers numbered (booted c) events))) (replay numbered (booted c) (take n events)) p
-order_told c events valid on n p =
+pub order_reported : (c : Setup) (events : List Event) → IsValid c → AreOn c.processors events → (n : ℕ) (p : Proc) →
+    AreReadyReported c (report_standing c (take n (answers numbered (booted c) events))) (replay numbered (booted c) (take n events)) p
+order_reported c events valid on n p =
     let es : List Event = take n events in
-    subst (λ rs. AreReadyTold c (told_standing c rs) (replay numbered (booted c) es) p) (answers_take n (booted c) events) (after_all c es valid (prefix_on n c.processors events on) p)
+    subst (λ rs. AreReadyReported c (report_standing c rs) (replay numbered (booted c) es) p) (answers_take n (booted c) events) (after_all c es valid (prefix_on n c.processors events on) p)

@@ -35,7 +35,7 @@ use Rattle.fmp_law_safety.specs.Safe.{Safe}
 use Rattle.fmp_law_safety.proofs.Items.{item_holds}
 use Rattle.fmp_law_balance.specs.Accepted.{is_accepted}
 use Rattle.fmp_law_balance.specs.Queues.{is_task}
-use Rattle.fmp_law_balance.proofs.Steps.{told}
+use Rattle.fmp_law_balance.proofs.Steps.{report}
 use Rattle.fmp_law_waits.specs.Waits.{is_number_of}
 use Rattle.fmp_law_counts.specs.Naming.{names_task}
 use Rattle.fmp_law_records.specs.Suspensions.{suspends, resumes, suspended_after, is_overflow}
@@ -43,7 +43,7 @@ use Rattle.fmp_law_records.specs.Accepting.{is_about}
 use Rattle.fmp_law_records.specs.Line.{is_done}
 use Rattle.fmp_law_records.proofs.Edits.{activated_as, edited}
 use Rattle.fmp_law_records.proofs.Allows.{allows, task_allows}
-use Rattle.fmp_law_records.proofs.Told.{is_of_tasks, either, swapped, told_step}
+use Rattle.fmp_law_records.proofs.Report.{is_of_tasks, either, swapped, report_step}
 
 -- this is suspended, or not
 abbrev pub IsSo : Bool → TaskRecord → Type 0
@@ -78,7 +78,7 @@ module _ {Q : Type 0} (w : World Q) (t : Task) where
     none_at_end = cond_both (nat_lt 0 o.activations) _ _ (IsSo false) (λ _. refl) (λ _. refl)
 
     suspension_edits : (p : Proc) (c : TaskCall) (did : Effect) → ((is_done c did.answer && is_about t (runner_of w p) c) ≡ true → allows w p c o ≡ true) →
-        (if is_done c did.answer && is_about t (runner_of w p) c then edited w c o else o).suspended ≡ suspended_after t (told (event.Call p (call.Task c)) (runner_of w p) did) x
+        (if is_done c did.answer && is_about t (runner_of w p) c then edited w c o else o).suspended ≡ suspended_after t (report (event.Call p (call.Task c)) (runner_of w p) did) x
     suspension_edits p (tasks.ActTsk id) did may = kept _ _ (activated _ _)
     suspension_edits p (tasks.IactTsk id) did may = kept _ _ (activated _ _)
     suspension_edits p (tasks.MactTsk id to) did may = kept _ _ (activated _ _)
@@ -99,7 +99,7 @@ module _ {Q : Type 0} (w : World Q) (t : Task) where
 pub suspension_step : {Q : Type 0} (k : Ordering Q) (w : World Q) (t : Task) (x : Bool) → (task w t).suspended ≡ x → Safe k w → length w.tasks ≤ 64 → t.number ≤ length w.tasks → (e : Event) →
     (task (step k w e).0 t).suspended ≡ suspended_after t (step k w e).1 x
 suspension_step k w t x old s few here e =
-    told_step IsSo (suspended_after t) (λ y r q same h. ap (λ (z : TaskRecord). z.suspended) same ∙ h) (λ r y ps z. refl) (others_leave t) k w t few here x old
+    report_step IsSo (suspended_after t) (λ y r q same h. ap (λ (z : TaskRecord). z.suspended) same ∙ h) (λ r y ps z. refl) (others_leave t) k w t few here x old
     (suspension_edits w t x old (dormant_is_not w t s)) e
 
 -- A suspension begins only where there is none, is refused only where there is one, and ends only where there is one.
@@ -141,8 +141,8 @@ nothing_fits t x r no_call = record {
     no_resumes e h = refl
 
 module _ {Q : Type 0} (k : Ordering Q) (w : World Q) (p : Proc) (t : Task) (x : Bool) (old : (task w t).suspended ≡ x) (few : length w.tasks ≤ 64) where
-  abbrev told_of : TaskCall → Effect → Record
-  told_of c did = told (event.Call p (call.Task c)) (runner_of w p) did
+  abbrev report_of : TaskCall → Effect → Record
+  report_of c did = report (event.Call p (call.Task c)) (runner_of w p) did
 
   not_so : (b : Bool) → not b ≡ true → b ≡ false
   not_so false h = refl
@@ -169,7 +169,7 @@ module _ {Q : Type 0} (k : Ordering Q) (w : World Q) (p : Proc) (t : Task) (x : 
           let u : Task = unwrap_or o (as_task 1) in
           sym old ∙ subst (λ (y : Task). (task w y).suspended ≡ true) (tasks_same u t (eqb-true u.number t.number (sym named ∙ both.0))) (last_test (task w u).suspended four.1)
 
-  fits_task : (c : TaskCall) → Fits t x (told_of c (called w p (task_row k w p c)).1)
+  fits_task : (c : TaskCall) → Fits t x (report_of c (called w p (task_row k w p c)).1)
   fits_task (tasks.SusTsk id) =
       let a : Answer = (called w p (task_row k w p (tasks.SusTsk id))).1.answer in
       record {
@@ -190,18 +190,18 @@ module _ {Q : Type 0} (k : Ordering Q) (w : World Q) (p : Proc) (t : Task) (x : 
       }
   fits_task c = record { begun = λ h. absurd (false≢true h); twice = λ h. absurd (false≢true h); ended = λ h. absurd (false≢true h) }
 
-  idle_fits : (c : TaskCall) → Fits t x (told_of c (plain answer.Idle))
+  idle_fits : (c : TaskCall) → Fits t x (report_of c (plain answer.Idle))
   idle_fits c = record {
     begun = λ h. absurd (false≢true (and_parts (suspends t (runner_of w p) (event.Call p (call.Task c))) false h).1);
     twice = λ h. absurd (false≢true (and_parts (suspends t (runner_of w p) (event.Call p (call.Task c))) false h).1);
     ended = λ h. absurd (false≢true (and_parts (resumes t (event.Call p (call.Task c))) false h).1);
   }
 
-  fits_call : (c : Call) → Fits t x (told (event.Call p c) (runner_of w p) (called w p (row_of k w p c)).1)
+  fits_call : (c : Call) → Fits t x (report (event.Call p c) (runner_of w p) (called w p (row_of k w p c)).1)
   fits_call (call.Task c) = fits_task c
   fits_call c = nothing_fits t x _ refl
 
-  fits_idle : (c : Call) → Fits t x (told (event.Call p c) (runner_of w p) (plain answer.Idle))
+  fits_idle : (c : Call) → Fits t x (report (event.Call p c) (runner_of w p) (plain answer.Idle))
   fits_idle (call.Task c) = idle_fits c
   fits_idle c = nothing_fits t x _ refl
 

@@ -15,8 +15,8 @@ use Rattle.fmp_rules.proofs.Replays.{answers_take}
 use Rattle.fmp_law_safety.specs.Runs.{processor_of, AreOn}
 use Rattle.fmp_law_waits.specs.Waits.{OpenWaits, nobody_waits, after_record, setup_of}
 use Rattle.fmp_law_counts.proofs.Ready.{Ready, ready_next, ready_later, ready_at_boot, ready_after, prefix_on}
-use Rattle.fmp_law_records.specs.Suspensions.{suspended_after, suspended_by, IsSuspensionTold, SuspensionFits}
-use Rattle.fmp_law_records.specs.Priorities.{priority_after, priority_by, told_priority, IsPriorityTold, TellsPriority}
+use Rattle.fmp_law_records.specs.Suspensions.{suspended_after, suspended_by, IsSuspensionReported, SuspensionFits}
+use Rattle.fmp_law_records.specs.Priorities.{priority_after, priority_by, report_priority, IsPriorityReported, TellsPriority}
 use Rattle.fmp_law_records.proofs.Suspensions.{suspension_step, fits_step}
 use Rattle.fmp_law_records.proofs.Priorities.{HasPriority, priority_step, tells_step}
 use Rattle.fmp_law_records.proofs.Begins.{begins_unsuspended}
@@ -40,16 +40,16 @@ module _ (c : Setup) (t : Task) (here : t.number ≤ length c.tasks) where
   pub suspension_from_boot : (es : List Event) → IsValid c → AreOn c.processors es → (task (replay numbered (booted c) es) t).suspended ≡ suspended_by t (answers numbered (booted c) es) false
   suspension_from_boot es valid on = suspension_run nobody_waits (booted c) es false (ready_at_boot c valid es on) (booted_unsuspended c valid.few_tasks t)
 
-  priority_from_boot : (es : List Event) → IsValid c → AreOn c.processors es → HasPriority (setup_of c t).priority (told_priority c t (answers numbered (booted c) es)) (task (replay numbered (booted c) es) t)
+  priority_from_boot : (es : List Event) → IsValid c → AreOn c.processors es → HasPriority (setup_of c t).priority (report_priority c t (answers numbered (booted c) es)) (task (replay numbered (booted c) es) t)
   priority_from_boot es valid on =
       let ready = ready_at_boot c valid es on in
-      priority_run (setup_of c t).priority nobody_waits (booted c) es (setup_of c t).priority ready (booted_priority c valid.few_tasks t (ap (λ s. s.priority) (ready.told t).1))
+      priority_run (setup_of c t).priority nobody_waits (booted c) es (setup_of c t).priority ready (booted_priority c valid.few_tasks t (ap (λ s. s.priority) (ready.report t).1))
 
-pub suspensions_told : (c : Setup) (events : List Event) → IsValid c → AreOn c.processors events → (n : ℕ) (t : Task) → t.number ≤ length c.tasks →
-    IsSuspensionTold (take n (answers numbered (booted c) events)) (replay numbered (booted c) (take n events)) t
-suspensions_told c events valid on n t here =
+pub suspensions_reported : (c : Setup) (events : List Event) → IsValid c → AreOn c.processors events → (n : ℕ) (t : Task) → t.number ≤ length c.tasks →
+    IsSuspensionReported (take n (answers numbered (booted c) events)) (replay numbered (booted c) (take n events)) t
+suspensions_reported c events valid on n t here =
     let es : List Event = take n events in
-    subst (λ rs. IsSuspensionTold rs (replay numbered (booted c) es) t) (answers_take n (booted c) events) (suspension_from_boot c t here es valid (prefix_on n c.processors events on))
+    subst (λ rs. IsSuspensionReported rs (replay numbered (booted c) es) t) (answers_take n (booted c) events) (suspension_from_boot c t here es valid (prefix_on n c.processors events on))
 
 pub suspensions_fit : (c : Setup) (events : List Event) → IsValid c → AreOn c.processors events → (e : Event) (t : Task) → (processor_of e).number ≤ c.processors → t.number ≤ length c.tasks →
     SuspensionFits t (suspended_by t (answers numbered (booted c) events) false) (step numbered (replay numbered (booted c) events) e).1
@@ -72,17 +72,17 @@ suspensions_fit c events valid on e t within here =
     }
 
 -- after all of these events
-pub priority_after_all : (c : Setup) (events : List Event) → IsValid c → AreOn c.processors events → (t : Task) → t.number ≤ length c.tasks → IsPriorityTold c (answers numbered (booted c) events) (replay numbered (booted c) events) t
+pub priority_after_all : (c : Setup) (events : List Event) → IsValid c → AreOn c.processors events → (t : Task) → t.number ≤ length c.tasks → IsPriorityReported c (answers numbered (booted c) events) (replay numbered (booted c) events) t
 priority_after_all c events valid on t here = (priority_from_boot c t here events valid on).active
 
-pub priorities_told : (c : Setup) (events : List Event) → IsValid c → AreOn c.processors events → (n : ℕ) (t : Task) → t.number ≤ length c.tasks →
-    IsPriorityTold c (take n (answers numbered (booted c) events)) (replay numbered (booted c) (take n events)) t
-priorities_told c events valid on n t here =
+pub priorities_reported : (c : Setup) (events : List Event) → IsValid c → AreOn c.processors events → (n : ℕ) (t : Task) → t.number ≤ length c.tasks →
+    IsPriorityReported c (take n (answers numbered (booted c) events)) (replay numbered (booted c) (take n events)) t
+priorities_reported c events valid on n t here =
     let es : List Event = take n events in
-    subst (λ rs. IsPriorityTold c rs (replay numbered (booted c) es) t) (answers_take n (booted c) events) (priority_after_all c es valid (prefix_on n c.processors events on) t here)
+    subst (λ rs. IsPriorityReported c rs (replay numbered (booted c) es) t) (answers_take n (booted c) events) (priority_after_all c es valid (prefix_on n c.processors events on) t here)
 
 pub priorities_answered : (c : Setup) (events : List Event) → IsValid c → AreOn c.processors events → (e : Event) (t : Task) → t.number ≤ length c.tasks →
-    TellsPriority t (told_priority c t (answers numbered (booted c) events)) (step numbered (replay numbered (booted c) events) e).1
+    TellsPriority t (report_priority c t (answers numbered (booted c) events)) (step numbered (replay numbered (booted c) events) e).1
 priorities_answered c events valid on e t here =
     let ready = ready_after c valid events on in
-    tells_step numbered (replay numbered (booted c) events) t (setup_of c t).priority (told_priority c t (answers numbered (booted c) events)) (priority_from_boot c t here events valid on) ready.sound.few_tasks e
+    tells_step numbered (replay numbered (booted c) events) t (setup_of c t).priority (report_priority c t (answers numbered (booted c) events)) (priority_from_boot c t here events valid on) ready.sound.few_tasks e

@@ -52,15 +52,15 @@ module _ (m : State) (s : Safe numbered m) where
     begun = λ now h.
         let after : State = settle numbered (tops numbered m) did.0 q in
         let top_is : top numbered did.0 q ≡ top numbered after (processor_of e) = ap (λ (u : State). top numbered u q) (sym (settle_is numbered (tops numbered m) did.0 q)) ∙ ap (top numbered after) (sym is) in
-        ⊎_elim (λ kept_. absurd (none_told (processor m q).running (processor after q).running now (kept_ ∙ keeps.running) h)) (λ first_. told_is (processor m q).running (processor after q).running now h ∙ first_ ∙ top_is)
+        ⊎_elim (λ kept_. absurd (none_reported (processor m q).running (processor after q).running now (kept_ ∙ keeps.running) h)) (λ first_. report_is (processor m q).running (processor after q).running now h ∙ first_ ∙ top_is)
         (runs_or_top numbered (tops numbered m) did.0 q (rw keeps.count n));
   }
     where
-      told_is : (a b now : Option Task) → changed_run a b ≡ Some now → now ≡ b
-      told_is a b now h = cond_both (is_same a b) None (Some b) (λ (x : Option (Option Task)). x ≡ Some now → now ≡ b) (λ _ f. absurd (none-some now f)) (λ _ f. sym (same_Some b now f)) h
+      report_is : (a b now : Option Task) → changed_run a b ≡ Some now → now ≡ b
+      report_is a b now h = cond_both (is_same a b) None (Some b) (λ (x : Option (Option Task)). x ≡ Some now → now ≡ b) (λ _ f. absurd (none-some now f)) (λ _ f. sym (same_Some b now f)) h
 
-      none_told : (a b now : Option Task) → b ≡ a → changed_run a b ≡ Some now → ⊥
-      none_told a b now same h = none-some now (sym (cond-true (is_same a b) None (Some b) (ap (is_same a) same ∙ same_itself a)) ∙ h)
+      none_reported : (a b now : Option Task) → b ≡ a → changed_run a b ≡ Some now → ⊥
+      none_reported a b now same h = none-some now (sym (cond-true (is_same a b) None (Some b) (ap (is_same a) same ∙ same_itself a)) ∙ h)
 
   -- an event that changes nothing
   sends_none : (e : Event) (q : Proc) (a : Answer) → Sends e (unchanged m e q a)

@@ -14,9 +14,9 @@ use Rattle.fmp_rules.specs.Step.{is_same, step, replay, answers}
 use Rattle.fmp_rules.specs.Boot.{booted}
 use Rattle.fmp_law_safety.specs.Runs.{processor_of, AreOn}
 use Rattle.fmp_law_waits.specs.Waits.{nobody_waits, after_records}
-use Rattle.fmp_law_waits.proofs.Events.{event_told}
+use Rattle.fmp_law_waits.proofs.Events.{event_reported}
 use Rattle.fmp_law_counts.proofs.Ready.{Ready, ready_later, ready_at_boot}
-use Rattle.fmp_law_records.specs.Standing.{Standing, standing_after, standing_by, standing_at_boot, told_standing, top_told}
+use Rattle.fmp_law_records.specs.Standing.{Standing, standing_after, standing_by, standing_at_boot, report_standing, top_reported}
 use Rattle.fmp_law_records.specs.Tops.{is_one_task, RequestsAreDue}
 use Rattle.fmp_law_records.proofs.Ready.{Stands, top_same}
 use Rattle.fmp_law_records.proofs.StandingRuns.{stands_next, stands_from_boot}
@@ -37,7 +37,7 @@ module _ (c : Setup) (events : List Event) (valid : IsValid c) (on : AreOn c.pro
   m = replay numbered (booted c) events
 
   abbrev s : Standing
-  s = told_standing c (answers numbered (booted c) events)
+  s = report_standing c (answers numbered (booted c) events)
 
   -- an event on a processor that there is can be the next one
   ready_for : (e : Event) → (processor_of e).number ≤ c.processors → Ready c s.waits m (e ∷ [])
@@ -55,13 +55,13 @@ module _ (c : Setup) (events : List Event) (valid : IsValid c) (on : AreOn c.pro
       let g : Stands c (standing_after c r s) v = stands_next c s m e [] ready h in
       let few_after : length v.tasks ≤ 64 = rw g.count valid.few_tasks in
       let sends = sends_step m ready.safe e (ready.on 0 e (omega arith)) in
-      let at : processor_of r.event ≡ processor_of e = ap (λ (x : Event). processor_of x) (event_told numbered m e) in
+      let at : processor_of r.event ≡ processor_of e = ap (λ (x : Event). processor_of x) (event_reported numbered m e) in
       record {
         sent = λ p here.
             sends.sent p ((ready_for (event.Ipi p) here).on 0 (event.Ipi p) (omega arith))
             ∙ ap (λ b. not (p.number == (processor_of e).number) && not b) (one_task (top numbered m p) (top numbered v p))
             ∙ ap (λ o. not (p.number == (processor_of e).number) && not (is_one_task o (top numbered v p))) (top_same c s m h ready.sound.few_tasks p)
-            ∙ ap (λ o. not (p.number == (processor_of e).number) && not (is_one_task (top_told c s p) o)) (top_same c (standing_after c r s) v g few_after p)
-            ∙ ap (λ (q : Proc). not (p.number == q.number) && not (is_one_task (top_told c s p) (top_told c (standing_after c r s) p))) (sym at);
-        begun = λ now begins. sends.begun now begins ∙ top_same c (standing_after c r s) v g few_after (processor_of e) ∙ ap (top_told c (standing_after c r s)) (sym at);
+            ∙ ap (λ o. not (p.number == (processor_of e).number) && not (is_one_task (top_reported c s p) o)) (top_same c (standing_after c r s) v g few_after p)
+            ∙ ap (λ (q : Proc). not (p.number == q.number) && not (is_one_task (top_reported c s p) (top_reported c (standing_after c r s) p))) (sym at);
+        begun = λ now begins. sends.begun now begins ∙ top_same c (standing_after c r s) v g few_after (processor_of e) ∙ ap (top_reported c (standing_after c r s)) (sym at);
       }

@@ -35,22 +35,22 @@ use Rattle.fmp_rules.specs.Step.{step, replay, answers, before_event, settled, u
 use Rattle.fmp_rules.specs.Boot.{booted}
 use Rattle.fmp_rules.proofs.Scenario.{a_task, sole, both, call_on, tick_on, ipi_on}
 use Rattle.fmp_law_records.specs.Suspensions.{suspended_by}
-use Rattle.fmp_law_records.specs.Priorities.{told_priority}
-use Rattle.fmp_law_records.specs.Lives.{LifeTold, told_life}
-use Rattle.fmp_law_records.specs.Accepting.{told_task, TaskCallFits}
+use Rattle.fmp_law_records.specs.Priorities.{report_priority}
+use Rattle.fmp_law_records.specs.Lives.{LifeReported, report_life}
+use Rattle.fmp_law_records.specs.Accepting.{report_task, TaskCallFits}
 use Rattle.fmp_law_records.specs.Flags.{locked_by, disabled_by}
 use Rattle.fmp_law_records.specs.Due.{handlers_by, handlers_at_boot}
-use Rattle.fmp_law_records.specs.Requests.{told_processor, SignalsFit}
+use Rattle.fmp_law_records.specs.Requests.{report_processor, SignalsFit}
 use Rattle.fmp_law_records.specs.Served.{Places, places_by, places_at_boot, began_before, is_served_before, ServesInOrder}
 use Rattle.fmp_law_records.specs.Tops.{changes_top, RequestsAreDue}
-use Rattle.fmp_law_records.specs.Standing.{Standing, told_standing, ready_told, AreReadyTold}
+use Rattle.fmp_law_records.specs.Standing.{Standing, report_standing, ready_reported, AreReadyReported}
 use Rattle.fmp_law_waits.specs.Asked.{OpenWait}
 
 abbrev pub asks : ℕ → TaskCall → Event
 asks p c = call_on p (call.Task c)
 
-abbrev pub told : Setup → List Event → List Record
-told c events = answers numbered (booted c) events
+abbrev pub report : Setup → List Event → List Record
+report c events = answers numbered (booted c) events
 
 abbrev pub later : Setup → List Event → State
 later c events = replay numbered (booted c) events
@@ -64,7 +64,7 @@ both_start = of_tasks 2 (a_task (both 1) 10 true ∷ a_task (both 2) 10 true ∷
 abbrev pub over_while_suspended : List Event
 over_while_suspended = asks 2 (tasks.DlyTsk (pos 1)) ∷ asks 1 (tasks.SusTsk (pos 2)) ∷ tick_on 2 ∷ tick_on 2 ∷ []
 
-still_suspended : suspended_by (as_task 2) (told both_start over_while_suspended) false ∷ (task (later both_start over_while_suspended) (as_task 2)).suspended ∷ [] ≡ true ∷ true ∷ []
+still_suspended : suspended_by (as_task 2) (report both_start over_while_suspended) false ∷ (task (later both_start over_while_suspended) (as_task 2)).suspended ∷ [] ≡ true ∷ true ∷ []
 unfolding numbered before_event settled unchanged dly_tsk sus_tsk counted_down ticked with_handlers_due
 still_suspended = refl
 
@@ -75,14 +75,14 @@ one_timer = record both_start { timer = timer.Global (as_proc 1) }
 abbrev pub resumed : List Event
 resumed = asks 1 (tasks.SusTsk (pos 2)) ∷ asks 1 (tasks.RsmTsk (pos 2)) ∷ []
 
-resumed_again : suspended_by (as_task 2) (told one_timer resumed) false ∷ (task (later one_timer resumed) (as_task 2)).suspended ∷ [] ≡ false ∷ false ∷ []
+resumed_again : suspended_by (as_task 2) (report one_timer resumed) false ∷ (task (later one_timer resumed) (as_task 2)).suspended ∷ [] ≡ false ∷ false ∷ []
 unfolding numbered before_event settled unchanged sus_tsk rsm_tsk
 resumed_again = refl
 
 abbrev pub more_urgent : List Event
 more_urgent = asks 1 (tasks.ChgPri (pos 2) (pos 5)) ∷ []
 
-other_priority : told_priority one_timer (as_task 2) (told one_timer more_urgent) ∷ (task (later one_timer more_urgent) (as_task 2)).priority ∷ [] ≡ as_pri 5 ∷ as_pri 5 ∷ []
+other_priority : report_priority one_timer (as_task 2) (report one_timer more_urgent) ∷ (task (later one_timer more_urgent) (as_task 2)).priority ∷ [] ≡ as_pri 5 ∷ as_pri 5 ∷ []
 unfolding numbered before_event settled unchanged chg_pri
 other_priority = refl
 
@@ -91,12 +91,12 @@ other_priority = refl
 abbrev pub living_again : List Event
 living_again = asks 1 (tasks.MactTsk (pos 2) (pos 1)) ∷ asks 2 tasks.ExtTsk ∷ []
 
-abbrev pub second_life : List Event → LifeTold
-second_life events = told_life both_start (as_task 2) (told both_start events)
+abbrev pub second_life : List Event → LifeReported
+second_life events = report_life both_start (as_task 2) (report both_start events)
 
-queued_told : (second_life (asks 1 (tasks.MactTsk (pos 2) (pos 1)) ∷ [])).queued ≡ Some (Some (as_proc 1))
+queued_reported : (second_life (asks 1 (tasks.MactTsk (pos 2) (pos 1)) ∷ [])).queued ≡ Some (Some (as_proc 1))
 unfolding numbered before_event settled unchanged mact
-queued_told = refl
+queued_reported = refl
 
 another_life : (second_life living_again).active ∷ (task (later both_start living_again) (as_task 2)).active ∷ [] ≡ true ∷ true ∷ []
 unfolding numbered before_event settled unchanged mact ext_tsk finish opened
@@ -114,11 +114,11 @@ resuming = (step numbered (booted both_start) (asks 1 (tasks.RsmTsk (pos 2)))).1
 abbrev pub suspending : Record
 suspending = (step numbered (booted both_start) (asks 1 (tasks.SusTsk (pos 2)))).1
 
-needless_acceptance_refused : TaskCallFits (as_task 2) (told_task both_start (as_task 2) []) (record resuming { answer = answer.Done code.Accepted None }) → ⊥
+needless_acceptance_refused : TaskCallFits (as_task 2) (report_task both_start (as_task 2) []) (record resuming { answer = answer.Done code.Accepted None }) → ⊥
 unfolding numbered before_event settled unchanged rsm_tsk
 needless_acceptance_refused h = false≢true ((h refl).suited refl)
 
-needless_refusal_refused : TaskCallFits (as_task 2) (told_task both_start (as_task 2) []) (record suspending { answer = answer.Done code.ObjectState None }) → ⊥
+needless_refusal_refused : TaskCallFits (as_task 2) (report_task both_start (as_task 2) []) (record suspending { answer = answer.Done code.ObjectState None }) → ⊥
 unfolding numbered before_event settled unchanged sus_tsk
 needless_refusal_refused h = false≢true (sym ((h refl).unsuited refl))
 
@@ -130,7 +130,7 @@ most_urgent = of_tasks 1 (a_task (both 1) 1 true ∷ [])
 abbrev pub holding : List Event
 holding = call_on 1 (call.System system.DisDsp) ∷ call_on 1 (call.System system.LocCpu) ∷ []
 
-held : disabled_by (as_proc 1) (told most_urgent holding) false ∷ (processor (later most_urgent holding) (as_proc 1)).disabled ∷ locked_by (as_proc 1) (told most_urgent holding) false ∷ (processor (later most_urgent holding) (as_proc 1)).locked ∷ [] ≡ true ∷ true ∷ true ∷ true ∷ []
+held : disabled_by (as_proc 1) (report most_urgent holding) false ∷ (processor (later most_urgent holding) (as_proc 1)).disabled ∷ locked_by (as_proc 1) (report most_urgent holding) false ∷ (processor (later most_urgent holding) (as_proc 1)).locked ∷ [] ≡ true ∷ true ∷ true ∷ true ∷ []
 unfolding numbered before_event settled unchanged
 held = refl
 
@@ -147,7 +147,7 @@ abbrev pub ringing : List Event
 ringing = call_on 1 (call.Time (time.StaAlm (pos 1) (pos 1))) ∷ tick_on 2 ∷ tick_on 2 ∷ []
 
 abbrev pub due_on : ℕ → List Event → List (List Runner)
-due_on p events = (handlers_by with_handlers (as_proc p) (told with_handlers events) (handlers_at_boot with_handlers)).due ∷ item [] (later with_handlers events).due p ∷ []
+due_on p events = (handlers_by with_handlers (as_proc p) (report with_handlers events) (handlers_at_boot with_handlers)).due ∷ item [] (later with_handlers events).due p ∷ []
 
 both_due : due_on 2 ringing ≡ (runner.Alarm (as_object 1) ∷ runner.Cyclic (as_object 2) ∷ []) ∷ (runner.Alarm (as_object 1) ∷ runner.Cyclic (as_object 2) ∷ []) ∷ []
 unfolding numbered before_event settled unchanged sta_alm counted_down ticked with_handlers_due
@@ -169,7 +169,7 @@ none_due = refl
 -- enabled.
 
 abbrev pub pending_on_second : List Event → List Bool
-pending_on_second events = (told_processor both_start (as_proc 2) (told both_start events)).pending ∷ (processor (later both_start events) (as_proc 2)).latch ∷ []
+pending_on_second events = (report_processor both_start (as_proc 2) (report both_start events)).pending ∷ (processor (later both_start events) (as_proc 2)).latch ∷ []
 
 abbrev pub asking : List Event
 asking = call_on 2 (call.System system.DisDsp) ∷ asks 1 (tasks.SusTsk (pos 2)) ∷ ipi_on 2 ∷ []
@@ -182,7 +182,7 @@ request_pending = refl
 abbrev pub asked : List Event
 asked = call_on 2 (call.System system.DisDsp) ∷ asks 1 (tasks.SusTsk (pos 2)) ∷ []
 
-wrong_answer_refused : SignalsFit both_start (as_proc 2) (told_processor both_start (as_proc 2) (told both_start asked)) (record (step numbered (later both_start asked) (ipi_on 2)).1 { answer = answer.Taken }) → ⊥
+wrong_answer_refused : SignalsFit both_start (as_proc 2) (report_processor both_start (as_proc 2) (report both_start asked)) (record (step numbered (later both_start asked) (ipi_on 2)).1 { answer = answer.Taken }) → ⊥
 unfolding numbered before_event settled unchanged sus_tsk
 wrong_answer_refused h = false≢true (sym (h.interrupt_taken refl))
 
@@ -205,27 +205,27 @@ abbrev pub giving : Event
 giving = call_on 1 (call.Sync (sync.SigSem (pos 1)))
 
 abbrev pub places : List Event → Places
-places events = places_by queueing (told queueing events) (places_at_boot queueing)
+places events = places_by queueing (report queueing events) (places_at_boot queueing)
 
 abbrev pub given_by : List Event → Record
 given_by events = (step numbered (later queueing events) giving).1
 
 -- the second task began to wait first, and the third one is served
-order_told : began_before (places waiting) (as_task 2) (as_task 3) ∷ is_served_before (places waiting) true (as_task 3) (as_task 2) ∷ [] ≡ true ∷ true ∷ []
+order_reported : began_before (places waiting) (as_task 2) (as_task 3) ∷ is_served_before (places waiting) true (as_task 3) (as_task 2) ∷ [] ≡ true ∷ true ∷ []
 unfolding numbered before_event settled unchanged twai_sem
-order_told = refl
+order_reported = refl
 
 third_served : map (λ x. x.task.number) (given_by waiting).releases ≡ 3 ∷ []
 unfolding numbered before_event settled unchanged twai_sem sig_sem
 third_served = refl
 
--- with the same priority as the third task the second one comes behind it, since its wait begins anew
+-- with the same priority as the third task the second one comes after it, since its wait begins anew
 abbrev pub as_urgent : List Event
 as_urgent = waiting ++ asks 1 (tasks.ChgPri (pos 2) (pos 5)) ∷ []
 
-anew_told : is_served_before (places as_urgent) true (as_task 3) (as_task 2) ∷ is_served_before (places as_urgent) true (as_task 2) (as_task 3) ∷ [] ≡ true ∷ false ∷ []
+anew_reported : is_served_before (places as_urgent) true (as_task 3) (as_task 2) ∷ is_served_before (places as_urgent) true (as_task 2) (as_task 3) ∷ [] ≡ true ∷ false ∷ []
 unfolding numbered before_event settled unchanged twai_sem chg_pri
-anew_told = refl
+anew_reported = refl
 
 third_served_again : map (λ x. x.task.number) (given_by as_urgent).releases ≡ 3 ∷ []
 unfolding numbered before_event settled unchanged twai_sem sig_sem chg_pri
@@ -253,28 +253,28 @@ abbrev pub rotating : List Event
 rotating = call_on 1 (call.System (system.RotRdq (pos 10))) ∷ []
 
 abbrev pub stand : List Event → Standing
-stand events = told_standing lining_up (told lining_up events)
+stand events = report_standing lining_up (report lining_up events)
 
-abbrev pub line_told : List Event → List ℕ
-line_told events = map (λ t. t.number) (ready_told lining_up (stand events) (as_proc 1) (as_pri 10))
+abbrev pub line_reported : List Event → List ℕ
+line_reported events = map (λ t. t.number) (ready_reported lining_up (stand events) (as_proc 1) (as_pri 10))
 
 abbrev pub line_there : List Event → List ℕ
 line_there events = let m = later lining_up events in map (λ t. t.number) (numbered.ready m.order m.tasks (as_proc 1) (as_pri 10))
 
-second_first : line_told rotating ∷ line_there rotating ∷ [] ≡ (2 ∷ 3 ∷ 1 ∷ []) ∷ (2 ∷ 3 ∷ 1 ∷ []) ∷ []
+second_first : line_reported rotating ∷ line_there rotating ∷ [] ≡ (2 ∷ 3 ∷ 1 ∷ []) ∷ (2 ∷ 3 ∷ 1 ∷ []) ∷ []
 unfolding numbered before_event settled unchanged rotation
 second_first = refl
 
--- the second and the third task wait, and the second one is served: it comes behind the first one, which runs
+-- the second and the third task wait, and the second one is served: it comes after the first one, which runs
 abbrev pub serving : List Event
 serving = rotating ++ call_on 1 (call.Sync (sync.WaiSem (pos 1))) ∷ call_on 1 (call.Sync (sync.WaiSem (pos 1))) ∷ call_on 1 (call.Sync (sync.SigSem (pos 1))) ∷ []
 
-second_behind : line_told serving ∷ line_there serving ∷ [] ≡ (1 ∷ 2 ∷ []) ∷ (1 ∷ 2 ∷ []) ∷ []
+second_after : line_reported serving ∷ line_there serving ∷ [] ≡ (1 ∷ 2 ∷ []) ∷ (1 ∷ 2 ∷ []) ∷ []
 unfolding numbered before_event settled unchanged rotation twai_sem sig_sem
-second_behind = refl
+second_after = refl
 
 -- a state in which the first task is still the top is refused
-wrong_top_refused : AreReadyTold lining_up (stand rotating) (booted lining_up) (as_proc 1) → ⊥
+wrong_top_refused : AreReadyReported lining_up (stand rotating) (booted lining_up) (as_proc 1) → ⊥
 unfolding numbered before_event settled unchanged rotation
 wrong_top_refused h = let e : 1 ≡ 2 = ap (λ o. unwrap_or (option_map (λ t. t.number) o) 0) h.top in omega (arith, e)
 
@@ -290,12 +290,12 @@ request_sent : map (λ p. p.number) activation.requests ≡ 2 ∷ []
 unfolding numbered before_event settled unchanged act
 request_sent = refl
 
-top_changes : changes_top urgent (told_standing urgent []) activation (as_proc 2) ≡ true
+top_changes : changes_top urgent (report_standing urgent []) activation (as_proc 2) ≡ true
 unfolding numbered before_event settled unchanged act
 top_changes = refl
 
 -- a record without the request is refused
-lost_request_refused : RequestsAreDue urgent (told_standing urgent []) (record activation { requests = [] }) → ⊥
+lost_request_refused : RequestsAreDue urgent (report_standing urgent []) (record activation { requests = [] }) → ⊥
 unfolding numbered before_event settled unchanged act
 lost_request_refused h = false≢true (h.sent (as_proc 2) (omega arith))
 
@@ -306,6 +306,6 @@ lining_up_apart = of_tasks 2 (a_task (sole 1) 10 true ∷ a_task (sole 2) 10 tru
 abbrev pub needless : Record
 needless = (step numbered (booted lining_up_apart) (asks 1 (tasks.ActTsk (pos 3)))).1
 
-needless_request_refused : RequestsAreDue lining_up_apart (told_standing lining_up_apart []) (record needless { requests = as_proc 2 ∷ [] }) → ⊥
+needless_request_refused : RequestsAreDue lining_up_apart (report_standing lining_up_apart []) (record needless { requests = as_proc 2 ∷ [] }) → ⊥
 unfolding numbered before_event settled unchanged act
 needless_request_refused h = false≢true (sym (h.sent (as_proc 2) (omega arith)))

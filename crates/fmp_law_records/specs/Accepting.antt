@@ -19,17 +19,17 @@ use Rattle.fmp_law_waits.specs.Asked.{OpenWait}
 use Rattle.fmp_law_waits.specs.Waits.{is_number_of, nobody_waits, after_records}
 use Rattle.fmp_law_counts.specs.Naming.{names_task}
 use Rattle.fmp_law_records.specs.Suspensions.{suspended_by, is_overflow}
-use Rattle.fmp_law_records.specs.Lives.{LifeTold, told_life}
+use Rattle.fmp_law_records.specs.Lives.{LifeReported, report_life}
 
 -- what the records say of a task
-pub record TaskTold : Type 0 where
-  pub life : LifeTold
+pub record TaskReported : Type 0 where
+  pub life : LifeReported
   pub suspended : Bool
   pub wait : Option OpenWait
 
 -- after these records of a run from boot
-abbrev pub told_task : Setup → Task → List Record → TaskTold
-told_task c t records = record { life = told_life c t records; suspended = suspended_by t records false; wait = after_records c nobody_waits records t }
+abbrev pub report_task : Setup → Task → List Record → TaskReported
+report_task c t records = record { life = report_life c t records; suspended = suspended_by t records false; wait = after_records c nobody_waits records t }
 
 -- the task that the call is about, where this runs: the one that its argument names, or who makes it
 abbrev pub is_about : Task → Option Runner → TaskCall → Bool
@@ -55,7 +55,7 @@ is_about t r (tasks.RsmTsk id) = is_number_of t id
 is_about t r (tasks.DlyTsk time) = is_task t r
 
 -- the state of the task suits the call, which is made on p: it is active, waits, is suspended or is assigned to p, as the call asks
-abbrev pub suits : Proc → TaskCall → TaskTold → Bool
+abbrev pub suits : Proc → TaskCall → TaskReported → Bool
 suits p (tasks.MigTsk id to) x = x.life.at.number == p.number
 suits p (tasks.TerTsk id) x = x.life.active && x.life.at.number == p.number
 suits p (tasks.ChgPri id n) x = x.life.active
@@ -70,7 +70,7 @@ suits p (tasks.RsmTsk id) x = x.suspended
 suits p other x = true
 
 -- what the call asks for is there already: an activation is queued, or the task is suspended
-abbrev pub is_full : TaskCall → TaskTold → Bool
+abbrev pub is_full : TaskCall → TaskReported → Bool
 is_full (tasks.ActTsk id) x = x.life.active && is_some x.life.queued
 is_full (tasks.IactTsk id) x = x.life.active && is_some x.life.queued
 is_full (tasks.MactTsk id to) x = x.life.active && is_some x.life.queued
@@ -91,7 +91,7 @@ is_unsuited other = false
 
 -- where this is told of the task of a call that is made on p, the call is accepted only if the state of the task suits it and nothing
 -- is full, is refused as unsuited only if it does not, and as one too many only if it does and it is full
-pub record AnswerFits (p : Proc) (c : TaskCall) (before : TaskTold) (a : Answer) : Type 0 where
+pub record AnswerFits (p : Proc) (c : TaskCall) (before : TaskReported) (a : Answer) : Type 0 where
   pub suited : is_accepted a ≡ true → suits p c before ≡ true
   pub free : is_accepted a ≡ true → is_full c before ≡ false
   pub unsuited : is_unsuited a ≡ true → suits p c before ≡ false
@@ -99,9 +99,9 @@ pub record AnswerFits (p : Proc) (c : TaskCall) (before : TaskTold) (a : Answer)
   pub full : is_overflow a ≡ true → (is_wakeup c || is_full c before) ≡ true
 
 -- so it is of an event that is a call on this task
-abbrev pub EventFits : Task → TaskTold → Option Runner → Answer → Event → Type 0
+abbrev pub EventFits : Task → TaskReported → Option Runner → Answer → Event → Type 0
 EventFits t before r a (event.Call p (call.Task c)) = is_about t r c ≡ true → AnswerFits p c before a
 EventFits t before r a other = Unit {0}
 
-abbrev pub TaskCallFits : Task → TaskTold → Record → Type 0
+abbrev pub TaskCallFits : Task → TaskReported → Record → Type 0
 TaskCallFits t before r = EventFits t before r.runner r.answer r.event

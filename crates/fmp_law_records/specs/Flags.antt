@@ -84,7 +84,7 @@ disabled_by p [] disabled = disabled
 disabled_by p (r ∷ rs) disabled = disabled_by p rs (disabled_after p r disabled)
 
 -- a processor is locked, and its dispatching disabled, where the records say so
-pub record AreFlagsTold {Q : Type 0} (records : List Record) (w : World Q) (p : Proc) : Type 0 where
+pub record AreFlagsReported {Q : Type 0} (records : List Record) (w : World Q) (p : Proc) : Type 0 where
   pub locked : (world.processor w p).locked ≡ locked_by p records false
   pub disabled : (world.processor w p).disabled ≡ disabled_by p records false
 

@@ -18,7 +18,7 @@ use Rattle.fmp_law_counts.specs.Alarms.{starts_alarm, alarm_time, stops_alarm, w
 use Rattle.fmp_law_counts.specs.Cyclics.{starts_cyclic, stops_cyclic}
 
 -- what the records say of a handler: the ticks left, or none where it is stopped, and the processor to which it is assigned
-pub record HandlerTold : Type 0 where
+pub record HandlerReported : Type 0 where
   pub left : Option ℕ
   pub at : Proc
 
@@ -42,7 +42,7 @@ abbrev pub begun_with : ℤ → Option ℕ
 begun_with (pos n) = Some (n + 1)
 begun_with (negsuc n) = None
 
-abbrev pub alarm_after : Setup → Object → Record → HandlerTold → HandlerTold
+abbrev pub alarm_after : Setup → Object → Record → HandlerReported → HandlerReported
 alarm_after c a r before = record {
   left = if starts_alarm a r.event && is_accepted r.answer then begun_with (alarm_time r.event)
       else if stops_alarm a r.event && is_accepted r.answer then None
@@ -52,19 +52,19 @@ alarm_after c a r before = record {
 }
 
 -- after these records of a run from boot
-abbrev pub alarm_by : Setup → Object → List Record → HandlerTold → HandlerTold
+abbrev pub alarm_by : Setup → Object → List Record → HandlerReported → HandlerReported
 alarm_by c a [] before = before
 alarm_by c a (r ∷ rs) before = alarm_by c a rs (alarm_after c a r before)
 
-abbrev pub alarm_at_boot : Setup → Object → HandlerTold
+abbrev pub alarm_at_boot : Setup → Object → HandlerReported
 alarm_at_boot c a = record { left = None; at = (item no_alarm c.alarms a.number).class.initial }
 
 -- an alarm is where the records say, and so much of its time is left
-pub record IsAlarmTold {Q : Type 0} (c : Setup) (records : List Record) (w : World Q) (a : Object) : Type 0 where
+pub record IsAlarmReported {Q : Type 0} (c : Setup) (records : List Record) (w : World Q) (a : Object) : Type 0 where
   pub left : item None w.alarms_left a.number ≡ (alarm_by c a records (alarm_at_boot c a)).left
   pub at : (alarm w a).assigned ≡ (alarm_by c a records (alarm_at_boot c a)).at
 
-abbrev pub cyclic_after : Setup → Object → Record → HandlerTold → HandlerTold
+abbrev pub cyclic_after : Setup → Object → Record → HandlerReported → HandlerReported
 cyclic_after c o r before = let s = item no_cyclic c.cyclics o.number in record {
   left = if starts_cyclic o r.event && is_accepted r.answer then Some (s.phase + 1)
       else if stops_cyclic o r.event && is_accepted r.answer then None
@@ -74,14 +74,14 @@ cyclic_after c o r before = let s = item no_cyclic c.cyclics o.number in record 
 }
 
 -- after these records of a run from boot
-abbrev pub cyclic_by : Setup → Object → List Record → HandlerTold → HandlerTold
+abbrev pub cyclic_by : Setup → Object → List Record → HandlerReported → HandlerReported
 cyclic_by c o [] before = before
 cyclic_by c o (r ∷ rs) before = cyclic_by c o rs (cyclic_after c o r before)
 
-abbrev pub cyclic_told_at_boot : Setup → Object → HandlerTold
-cyclic_told_at_boot c o = let s = item no_cyclic c.cyclics o.number in record { left = if s.starts then Some (s.phase + 1) else None; at = s.class.initial }
+abbrev pub cyclic_reported_at_boot : Setup → Object → HandlerReported
+cyclic_reported_at_boot c o = let s = item no_cyclic c.cyclics o.number in record { left = if s.starts then Some (s.phase + 1) else None; at = s.class.initial }
 
 -- a cyclic handler is where the records say, and so much of its time is left
-pub record IsCyclicTold {Q : Type 0} (c : Setup) (records : List Record) (w : World Q) (o : Object) : Type 0 where
-  pub left : item None w.cyclics_left o.number ≡ (cyclic_by c o records (cyclic_told_at_boot c o)).left
-  pub at : (cyclic w o).assigned ≡ (cyclic_by c o records (cyclic_told_at_boot c o)).at
+pub record IsCyclicReported {Q : Type 0} (c : Setup) (records : List Record) (w : World Q) (o : Object) : Type 0 where
+  pub left : item None w.cyclics_left o.number ≡ (cyclic_by c o records (cyclic_reported_at_boot c o)).left
+  pub at : (cyclic w o).assigned ≡ (cyclic_by c o records (cyclic_reported_at_boot c o)).at

@@ -9,7 +9,7 @@ use Rattle.fmp_codes.specs.Records.{is_gone}
 use Rattle.fmp_setup.specs.declared.setup.Class.{Class}
 use Rattle.fmp_law_balance.specs.Accepted.{is_accepted}
 use Rattle.fmp_law_records.specs.Handlers.{taken_to}
-use Rattle.fmp_law_records.specs.Lives.{LifeTold}
+use Rattle.fmp_law_records.specs.Lives.{LifeReported}
 
 -- in which order the tasks were put last: the later, the greater the number
 pub record Line : Type 0 where
@@ -19,7 +19,7 @@ pub record Line : Type 0 where
 abbrev pub put_last : Line → Task → Line
 put_last line t = record { count = line.count + 1; since = λ u. if u.number == t.number then line.count + 1 else line.since u }
 
--- the tasks that are released, one behind the other
+-- the tasks that are released, one after the other
 abbrev pub put_released : Line → List Release → Line
 put_released line [] = line
 put_released line (x ∷ xs) = put_released (put_last line x.task) xs
@@ -30,7 +30,7 @@ is_done tasks.ExtTsk a = is_gone a
 is_done c a = is_accepted a
 
 -- done to a task of this life, the call puts it last: its life begins or ends, it gets a priority, goes elsewhere or is resumed
-abbrev pub puts_it_last : Class → LifeTold → TaskCall → Bool
+abbrev pub puts_it_last : Class → LifeReported → TaskCall → Bool
 puts_it_last class life (tasks.ActTsk id) = not life.active
 puts_it_last class life (tasks.IactTsk id) = not life.active
 puts_it_last class life (tasks.MactTsk id to) = not life.active

@@ -19,7 +19,7 @@ use Rattle.fmp_law_counts.specs.Lives.{activates, takes_back, ends}
 use Rattle.fmp_law_records.specs.Handlers.{taken_to}
 
 -- what the records say of it. A queued activation is for a processor that its call named, or for none
-pub record LifeTold : Type 0 where
+pub record LifeReported : Type 0 where
   pub active : Bool
   pub queued : Option (Option Proc)
   pub at : Proc
@@ -37,18 +37,18 @@ migrates_to t r other = None
 
 -- after an activation for the processor that is named: a dormant task begins a life there, or where it is assigned if none is named,
 -- and of an active one the activation is queued
-abbrev pub life_activated : Class → Option ℤ → LifeTold → LifeTold
+abbrev pub life_activated : Class → Option ℤ → LifeReported → LifeReported
 life_activated class to before =
     if before.active then record before { queued = Some (option_map (λ n. taken_to class (Some n) before.at) to) }
     else record before { active = true; at = taken_to class to before.at }
 
 -- after an end: the queued activation begins another life, and without one the task is dormant
-abbrev pub life_ended : Option (Option Proc) → Proc → LifeTold
+abbrev pub life_ended : Option (Option Proc) → Proc → LifeReported
 life_ended None at = record { active = false; queued = None; at = at }
 life_ended (Some to) at = record { active = true; queued = None; at = unwrap_or to at }
 
 -- after a record
-abbrev pub life_after : Class → Task → Record → LifeTold → LifeTold
+abbrev pub life_after : Class → Task → Record → LifeReported → LifeReported
 life_after class t r before =
     if ends t r.runner r.answer r.event then life_ended before.queued before.at
     else if is_accepted r.answer then (
@@ -58,16 +58,16 @@ life_after class t r before =
     )
     else before
 
-abbrev pub life_by : Class → Task → List Record → LifeTold → LifeTold
+abbrev pub life_by : Class → Task → List Record → LifeReported → LifeReported
 life_by class t [] before = before
 life_by class t (r ∷ rs) before = life_by class t rs (life_after class t r before)
 
-abbrev pub life_at_boot : Setup → Task → LifeTold
+abbrev pub life_at_boot : Setup → Task → LifeReported
 life_at_boot c t = record { active = (setup_of c t).starts; queued = None; at = (setup_of c t).class.initial }
 
 -- after these records of a run from boot
-abbrev pub told_life : Setup → Task → List Record → LifeTold
-told_life c t records = life_by (setup_of c t).class t records (life_at_boot c t)
+abbrev pub report_life : Setup → Task → List Record → LifeReported
+report_life c t records = life_by (setup_of c t).class t records (life_at_boot c t)
 
 -- how many activations are queued, and the processor of the one that is
 abbrev pub queued_count : Option (Option Proc) → ℕ
@@ -79,8 +79,8 @@ queued_for None = None
 queued_for (Some to) = to
 
 -- a task is active, its activations are queued, and it is assigned, as the records say
-pub record IsLifeTold {Q : Type 0} (c : Setup) (records : List Record) (w : World Q) (t : Task) : Type 0 where
-  pub active : (world.task w t).active ≡ (told_life c t records).active
-  pub at : (world.task w t).assigned ≡ (told_life c t records).at
-  pub activations : (world.task w t).activations ≡ queued_count (told_life c t records).queued
-  pub kept : (world.task w t).kept ≡ queued_for (told_life c t records).queued
+pub record IsLifeReported {Q : Type 0} (c : Setup) (records : List Record) (w : World Q) (t : Task) : Type 0 where
+  pub active : (world.task w t).active ≡ (report_life c t records).active
+  pub at : (world.task w t).assigned ≡ (report_life c t records).at
+  pub activations : (world.task w t).activations ≡ queued_count (report_life c t records).queued
+  pub kept : (world.task w t).kept ≡ queued_for (report_life c t records).queued

@@ -51,8 +51,8 @@ holder_by l [] held = held
 holder_by l (r ∷ rs) held = holder_by l rs (holder_after l r held)
 
 -- the lock is held by whom the records say
-abbrev pub IsHolderTold : {Q : Type 0} → List Record → World Q → Object → Type 0
-IsHolderTold records w l = holder w l ≡ holder_by l records None
+abbrev pub IsHolderReported : {Q : Type 0} → List Record → World Q → Object → Type 0
+IsHolderReported records w l = holder w l ≡ holder_by l records None
 
 -- where this one holds l before a record, a call takes l only where nobody does, and gives l back only where its own processor does
 pub record LocksFit (l : Object) (held : Option Proc) (r : Record) : Type 0 where

@@ -78,13 +78,13 @@ abbrev pub clears_of : Setup → Object → Bool
 clears_of c f = (item no_eventflag c.eventflags f.number).clears
 
 -- after these records of a run from boot
-abbrev pub told_pattern : Setup → Object → List Record → ℕ
-told_pattern c f records = let s = item no_eventflag c.eventflags f.number in pattern_by s.clears f records s.initial
+abbrev pub report_pattern : Setup → Object → List Record → ℕ
+report_pattern c f records = let s = item no_eventflag c.eventflags f.number in pattern_by s.clears f records s.initial
 
-abbrev pub IsPatternTold : {Q : Type 0} → Setup → List Record → World Q → Object → Type 0
-IsPatternTold c records w f = (eventflag w f).pattern ≡ told_pattern c f records
+abbrev pub IsPatternReported : {Q : Type 0} → Setup → List Record → World Q → Object → Type 0
+IsPatternReported c records w f = (eventflag w f).pattern ≡ report_pattern c f records
 
--- the values with which a call that set the pattern to x releases tasks: the first gets it, and what that leaves those behind it
+-- the values with which a call that set the pattern to x releases tasks: the first gets it, and what that leaves those after it
 abbrev pub values_from : Bool → ℕ → List Release → List (Option ℤ)
 values_from clears x [] = []
 values_from clears x (r ∷ rs) = Some (pos x) ∷ values_from clears (handed_on clears x) rs

@@ -48,12 +48,12 @@ priority_by initial t [] before = before
 priority_by initial t (r ∷ rs) before = priority_by initial t rs (priority_after initial t r before)
 
 -- the priority of a task after these records of a run from boot
-abbrev pub told_priority : Setup → Task → List Record → Pri
-told_priority c t records = let initial = (setup_of c t).priority in priority_by initial t records initial
+abbrev pub report_priority : Setup → Task → List Record → Pri
+report_priority c t records = let initial = (setup_of c t).priority in priority_by initial t records initial
 
 -- an active task has the priority that these records say
-abbrev pub IsPriorityTold : {Q : Type 0} → Setup → List Record → World Q → Task → Type 0
-IsPriorityTold c records w t = (world.task w t).active ≡ true → (world.task w t).priority ≡ told_priority c t records
+abbrev pub IsPriorityReported : {Q : Type 0} → Setup → List Record → World Q → Task → Type 0
+IsPriorityReported c records w t = (world.task w t).active ≡ true → (world.task w t).priority ≡ report_priority c t records
 
 -- who asks for the priority of t is told this one
 abbrev pub TellsPriority : Task → Pri → Record → Type 0

@@ -20,13 +20,13 @@ use Rattle.fmp_law_balance.specs.Accepted.{is_accepted}
 use Rattle.fmp_law_waits.specs.Waits.{OpenWaits, after_record, nobody_waits, setup_of}
 use Rattle.fmp_law_records.specs.Suspensions.{suspended_after}
 use Rattle.fmp_law_records.specs.Priorities.{given_by, priority_after}
-use Rattle.fmp_law_records.specs.Lives.{LifeTold, life_after, life_at_boot}
+use Rattle.fmp_law_records.specs.Lives.{LifeReported, life_after, life_at_boot}
 use Rattle.fmp_law_records.specs.Accepting.{is_about}
 use Rattle.fmp_law_records.specs.Line.{Line, put_released, is_done, puts_it_last}
 
 -- what the records say of all tasks
 pub record Standing : Type 0 where
-  pub life : Task → LifeTold
+  pub life : Task → LifeReported
   pub suspended : Task → Bool
   pub priority : Task → Pri
   pub waits : OpenWaits
@@ -43,11 +43,11 @@ abbrev pub comes_first : Standing → Task → Task → Bool
 comes_first s t u = nat_lt (s.priority t).number (s.priority u).number || ((s.priority t).number == (s.priority u).number && nat_lt (s.line.since t) (s.line.since u))
 
 -- the ready tasks of a processor and a priority in their order, and the top of a processor
-abbrev pub ready_told : Setup → Standing → Proc → Pri → List Task
-ready_told c s p n = in_order (λ t. stands_at s p t && (s.priority t).number == n.number) (comes_first s) (length c.tasks)
+abbrev pub ready_reported : Setup → Standing → Proc → Pri → List Task
+ready_reported c s p n = in_order (λ t. stands_at s p t && (s.priority t).number == n.number) (comes_first s) (length c.tasks)
 
-abbrev pub top_told : Setup → Standing → Proc → Option Task
-top_told c s p = first (in_order (stands_at s p) (comes_first s) (length c.tasks))
+abbrev pub top_reported : Setup → Standing → Proc → Option Task
+top_reported c s p = first (in_order (stands_at s p) (comes_first s) (length c.tasks))
 
 -- Who is put last.
 
@@ -63,10 +63,10 @@ processor_of_number (negsuc n) = as_proc 1
 
 -- the task that a call puts last which rotates the ready tasks of a priority: the first of them
 abbrev pub rotates : Setup → Standing → Option Runner → Event → Option Task
-rotates c s r (event.Call p (call.System (system.RotRdq n))) = first (ready_told c s p (given_by (own_priority s r) n))
-rotates c s r (event.Call p (call.System (system.IrotRdq n))) = first (ready_told c s p (given_by (own_priority s r) n))
-rotates c s r (event.Call p (call.System (system.MrotRdq n q))) = first (ready_told c s (processor_of_number q) (given_by (own_priority s r) n))
-rotates c s r (event.Call p (call.System (system.ImrotRdq n q))) = first (ready_told c s (processor_of_number q) (given_by (own_priority s r) n))
+rotates c s r (event.Call p (call.System (system.RotRdq n))) = first (ready_reported c s p (given_by (own_priority s r) n))
+rotates c s r (event.Call p (call.System (system.IrotRdq n))) = first (ready_reported c s p (given_by (own_priority s r) n))
+rotates c s r (event.Call p (call.System (system.MrotRdq n q))) = first (ready_reported c s (processor_of_number q) (given_by (own_priority s r) n))
+rotates c s r (event.Call p (call.System (system.ImrotRdq n q))) = first (ready_reported c s (processor_of_number q) (given_by (own_priority s r) n))
 rotates c s r other = None
 
 abbrev pub is_that : Option Task → Task → Bool
@@ -110,10 +110,10 @@ standing_at_boot c = record {
   line = record { count = length c.tasks; since = λ t. t.number };
 }
 
-abbrev pub told_standing : Setup → List Record → Standing
-told_standing c records = standing_by c records (standing_at_boot c)
+abbrev pub report_standing : Setup → List Record → Standing
+report_standing c records = standing_by c records (standing_at_boot c)
 
 -- on p the ready tasks of each priority stand as this says, and the top is the one that it says
-pub record AreReadyTold (c : Setup) (s : Standing) (m : State) (p : Proc) : Type 0 where
-  pub ready : (n : Pri) → numbered.ready m.order m.tasks p n ≡ ready_told c s p n
-  pub top : top numbered m p ≡ top_told c s p
+pub record AreReadyReported (c : Setup) (s : Standing) (m : State) (p : Proc) : Type 0 where
+  pub ready : (n : Pri) → numbered.ready m.order m.tasks p n ≡ ready_reported c s p n
+  pub top : top numbered m p ≡ top_reported c s p

@@ -42,8 +42,8 @@ suspended_by t [] suspended = suspended
 suspended_by t (r ∷ rs) suspended = suspended_by t rs (suspended_after t r suspended)
 
 -- a task is suspended where these records say so, and before them no task is
-abbrev pub IsSuspensionTold : {Q : Type 0} → List Record → World Q → Task → Type 0
-IsSuspensionTold records w t = (world.task w t).suspended ≡ suspended_by t records false
+abbrev pub IsSuspensionReported : {Q : Type 0} → List Record → World Q → Task → Type 0
+IsSuspensionReported records w t = (world.task w t).suspended ≡ suspended_by t records false
 
 -- a call answered that a count is at its limit: the task is suspended already
 abbrev pub is_overflow : Answer → Bool

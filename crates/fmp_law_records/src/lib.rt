@@ -4,14 +4,14 @@
 //! every list of events.
 //!
 //! There is no code here: a law is the contract of a function without a body. Each law tells a part of the state along a run by its
-//! records alone, by a definition that knows none of the rules of the calls, and says that the state behind each prefix is so.
+//! records alone, by a definition that knows none of the rules of the calls, and says that the state after each prefix is so.
 #![tactic(auto)]
 
 mod laws;
 
 pub use laws::{
-    alarms_are_told, calls_on_tasks_were_due, cyclics_are_told, flags_are_told,
-    handlers_due_are_told, lives_are_told, locks_are_told, patterns_are_told, priorities_are_told,
-    quiet_events_change_nothing, ready_order_is_told, requests_are_due, requests_are_told,
-    served_in_order, suspensions_are_told,
+    alarms_are_reported, calls_on_tasks_were_due, cyclics_are_reported, flags_are_reported,
+    handlers_due_are_reported, lives_are_reported, locks_are_reported, patterns_are_reported,
+    priorities_are_reported, quiet_events_change_nothing, ready_order_is_reported,
+    requests_are_due, requests_are_reported, served_in_order, suspensions_are_reported,
 };

@@ -32,16 +32,16 @@ use Rattle.fmp_rules.specs.TaskCalls.{task_row}
 use Rattle.fmp_law_safety.proofs.Calls.{FromTask}
 use Rattle.fmp_law_safety.proofs.Queues.{Lists}
 use Rattle.fmp_law_waits.proofs.Named.{caller_runs}
-use Rattle.fmp_law_records.specs.Requests.{ProcessorTold}
+use Rattle.fmp_law_records.specs.Requests.{ProcessorReported}
 use Rattle.fmp_law_records.proofs.Accepting.{activation_same}
 use Rattle.fmp_law_refusals.specs.Misplaced.{is_for_handlers, is_for_all, is_caller_named}
 use Rattle.fmp_law_refusals.specs.Meanings.{is_one_of, is_zero_or_of, is_polling, task_of, task_meant}
 use Rattle.fmp_law_refusals.specs.Known.{are_known}
 use Rattle.fmp_law_refusals.specs.Arguments.{pool_setup}
-use Rattle.fmp_law_refusals.specs.Found.{FoundTold, for_wakeup, waits_so}
+use Rattle.fmp_law_refusals.specs.Found.{FoundReported, for_wakeup, waits_so}
 use Rattle.fmp_law_refusals.specs.Errors.{is_activated, is_elsewhere, wakeup_errors, state_errors}
 use Rattle.fmp_law_refusals.specs.Refusals.{first_of}
-use Rattle.fmp_law_refusals.specs.Outcomes.{accepted, gives, or_waits, refused_or, outcome_told}
+use Rattle.fmp_law_refusals.specs.Outcomes.{accepted, gives, or_waits, refused_or, outcome_reported}
 use Rattle.fmp_law_refusals.proofs.Placed.{Sees, caller_same}
 use Rattle.fmp_law_refusals.proofs.Configured.{Configured, number_known, limits_same, IsTask, task_is, caller_known, meant_is}
 use Rattle.fmp_law_refusals.proofs.Found.{Finds, asleep}
@@ -86,32 +86,32 @@ module _ {Q : Type 0} (w : World Q) where
       go false true e f = absurd (false≢true e)
       go false false e f = f refl
 
-  pub two_errors : (row : Row Q) (b d b_told d_told : Bool) (y z : Code) (a : Answer) → row.errors ≡ (b, y) ∷ (d, z) ∷ [] → b ≡ b_told → (b ≡ false → d ≡ d_told) →
+  pub two_errors : (row : Row Q) (b d b_reported d_reported : Bool) (y z : Code) (a : Answer) → row.errors ≡ (b, y) ∷ (d, z) ∷ [] → b ≡ b_reported → (b ≡ false → d ≡ d_reported) →
       (b ≡ false → d ≡ false → row.effect.1.answer ≡ a) →
-      AnswersAs row (if b_told then Some y else if d_told then Some z else None) a
-  two_errors row b d b_told d_told y z a errors first_ second done_ =
+      AnswersAs row (if b_reported then Some y else if d_reported then Some z else None) a
+  two_errors row b d b_reported d_reported y z a errors first_ second done_ =
       ap (λ es. answer_by row.effect (first_error es)) errors ∙ answered_by row.effect (if b then Some y else if d then Some z else None)
-      ∙ both b d b_told d_told first_ second done_
+      ∙ both b d b_reported d_reported first_ second done_
     where
-      then_ : (d d_told : Bool) → d ≡ d_told → (d ≡ false → row.effect.1.answer ≡ a) →
-          refused_or (if d then Some z else None) row.effect.1.answer ≡ refused_or (if d_told then Some z else None) a
+      then_ : (d d_reported : Bool) → d ≡ d_reported → (d ≡ false → row.effect.1.answer ≡ a) →
+          refused_or (if d then Some z else None) row.effect.1.answer ≡ refused_or (if d_reported then Some z else None) a
       then_ true true e f = refl
       then_ true false e f = absurd (false≢true (sym e))
       then_ false true e f = absurd (false≢true e)
       then_ false false e f = f refl
 
-      both : (b d b_told d_told : Bool) → b ≡ b_told → (b ≡ false → d ≡ d_told) → (b ≡ false → d ≡ false → row.effect.1.answer ≡ a) →
-          refused_or (if b then Some y else if d then Some z else None) row.effect.1.answer ≡ refused_or (if b_told then Some y else if d_told then Some z else None) a
-      both true d true d_told e f g = refl
-      both true d false d_told e f g = absurd (false≢true (sym e))
-      both false d true d_told e f g = absurd (false≢true e)
-      both false d false d_told e f g = then_ d d_told (f refl) (g refl)
+      both : (b d b_reported d_reported : Bool) → b ≡ b_reported → (b ≡ false → d ≡ d_reported) → (b ≡ false → d ≡ false → row.effect.1.answer ≡ a) →
+          refused_or (if b then Some y else if d then Some z else None) row.effect.1.answer ≡ refused_or (if b_reported then Some y else if d_reported then Some z else None) a
+      both true d true d_reported e f g = refl
+      both true d false d_reported e f g = absurd (false≢true (sym e))
+      both false d true d_reported e f g = absurd (false≢true e)
+      both false d false d_reported e f g = then_ d d_reported (f refl) (g refl)
 
   -- a call that may wait, and has no error before
-  waited : (can now can_told cannot : Bool) (did other : World Q × Effect) (a : Answer) → can ≡ can_told → not can ≡ cannot → (can ≡ true → did.1.answer ≡ a) →
+  waited : (can now can_reported cannot : Bool) (did other : World Q × Effect) (a : Answer) → can ≡ can_reported → not can ≡ cannot → (can ≡ true → did.1.answer ≡ a) →
       other.1.answer ≡ answer.Wait →
       (if can then did else if now then (w, plain (answer.Done code.TimedOut None)) else other).1.answer
-      ≡ refused_or (if now && cannot then Some code.TimedOut else None) (or_waits can_told a)
+      ≡ refused_or (if now && cannot then Some code.TimedOut else None) (or_waits can_reported a)
   waited true now false cannot did other a e f done_ waits = absurd (false≢true (sym e))
   waited true now true true did other a e f done_ waits = absurd (false≢true f)
   waited true true true false did other a e f done_ waits = done_ refl
@@ -121,19 +121,19 @@ module _ {Q : Type 0} (w : World Q) where
   waited false true false true did other a e f done_ waits = refl
   waited false false false true did other a e f done_ waits = waits
 
-module _ {Q : Type 0} (k : Ordering Q) (c : Setup) (x : FoundTold) (w : World Q) (p : Proc) (seen : ProcessorTold) (sees : Sees w p seen)
+module _ {Q : Type 0} (k : Ordering Q) (c : Setup) (x : FoundReported) (w : World Q) (p : Proc) (seen : ProcessorReported) (sees : Sees w p seen)
     (there : is_some (runner_of w p) ≡ true) (l : Lists k w) (h : Configured c w) (found : Finds c x w)
     (active : (t : Task) → (processor w p).running ≡ Some t → (task w t).active ≡ true) (blocks : (m : Object) → (pool_setup c m).blocks ≤ 64)
     (locks : c.spin_locks ≤ 32) (running : Option Task) (runs : (processor w p).running ≡ running) where
   abbrev pub Answers : Option ℤ → Call → Row Q → Type 0
-  Answers v y row = AnswersAs w row (first_of (state_errors c x p (runner_of w p) y)) (outcome_told c x seen running p (runner_of w p) v y)
+  Answers v y row = AnswersAs w row (first_of (state_errors c x p (runner_of w p) y)) (outcome_reported c x seen running p (runner_of w p) v y)
 
-  pub wait_found : (can can_told cannot : Bool) (did : World Q × Effect) (z : Wait) (timeout : ℤ) (a : Answer) → can ≡ can_told → not can ≡ cannot →
+  pub wait_found : (can can_reported cannot : Bool) (did : World Q × Effect) (z : Wait) (timeout : ℤ) (a : Answer) → can ≡ can_reported → not can ≡ cannot →
       (can ≡ true → did.1.answer ≡ a) →
-      (done_or_wait k w p can did z timeout).1.answer ≡ refused_or (if is_polling timeout && cannot then Some code.TimedOut else None) (or_waits can_told a)
-  wait_found can can_told cannot did z timeout a yes_ no_ done_ =
-      waited w can (is_zero timeout) can_told cannot did _ a yes_ no_ done_ refl
-      ∙ ap (λ b. refused_or (if b && cannot then Some code.TimedOut else None) (or_waits can_told a)) (polling_same timeout)
+      (done_or_wait k w p can did z timeout).1.answer ≡ refused_or (if is_polling timeout && cannot then Some code.TimedOut else None) (or_waits can_reported a)
+  wait_found can can_reported cannot did z timeout a yes_ no_ done_ =
+      waited w can (is_zero timeout) can_reported cannot did _ a yes_ no_ done_ refl
+      ∙ ap (λ b. refused_or (if b && cannot then Some code.TimedOut else None) (or_waits can_reported a)) (polling_same timeout)
 
   -- Tasks.
 

@@ -46,13 +46,13 @@ use Rattle.fmp_law_safety.proofs.Calls.{FromTask}
 use Rattle.fmp_law_safety.proofs.Queues.{Lists}
 use Rattle.fmp_law_balance.specs.Accepted.{accepted_value}
 use Rattle.fmp_law_records.specs.Flags.{number_if}
-use Rattle.fmp_law_records.specs.Requests.{ProcessorTold}
+use Rattle.fmp_law_records.specs.Requests.{ProcessorReported}
 use Rattle.fmp_law_records.specs.Locks.{is_holder}
 use Rattle.fmp_law_refusals.specs.Misplaced.{is_for_handlers, is_for_all}
 use Rattle.fmp_law_refusals.specs.Meanings.{is_one_of, is_polling, object_of}
 use Rattle.fmp_law_refusals.specs.Known.{are_known}
 use Rattle.fmp_law_refusals.specs.Arguments.{pool_setup}
-use Rattle.fmp_law_refusals.specs.Found.{FoundTold, semaphore_setup, data_queue_setup, for_unit, somebody_waits, is_used, has_bits, takes_value, gives_value, has_block}
+use Rattle.fmp_law_refusals.specs.Found.{FoundReported, semaphore_setup, data_queue_setup, for_unit, somebody_waits, is_used, has_bits, takes_value, gives_value, has_block}
 use Rattle.fmp_law_refusals.specs.Errors.{signal_errors}
 use Rattle.fmp_law_refusals.specs.Refusals.{first_of}
 use Rattle.fmp_law_refusals.specs.Outcomes.{accepted, gives, or_waits, least_block, refused_or}
@@ -77,16 +77,16 @@ number_is : (o : Option Task) → gives (pos (unwrap_or (option_map (λ t. t.num
 number_is None = refl
 number_is (Some t) = refl
 
-module _ {Q : Type 0} (k : Ordering Q) (c : Setup) (x : FoundTold) (w : World Q) (p : Proc) (seen : ProcessorTold) (sees : Sees w p seen)
+module _ {Q : Type 0} (k : Ordering Q) (c : Setup) (x : FoundReported) (w : World Q) (p : Proc) (seen : ProcessorReported) (sees : Sees w p seen)
     (there : is_some (runner_of w p) ≡ true) (l : Lists k w) (h : Configured c w) (found : Finds c x w)
     (active : (t : Task) → (processor w p).running ≡ Some t → (task w t).active ≡ true) (blocks : (m : Object) → (pool_setup c m).blocks ≤ 64)
     (locks : c.spin_locks ≤ 32) (running : Option Task) (runs : (processor w p).running ≡ running) where
   abbrev Says : Option ℤ → Call → Row Q → Type 0
   Says v y row = Answers k c x w p seen sees there l h found active blocks locks running runs v y row
 
-  abbrev waits : (can can_told cannot : Bool) (did : World Q × Effect) (z : Wait) (timeout : ℤ) (a : Answer) → can ≡ can_told → not can ≡ cannot →
+  abbrev waits : (can can_reported cannot : Bool) (did : World Q × Effect) (z : Wait) (timeout : ℤ) (a : Answer) → can ≡ can_reported → not can ≡ cannot →
       (can ≡ true → did.1.answer ≡ a) →
-      (done_or_wait k w p can did z timeout).1.answer ≡ refused_or (if is_polling timeout && cannot then Some code.TimedOut else None) (or_waits can_told a)
+      (done_or_wait k w p can did z timeout).1.answer ≡ refused_or (if is_polling timeout && cannot then Some code.TimedOut else None) (or_waits can_reported a)
   waits = wait_found k c x w p seen sees there l h found active blocks locks running runs
 
   abbrev of_list : {X : Type 0} → List X → ℤ → Object
@@ -250,10 +250,10 @@ module _ {Q : Type 0} (k : Ordering Q) (c : Setup) (x : FoundTold) (w : World Q)
   free_same : (id : ℤ) → is_one_of (length c.pools) id ≡ true → is_some (free_block w (of_list w.pools id)) ≡ has_block c x (object_of id)
   free_same id known = ap (λ m. is_some (free_block w m)) (is_pool id known) ∙ block_free k c x w l h found blocks (object_of id)
 
-  abbrev block_told : ℤ → Answer
-  block_told id = gives (least_block c x seen running p (runner_of w p) None (object_of id))
+  abbrev block_reported : ℤ → Answer
+  block_reported id = gives (least_block c x seen running p (runner_of w p) None (object_of id))
 
-  block_same : (id : ℤ) → is_one_of (length c.pools) id ≡ true → gives (pos (unwrap_or (free_block w (of_list w.pools id)) 0)) ≡ block_told id
+  block_same : (id : ℤ) → is_one_of (length c.pools) id ≡ true → gives (pos (unwrap_or (free_block w (of_list w.pools id)) 0)) ≡ block_reported id
   block_same id known = ap (λ m. gives (pos (unwrap_or (free_block w m) 0))) (is_pool id known)
       ∙ ap (λ o. gives (pos (unwrap_or o 0))) (least_is k c x w l h found blocks (object_of id))
 
@@ -261,7 +261,7 @@ module _ {Q : Type 0} (k : Ordering Q) (c : Setup) (x : FoundTold) (w : World Q)
       (done_or_wait k w p (is_some (free_block w (of_list w.pools id))) (given w (of_list w.pools id) (unwrap_or (free_block w (of_list w.pools id)) 0))
       (wait.Pool (of_list w.pools id)) timeout).1.answer
       ≡ refused_or (if is_polling timeout && not (has_block c x (object_of id)) then Some code.TimedOut else None)
-      (or_waits (has_block c x (object_of id)) (block_told id))
+      (or_waits (has_block c x (object_of id)) (block_reported id))
   waits_block id timeout known =
       let m : Object = of_list w.pools id in
       waits (is_some (free_block w m)) _ _ (given w m (unwrap_or (free_block w m) 0)) (wait.Pool m) timeout _ (free_same id known) (ap not (free_same id known))

@@ -36,14 +36,14 @@ use Rattle.fmp_law_safety.proofs.Listed.{numbered_lists}
 use Rattle.fmp_law_safety.proofs.Settling.{with_latches, latches_at, settle_is}
 use Rattle.fmp_law_safety.proofs.Stepping.{numbered_tops, keeps_call, safe_step}
 use Rattle.fmp_law_waits.specs.Waits.{OpenWaits, nobody_waits, after_record}
-use Rattle.fmp_law_waits.proofs.Events.{by_event, event_told}
+use Rattle.fmp_law_waits.proofs.Events.{by_event, event_reported}
 use Rattle.fmp_law_counts.proofs.Ready.{Ready, ready_next, ready_at_boot}
-use Rattle.fmp_law_records.specs.Requests.{processor_at_boot, told_processor}
-use Rattle.fmp_law_records.specs.Standing.{standing_at_boot, top_told}
+use Rattle.fmp_law_records.specs.Requests.{processor_at_boot, report_processor}
+use Rattle.fmp_law_records.specs.Standing.{standing_at_boot, top_reported}
 use Rattle.fmp_law_records.proofs.DueRuns.{due_after_all}
-use Rattle.fmp_law_records.proofs.RequestsRuns.{by_parts, HoldsTold, holds_after_all, requests_told}
-use Rattle.fmp_law_records.proofs.StandingRuns.{order_told}
-use Rattle.fmp_law_refusals.specs.Callers.{running_after, running_by, told_running, first_or_task, IsCallerTold}
+use Rattle.fmp_law_records.proofs.RequestsRuns.{by_parts, HoldsReported, holds_after_all, requests_reported}
+use Rattle.fmp_law_records.proofs.StandingRuns.{order_reported}
+use Rattle.fmp_law_refusals.specs.Callers.{running_after, running_by, report_running, first_or_task, IsCallerReported}
 
 -- One step.
 
@@ -58,8 +58,8 @@ change_is a b = cond_both (is_same a b) None (Some b) (λ (x : Option (Option Ta
     go (Some t) (Some u) e = ap Some (tasks_same t u (eqb-true t.number u.number e))
 
 module _ (m : State) (s : Safe numbered m) (p : Proc) (here : p.number ≤ length m.processors) where
-  abbrev RunsTold : (State × Record) → Type 0
-  RunsTold x = (processor x.0 p).running ≡ running_after p x.1 (processor m p).running
+  abbrev RunsReported : (State × Record) → Type 0
+  RunsReported x = (processor x.0 p).running ≡ running_after p x.1 (processor m p).running
 
   -- the end of an event on another processor leaves what p runs
   elsewhere : (before : List (Option Task)) (v : State) (q : Proc) → length v.processors ≡ length m.processors → (p.number ≡ q.number → ⊥) →
@@ -75,7 +75,7 @@ module _ (m : State) (s : Safe numbered m) (p : Proc) (here : p.number ≤ lengt
       ∙ ap (λ (y : Processor). y.running) (latches_at v.processors rs p (rw count here))
 
   runs_settled : (e : Event) (q : Proc) (did : State × Effect) → (processor_of e).number ≡ q.number → KeepsOthers m did.0 q →
-      RunsTold (settled numbered (before_event numbered m e q) did)
+      RunsReported (settled numbered (before_event numbered m e q) did)
   unfolding settled before_event
   runs_settled e q did is keeps =
       ⊎_elim
@@ -92,24 +92,24 @@ module _ (m : State) (s : Safe numbered m) (p : Proc) (here : p.number ≤ lengt
       ∙ sym (cond-false ((processor_of e).number == p.number) _ (processor m p).running other))
       (cases_eq p.number q.number)
 
-  runs_unchanged : (e : Event) (q : Proc) (a : Answer) → RunsTold (unchanged m e q a)
+  runs_unchanged : (e : Event) (q : Proc) (a : Answer) → RunsReported (unchanged m e q a)
   unfolding unchanged
   runs_unchanged e q a = sym (cond_both ((processor_of e).number == p.number) (processor m p).running (processor m p).running
       (λ (o : Option Task). o ≡ (processor m p).running) (λ _. refl) (λ _. refl))
 
-  running_step : (e : Event) → (processor_of e).number ≤ length m.processors → RunsTold (step numbered m e)
+  running_step : (e : Event) → (processor_of e).number ≤ length m.processors → RunsReported (step numbered m e)
   running_step (event.Call q c) within =
-      cond_both (is_some (runner_of m q)) _ _ RunsTold
+      cond_both (is_some (runner_of m q)) _ _ RunsReported
       (λ there. runs_settled (event.Call q c) q (called m q (row_of numbered m q c)) refl (keeps_call numbered m numbered_lists s q (q.least, within) there c))
       (λ _. runs_unchanged (event.Call q c) q answer.Idle)
   running_step (event.Tick q) within =
-      cond_both (has_time m.timer q) _ _ RunsTold
+      cond_both (has_time m.timer q) _ _ RunsReported
       (λ _.
-      cond_both ((processor m q).locked || is_some (handler m q)) _ _ RunsTold (λ _. runs_unchanged (event.Tick q) q answer.Held)
+      cond_both ((processor m q).locked || is_some (handler m q)) _ _ RunsReported (λ _. runs_unchanged (event.Tick q) q answer.Held)
       (λ _. runs_settled (event.Tick q) q (tick numbered m q) refl (keeps_tick numbered numbered_lists m s q (q.least, within))))
       (λ _. runs_unchanged (event.Tick q) q answer.Nothing)
   running_step (event.Ipi q) within =
-      cond_both (is_held m q) _ _ RunsTold (λ _. runs_unchanged (event.Ipi q) q answer.Held)
+      cond_both (is_held m q) _ _ RunsReported (λ _. runs_unchanged (event.Ipi q) q answer.Held)
       (λ _. runs_settled (event.Ipi q) q (m, plain (if (processor m q).latch then answer.Taken else answer.Nothing)) refl
       (keeps_all m q (occupied_at m q (s.processors q (q.least, within)))))
 
@@ -128,12 +128,12 @@ module _ (c : Setup) (valid : IsValid c) (p : Proc) (here : p.number ≤ c.proce
       (running_step m ready.safe p (rw count here) e within ∙ ap (running_after p r) old)
 
   -- at boot p runs its top
-  running_at_boot : (processor (booted c) p).running ≡ top_told c (standing_at_boot c) p
+  running_at_boot : (processor (booted c) p).running ≡ top_reported c (standing_at_boot c) p
   running_at_boot =
       let none : AreOn c.processors [] = All-nil (λ (e : Event). (processor_of e).number ≤ c.processors) in
-      let holds : HoldsTold c p (booted c) (told_processor c p []) = holds_after_all c p here [] valid none in
+      let holds : HoldsReported c p (booted c) (report_processor c p []) = holds_after_all c p here [] valid none in
       let s : Safe numbered (booted c) = booted_safe c valid in
-      (s.processors p (p.least, rw (count_booted c) here)).dispatched (requests_told c p here [] valid none 0) holds.held ∙ (order_told c [] valid none 0 p).top
+      (s.processors p (p.least, rw (count_booted c) here)).dispatched (requests_reported c p here [] valid none 0) holds.held ∙ (order_reported c [] valid none 0 p).top
 
   module _ (events : List Event) (on : AreOn c.processors events) where
     abbrev m : State
@@ -142,8 +142,8 @@ module _ (c : Setup) (valid : IsValid c) (p : Proc) (here : p.number ≤ c.proce
     abbrev records : List Record
     records = answers numbered (booted c) events
 
-    pub running_after_all : (processor m p).running ≡ told_running c p records
-    running_after_all = running_run nobody_waits (booted c) events (top_told c (standing_at_boot c) p) (ready_at_boot c valid events on)
+    pub running_after_all : (processor m p).running ≡ report_running c p records
+    running_after_all = running_run nobody_waits (booted c) events (top_reported c (standing_at_boot c) p) (ready_at_boot c valid events on)
         (count_booted c) running_at_boot
 
     first_is : (ds : List Runner) (o : Option Task) → option_or (first ds) (option_map runner.Task o) ≡ first_or_task ds o
@@ -151,22 +151,22 @@ module _ (c : Setup) (valid : IsValid c) (p : Proc) (here : p.number ≤ c.proce
     first_is [] (Some t) = refl
     first_is (d ∷ ds) o = refl
 
-    caller_after_all : runner_of m p ≡ first_or_task (told_processor c p records).handlers.due (told_running c p records)
+    caller_after_all : runner_of m p ≡ first_or_task (report_processor c p records).handlers.due (report_running c p records)
     caller_after_all =
         ap (λ ds. option_or (first ds) (option_map runner.Task (processor m p).running))
         (due_after_all c p here events valid on ∙ sym (ap (λ h. h.due) (by_parts c p records (processor_at_boot c)).handlers))
-        ∙ ap (λ o. option_or (first (told_processor c p records).handlers.due) (option_map runner.Task o)) running_after_all
-        ∙ first_is (told_processor c p records).handlers.due (told_running c p records)
+        ∙ ap (λ o. option_or (first (report_processor c p records).handlers.due) (option_map runner.Task o)) running_after_all
+        ∙ first_is (report_processor c p records).handlers.due (report_running c p records)
 
 runner_is : (m : State) (e : Event) → (step numbered m e).1.runner ≡ runner_of m (processor_of (step numbered m e).1.event)
 runner_is m e = by_event numbered m (λ v r. r.runner ≡ runner_of m (processor_of r.event)) (λ v cs r x ps h. h) (λ p c. refl) (λ p c. refl) (λ p. refl) (λ p. refl)
     (λ p. refl) (λ p a none. refl) e
 
-pub callers_told : (c : Setup) (events : List Event) → IsValid c → AreOn c.processors events → (e : Event) → (processor_of e).number ≤ c.processors →
-    IsCallerTold c (answers numbered (booted c) events) (step numbered (replay numbered (booted c) events) e).1
-callers_told c events valid on e here =
+pub callers_reported : (c : Setup) (events : List Event) → IsValid c → AreOn c.processors events → (e : Event) → (processor_of e).number ≤ c.processors →
+    IsCallerReported c (answers numbered (booted c) events) (step numbered (replay numbered (booted c) events) e).1
+callers_reported c events valid on e here =
     let m : State = replay numbered (booted c) events in
     let rs : List Record = answers numbered (booted c) events in
-    let is : processor_of (step numbered m e).1.event ≡ processor_of e = ap processor_of (event_told numbered m e) in
+    let is : processor_of (step numbered m e).1.event ≡ processor_of e = ap processor_of (event_reported numbered m e) in
     runner_is m e ∙ ap (runner_of m) is ∙ caller_after_all c valid (processor_of e) here events on
-    ∙ sym (ap (λ (p : Proc). first_or_task (told_processor c p rs).handlers.due (told_running c p rs)) is)
+    ∙ sym (ap (λ (p : Proc). first_or_task (report_processor c p rs).handlers.due (report_running c p rs)) is)

@@ -41,7 +41,7 @@ use Rattle.fmp_law_records.specs.Patterns.{are_there}
 use Rattle.fmp_law_records.specs.Locks.{is_holder}
 use Rattle.fmp_law_records.proofs.Accepting.{Agrees}
 use Rattle.fmp_law_refusals.specs.Arguments.{pool_setup}
-use Rattle.fmp_law_refusals.specs.Found.{FoundTold, eventflag_setup as eventflag_told, data_queue_setup, all_tasks, all_locks, for_wakeup, for_unit, for_bits, to_send}
+use Rattle.fmp_law_refusals.specs.Found.{FoundReported, eventflag_setup as eventflag_reported, data_queue_setup, all_tasks, all_locks, for_wakeup, for_unit, for_bits, to_send}
 use Rattle.fmp_law_refusals.specs.Found.{to_receive, waits_so, somebody_waits, is_used, has_bits, takes_value, gives_value, has_block, holds_lock}
 use Rattle.fmp_law_refusals.proofs.Frames.{Frame}
 use Rattle.fmp_law_refusals.proofs.Configured.{Configured, pool_setup_same, eventflag_setup, holders_same}
@@ -92,7 +92,7 @@ position_is {X = X} p xs = ap is_some (position_from-zero p xs) ∙ go 0 xs
 
 -- What is told.
 
-pub record Finds {Q : Type 0} (c : Setup) (x : FoundTold) (w : World Q) : Type 0 where
+pub record Finds {Q : Type 0} (c : Setup) (x : FoundReported) (w : World Q) : Type 0 where
   pub tasks : (t : Task) → t.number ≤ length w.tasks → Agrees (x.task t) (task w t)
   pub waits : (t : Task) → (task w t).wait ≡ option_map (λ y. y.wait) (x.task t).wait
   pub priority : (t : Task) → t.number ≤ length w.tasks → (task w t).active ≡ true → (task w t).priority ≡ x.priority t
@@ -144,7 +144,7 @@ holds_same x bits mode.Orw = some_bits (bit_and x bits)
     some_bits : (n : ℕ) → nat_lt 0 n ≡ not (n == 0)
     some_bits n = ⊎_elim (λ (z : n ≡ 0). rw z refl) (λ (d : n ≡ 0 → ⊥). lt-ltb 0 n (omega (arith, d)) ∙ sym (ap not (ne_eqb n 0 d))) (cases_eq n 0)
 
-module _ {Q : Type 0} (k : Ordering Q) (c : Setup) (x : FoundTold) (w : World Q) (l : Lists k w) (h : Configured c w) (found : Finds c x w) where
+module _ {Q : Type 0} (k : Ordering Q) (c : Setup) (x : FoundReported) (w : World Q) (l : Lists k w) (h : Configured c w) (found : Finds c x w) where
   pub asleep : (t : Task) → is_sleep (task w t).wait ≡ waits_so for_wakeup (x.task t).wait
   asleep t = ap is_sleep (found.waits t) ∙ sleeps_so (x.task t).wait
 
@@ -161,12 +161,12 @@ module _ {Q : Type 0} (k : Ordering Q) (c : Setup) (x : FoundTold) (w : World Q)
       let at : get_or (all_tasks c) (t.number - 1) (as_task 1) ≡ t =
       get_or-map-range_with_len as_task 1 (length c.tasks) (t.number - 1) (1 + (t.number - 1)) (as_task 1) less refl
       ∙ as_task_same t (1 + (t.number - 1)) (omega (arith, t.least)) in
-      (t.number - 1, rw (length-map-range_with_len as_task 1 (length c.tasks)) less, ap (λ (u : Task). waits_so what (x.task u).wait) at ∙ sym (told t) ∙ waits))
-      (λ e i less. sym (told (get_or (all_tasks c) i (as_task 1)))
+      (t.number - 1, rw (length-map-range_with_len as_task 1 (length c.tasks)) less, ap (λ (u : Task). waits_so what (x.task u).wait) at ∙ sym (report t) ∙ waits))
+      (λ e i less. sym (report (get_or (all_tasks c) i (as_task 1)))
       ∙ nobody_waits k w l q o (none_there (first (queue k w q o)) e) (get_or (all_tasks c) i (as_task 1))))
     where
-      told : (t : Task) → waits_in q o (task w t).wait ≡ waits_so what (x.task t).wait
-      told t = ap (waits_in q o) (found.waits t) ∙ in_queue_so q o what same (x.task t).wait
+      report : (t : Task) → waits_in q o (task w t).wait ≡ waits_so what (x.task t).wait
+      report t = ap (waits_in q o) (found.waits t) ∙ in_queue_so q o what same (x.task t).wait
 
   pub for_units : (s : Object) → is_some (first (queue k w kind.Semaphore s)) ≡ somebody_waits c x (for_unit s)
   for_units s = somebody kind.Semaphore s (for_unit s) (for_unit_so s)
@@ -174,7 +174,7 @@ module _ {Q : Type 0} (k : Ordering Q) (c : Setup) (x : FoundTold) (w : World Q)
   pub taken_same : (f : Object) → is_taken k w f ≡ is_used c x f
   taken_same f =
       ap (λ (y : EventflagSetup). not y.many && is_some (first (queue k w kind.Eventflag f))) (eventflag_setup c w h f)
-      ∙ ap (λ b. not (eventflag_told c f).many && b) (somebody kind.Eventflag f (for_bits f) (for_bits_so f))
+      ∙ ap (λ b. not (eventflag_reported c f).many && b) (somebody kind.Eventflag f (for_bits f) (for_bits_so f))
 
   pub bits_same : (f : Object) (bits : ℕ) (m : Mode) → holds (eventflag w f).pattern bits m ≡ has_bits c x f bits m
   bits_same f bits m = holds_same (eventflag w f).pattern bits m ∙ ap (λ n. are_there m n bits) (found.pattern f)

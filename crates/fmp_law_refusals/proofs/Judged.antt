@@ -28,7 +28,7 @@ use Rattle.fmp_law_balance.proofs.Booted.{balanced_throughout}
 use Rattle.fmp_law_waits.specs.Waits.{OpenWaits, nobody_waits, after_record}
 use Rattle.fmp_law_counts.proofs.Ready.{Ready, ready_next, ready_at_boot, ready_after}
 use Rattle.fmp_law_records.specs.Due.{is_handler}
-use Rattle.fmp_law_records.specs.Requests.{ProcessorTold}
+use Rattle.fmp_law_records.specs.Requests.{ProcessorReported}
 use Rattle.fmp_law_records.proofs.LivesRuns.{life_from_boot}
 use Rattle.fmp_law_refusals.specs.Misplaced.{is_for_handlers, is_for_all, is_not_for, is_misplaced}
 use Rattle.fmp_law_refusals.specs.Known.{are_known}
@@ -40,7 +40,7 @@ use Rattle.fmp_law_refusals.proofs.Argued.{Argues, argued}
 
 module _ {Q : Type 0} (k : Ordering Q) (c : Setup) (records : List Record) (w : World Q) (h : Configured c w)
     (out : (m : Object) (b : ℕ) → slice_index_or (pool w m).handed b false ≡ is_out records m b) where
-  module _ (p : Proc) (x : ProcessorTold) (sees : Sees w p x) (there : is_some (runner_of w p) ≡ true) where
+  module _ (p : Proc) (x : ProcessorReported) (sees : Sees w p x) (there : is_some (runner_of w p) ≡ true) where
     -- what is in place, and only a task may make, is made by a task
     pub from_there : (y : Call) → is_misplaced x (runner_of w p) y ≡ false → is_for_all y ≡ false → is_for_handlers y ≡ false → FromTask w p
     from_there y placed all handlers =

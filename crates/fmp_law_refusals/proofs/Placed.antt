@@ -19,15 +19,15 @@ use Rattle.fmp_rules.specs.Arguments.{caller, is_caller, task_named, task_or_cal
 use Rattle.fmp_law_safety.proofs.Calls.{FromTask}
 use Rattle.fmp_law_waits.proofs.Named.{eqb_sym, caller_runs}
 use Rattle.fmp_law_records.specs.Due.{is_handler}
-use Rattle.fmp_law_records.specs.Requests.{ProcessorTold, is_held_told}
+use Rattle.fmp_law_records.specs.Requests.{ProcessorReported, is_held_reported}
 use Rattle.fmp_law_refusals.specs.Misplaced.{is_for_handlers, is_for_all, is_for_locked, is_not_for, may_wait, is_caller_named, moves_caller, is_misplaced}
 use Rattle.fmp_law_refusals.proofs.Rules.{context_of, stops, rule_of}
 
 -- this is told of p
-pub record Sees {Q : Type 0} (w : World Q) (p : Proc) (x : ProcessorTold) : Type 0 where
+pub record Sees {Q : Type 0} (w : World Q) (p : Proc) (x : ProcessorReported) : Type 0 where
   pub locked : (processor w p).locked ≡ x.locked
   pub disabled : (processor w p).disabled ≡ x.disabled
-  pub held : is_held w p ≡ is_held_told x
+  pub held : is_held w p ≡ is_held_reported x
   pub handler : is_handler (runner_of w p) ≡ is_some (handler w p)
   pub within : (t : Task) → (processor w p).running ≡ Some t → t.number ≤ length w.tasks
   pub few : length w.tasks ≤ 64
@@ -46,7 +46,7 @@ module _ {Q : Type 0} (w : World Q) (p : Proc) (there : is_some (runner_of w p) 
   pub by_task : is_some (handler w p) ≡ false → FromTask w p
   by_task none = record { handler = none; running = some_runs (handler w p) (processor w p).running none there }
 
-  module _ (x : ProcessorTold) (h : Sees w p x) where
+  module _ (x : ProcessorReported) (h : Sees w p x) where
     -- the argument names the caller
     pub caller_same : (id : ℤ) → is_some (handler w p) ≡ false → is_caller w p (task_or_caller w p id) ≡ is_caller_named (runner_of w p) id
     caller_same id none = rw (caller_runs w p (by_task none)) (go id)
@@ -119,7 +119,7 @@ module _ {Q : Type 0} (w : World Q) (p : Proc) (there : is_some (runner_of w p) 
             ∙ wrong in
             ap (λ b. b || ((processor w p).locked && not (is_for_locked (call.Task c))) || ((may_wait (call.Task c) || stops w p (call.Task c)) && is_held w p)) machine
             ∙ sym (ap (λ b. b || (x.locked && not (is_for_locked (call.Task c))) ||
-            ((may_wait (call.Task c) || moves_caller (runner_of w p) (call.Task c)) && is_held_told x)) wrong)
+            ((may_wait (call.Task c) || moves_caller (runner_of w p) (call.Task c)) && is_held_reported x)) wrong)
           where
             wrong : is_not_for (runner_of w p) (call.Task c) ≡ true
             wrong = rw (all, handlers) (h.handler ∙ e)

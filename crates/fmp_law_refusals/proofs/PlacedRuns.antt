@@ -21,11 +21,11 @@ use Rattle.fmp_law_safety.specs.Runs.{AreOn}
 use Rattle.fmp_law_waits.proofs.Follows.{running_within}
 use Rattle.fmp_law_counts.specs.Due.{by_number}
 use Rattle.fmp_law_counts.proofs.Ready.{ready_after}
-use Rattle.fmp_law_records.specs.Due.{HandlersTold, is_at_end, made_due, ticks_on, returns_on, handlers_after, handlers_by, handlers_at_boot, is_handler}
-use Rattle.fmp_law_records.specs.Requests.{processor_at_boot, told_processor}
+use Rattle.fmp_law_records.specs.Due.{HandlersReported, is_at_end, made_due, ticks_on, returns_on, handlers_after, handlers_by, handlers_at_boot, is_handler}
+use Rattle.fmp_law_records.specs.Requests.{processor_at_boot, report_processor}
 use Rattle.fmp_law_records.proofs.DueRuns.{due_after_all}
 use Rattle.fmp_law_records.proofs.FlagsRuns.{flags_after_all}
-use Rattle.fmp_law_records.proofs.RequestsRuns.{by_parts, HoldsTold, holds_after_all}
+use Rattle.fmp_law_records.proofs.RequestsRuns.{by_parts, HoldsReported, holds_after_all}
 use Rattle.fmp_law_refusals.proofs.Placed.{Sees}
 
 -- What records call due is a handler.
@@ -34,7 +34,7 @@ abbrev AreHandlers : List Runner → Type 0
 AreHandlers ds = All (λ d. is_handler (Some d) ≡ true) ds
 
 module _ (c : Setup) (p : Proc) where
-  made_handlers : (x : HandlersTold) → AreHandlers (made_due c p x)
+  made_handlers : (x : HandlersReported) → AreHandlers (made_due c p x)
   made_handlers x =
       let H : Runner → Type 0 = λ d. is_handler (Some d) ≡ true in
       let alarms : List Object = by_number c.alarms (λ a. is_at_end c.timer p (x.alarms a)) in
@@ -42,7 +42,7 @@ module _ (c : Setup) (p : Proc) where
       All-append H (map runner.Alarm alarms) (map runner.Cyclic cyclics) (All-map H runner.Alarm alarms (λ i d h. refl))
       (All-map H runner.Cyclic cyclics (λ i d h. refl))
 
-  due_handlers : (rs : List Record) (x : HandlersTold) → AreHandlers x.due → AreHandlers (handlers_by c p rs x).due
+  due_handlers : (rs : List Record) (x : HandlersReported) → AreHandlers x.due → AreHandlers (handlers_by c p rs x).due
   due_handlers [] x h = h
   due_handlers (r ∷ rs) x h =
       let H : Runner → Type 0 = λ d. is_handler (Some d) ≡ true in
@@ -59,10 +59,10 @@ module _ (c : Setup) (events : List Event) (valid : IsValid c) (on : AreOn c.pro
   abbrev m : State
   m = replay numbered (booted c) events
 
-  pub seen_after_all : Sees m p (told_processor c p (answers numbered (booted c) events))
+  pub seen_after_all : Sees m p (report_processor c p (answers numbered (booted c) events))
   seen_after_all =
       let rs : List Record = answers numbered (booted c) events in
-      let holds : HoldsTold c p m (told_processor c p rs) = holds_after_all c p here events valid on in
+      let holds : HoldsReported c p m (report_processor c p rs) = holds_after_all c p here events valid on in
       let ready = ready_after c valid events on in
       let handlers : AreHandlers (item [] m.due p.number) =
       subst AreHandlers (sym (due_after_all c p here events valid on)) (due_handlers c p rs (handlers_at_boot c) (All-nil _)) in

@@ -31,19 +31,19 @@ use Rattle.fmp_rules.specs.Step.{step, replay, answers}
 use Rattle.fmp_rules.specs.Boot.{booted}
 use Rattle.fmp_law_safety.specs.Runs.{processor_of, AreOn}
 use Rattle.fmp_law_balance.specs.Accepted.{accepted_value}
-use Rattle.fmp_law_waits.proofs.Events.{event_told}
-use Rattle.fmp_law_records.specs.Requests.{ProcessorTold, some_due, is_held_told, told_processor}
+use Rattle.fmp_law_waits.proofs.Events.{event_reported}
+use Rattle.fmp_law_records.specs.Requests.{ProcessorReported, some_due, is_held_reported, report_processor}
 use Rattle.fmp_law_refusals.specs.Misplaced.{is_misplaced, is_context_error, is_idle, EventIsPlaced, CallIsPlaced}
 use Rattle.fmp_law_refusals.specs.Meanings.{task_meant, object_of}
 use Rattle.fmp_law_refusals.specs.Known.{are_known}
 use Rattle.fmp_law_refusals.specs.Arguments.{are_proper, is_unknown_error, is_range_error, EventIsJudged, ArgumentsAreJudged}
-use Rattle.fmp_law_refusals.specs.Found.{FoundTold, found_told, has_bits, takes_value, gives_value, has_block}
+use Rattle.fmp_law_refusals.specs.Found.{FoundReported, found_reported, has_bits, takes_value, gives_value, has_block}
 use Rattle.fmp_law_refusals.specs.Errors.{Errors, task_errors, sync_errors, buffer_errors, system_errors, spin_errors, state_errors}
-use Rattle.fmp_law_refusals.specs.Callers.{told_running}
-use Rattle.fmp_law_refusals.specs.Refusals.{refused_with, first_of, row_told, refusal_told, IsRefusalTold}
+use Rattle.fmp_law_refusals.specs.Callers.{report_running}
+use Rattle.fmp_law_refusals.specs.Refusals.{refused_with, first_of, row_reported, refusal_reported, IsRefusalReported}
 use Rattle.fmp_law_refusals.specs.Outcomes.{accepted, gives, or_waits, least_block, refused_or, task_outcome, sync_outcome, buffer_outcome, system_outcome}
-use Rattle.fmp_law_refusals.specs.Outcomes.{spin_outcome, outcome_told, answer_told}
-use Rattle.fmp_law_refusals.proofs.Answers.{answers_told}
+use Rattle.fmp_law_refusals.specs.Outcomes.{spin_outcome, outcome_reported, answer_reported}
+use Rattle.fmp_law_refusals.proofs.Answers.{answers_reported}
 
 -- A code of an error on the state; and what a call answers that is done, waits or tries again.
 
@@ -65,7 +65,7 @@ is_no_refusal answer.Spin = true
 is_no_refusal answer.Gone = true
 is_no_refusal other = false
 
-module _ (c : Setup) (x : FoundTold) (here : ProcessorTold) (running : Option Task) (p : Proc) (r : Option Runner) (v : Option ℤ) where
+module _ (c : Setup) (x : FoundReported) (here : ProcessorReported) (running : Option Task) (p : Proc) (r : Option Runner) (v : Option ℤ) where
   of_tasks : (y : TaskCall) → AreOfState (task_errors c x p r y)
   of_tasks (tasks.ActTsk id) = (refl, tt)
   of_tasks (tasks.IactTsk id) = (refl, tt)
@@ -160,7 +160,7 @@ module _ (c : Setup) (x : FoundTold) (here : ProcessorTold) (running : Option Ta
   spin_done (spin.IlocSpn id) = tries (is_some (x.holder (object_of id)))
   spin_done y = refl
 
-  is_outcome : (y : Call) → Outcome (outcome_told c x here running p r v y)
+  is_outcome : (y : Call) → Outcome (outcome_reported c x here running p r v y)
   is_outcome (call.Task y) = task_done y
   is_outcome (call.Sync y) = sync_done y
   is_outcome (call.Buffer y) = buffer_done y
@@ -208,36 +208,36 @@ module _ (a : Answer) (is : is_no_refusal a ≡ true) where
 -- So it is of each event, where its answer is told.
 
 module _ (c : Setup) (records : List Record) (r : Option Runner) (a : Answer) (v : Option ℤ) where
-  abbrev IsTold : Event → Type 0
-  IsTold e = a ≡ answer_told c records r v e
+  abbrev IsReported : Event → Type 0
+  IsReported e = a ≡ answer_reported c records r v e
 
-  module _ (p : Proc) (y : Call) (told : IsTold (event.Call p y)) where
-    abbrev x : ProcessorTold
-    x = told_processor c p records
+  module _ (p : Proc) (y : Call) (report : IsReported (event.Call p y)) where
+    abbrev x : ProcessorReported
+    x = report_processor c p records
 
     abbrev m : Bool
     m = is_misplaced x r y
 
     abbrev SomebodySays : Type 0
-    SomebodySays = Says m (are_known c y) (are_proper c records r y) (first_of (row_told c records p r y)) a
+    SomebodySays = Says m (are_known c y) (are_proper c records r y) (first_of (row_reported c records p r y)) a
 
     somebody : is_some r ≡ true → SomebodySays
     somebody there =
-        subst (λ (z : Answer). Says m (are_known c y) (are_proper c records r y) (first_of (row_told c records p r y)) z)
-        (sym (told ∙ cond-true (is_some r) _ answer.Idle there))
-        (says_row _ (is_outcome c (found_told c records) x (told_running c p records) p r v y) m (are_known c y) (are_proper c records r y)
-        (state_errors c (found_told c records) p r y)
-        (of_state c (found_told c records) x (told_running c p records) p r v y))
+        subst (λ (z : Answer). Says m (are_known c y) (are_proper c records r y) (first_of (row_reported c records p r y)) z)
+        (sym (report ∙ cond-true (is_some r) _ answer.Idle there))
+        (says_row _ (is_outcome c (found_reported c records) x (report_running c p records) p r v y) m (are_known c y) (are_proper c records r y)
+        (state_errors c (found_reported c records) p r y)
+        (of_state c (found_reported c records) x (report_running c p records) p r v y))
 
     nobody : is_some r ≡ false → a ≡ answer.Idle
-    nobody none = told ∙ cond-false (is_some r) _ answer.Idle none
+    nobody none = report ∙ cond-false (is_some r) _ answer.Idle none
 
-    call_refused : refused_with a ≡ refusal_told c records r (event.Call p y)
+    call_refused : refused_with a ≡ refusal_reported c records r (event.Call p y)
     call_refused = go (is_some r) refl
       where
-        go : (b : Bool) → is_some r ≡ b → refused_with a ≡ refusal_told c records r (event.Call p y)
-        go true there = (somebody there).refused ∙ sym (cond-true (is_some r) (first_of (row_told c records p r y)) None there)
-        go false none = ap refused_with (nobody none) ∙ sym (cond-false (is_some r) (first_of (row_told c records p r y)) None none)
+        go : (b : Bool) → is_some r ≡ b → refused_with a ≡ refusal_reported c records r (event.Call p y)
+        go true there = (somebody there).refused ∙ sym (cond-true (is_some r) (first_of (row_reported c records p r y)) None there)
+        go false none = ap refused_with (nobody none) ∙ sym (cond-false (is_some r) (first_of (row_reported c records p r y)) None none)
 
     call_placed : EventIsPlaced x r a (event.Call p y)
     call_placed = go (is_some r) refl
@@ -262,25 +262,25 @@ module _ (c : Setup) (records : List Record) (r : Option Runner) (a : Answer) (v
   abbrev IsUnrefused : Answer → Type 0
   IsUnrefused z = refused_with z ≡ None
 
-  refused_by : (e : Event) → IsTold e → refused_with a ≡ refusal_told c records r e
-  refused_by (event.Call p y) told = call_refused p y told
-  refused_by (event.Tick p) told =
-      let x : ProcessorTold = told_processor c p records in
-      ap refused_with told
+  refused_by : (e : Event) → IsReported e → refused_with a ≡ refusal_reported c records r e
+  refused_by (event.Call p y) report = call_refused p y report
+  refused_by (event.Tick p) report =
+      let x : ProcessorReported = report_processor c p records in
+      ap refused_with report
       ∙ cond_both (has_time c.timer p) _ answer.Nothing IsUnrefused
       (λ _. cond_both (x.locked || some_due x.handlers.due) answer.Held answer.Taken IsUnrefused (λ _. refl) (λ _. refl)) (λ _. refl)
-  refused_by (event.Ipi p) told =
-      let x : ProcessorTold = told_processor c p records in
-      ap refused_with told ∙ cond_both (is_held_told x) answer.Held _ IsUnrefused (λ _. refl)
+  refused_by (event.Ipi p) report =
+      let x : ProcessorReported = report_processor c p records in
+      ap refused_with report ∙ cond_both (is_held_reported x) answer.Held _ IsUnrefused (λ _. refl)
       (λ _. cond_both x.pending answer.Taken answer.Nothing IsUnrefused (λ _. refl) (λ _. refl))
 
-  placed_by : (e : Event) → IsTold e → EventIsPlaced (told_processor c (processor_of e) records) r a e
-  placed_by (event.Call p y) told = call_placed p y told
-  placed_by e told = tt
+  placed_by : (e : Event) → IsReported e → EventIsPlaced (report_processor c (processor_of e) records) r a e
+  placed_by (event.Call p y) report = call_placed p y report
+  placed_by e report = tt
 
-  judged_by : (e : Event) → IsTold e → EventIsJudged c records r a e
-  judged_by (event.Call p y) told = call_judged p y told
-  judged_by e told = tt
+  judged_by : (e : Event) → IsReported e → EventIsJudged c records r a e
+  judged_by (event.Call p y) report = call_judged p y report
+  judged_by e report = tt
 
 -- Along a run.
 
@@ -292,17 +292,17 @@ module _ (c : Setup) (events : List Event) (valid : IsValid c) (on : AreOn c.pro
   last = (step numbered (replay numbered (booted c) events) e).1
 
   is_event : last.event ≡ e
-  is_event = event_told numbered (replay numbered (booted c) events) e
+  is_event = event_reported numbered (replay numbered (booted c) events) e
 
-  told_here : IsTold c records last.runner last.answer (accepted_value last.answer) e
-  told_here = answers_told c events valid on e here ∙ ap (answer_told c records last.runner (accepted_value last.answer)) is_event
+  report_here : IsReported c records last.runner last.answer (accepted_value last.answer) e
+  report_here = answers_reported c events valid on e here ∙ ap (answer_reported c records last.runner (accepted_value last.answer)) is_event
 
-  pub refusals_told : IsRefusalTold c records last
-  refusals_told = refused_by c records last.runner last.answer _ e told_here ∙ sym (ap (refusal_told c records last.runner) is_event)
+  pub refusals_reported : IsRefusalReported c records last
+  refusals_reported = refused_by c records last.runner last.answer _ e report_here ∙ sym (ap (refusal_reported c records last.runner) is_event)
 
-  pub calls_are_placed : CallIsPlaced (told_processor c (processor_of e) records) last
-  calls_are_placed = subst (EventIsPlaced (told_processor c (processor_of e) records) last.runner last.answer) (sym is_event)
-      (placed_by c records last.runner last.answer _ e told_here)
+  pub calls_are_placed : CallIsPlaced (report_processor c (processor_of e) records) last
+  calls_are_placed = subst (EventIsPlaced (report_processor c (processor_of e) records) last.runner last.answer) (sym is_event)
+      (placed_by c records last.runner last.answer _ e report_here)
 
   pub arguments_judged : ArgumentsAreJudged c records last
-  arguments_judged = subst (EventIsJudged c records last.runner last.answer) (sym is_event) (judged_by c records last.runner last.answer _ e told_here)
+  arguments_judged = subst (EventIsJudged c records last.runner last.answer) (sym is_event) (judged_by c records last.runner last.answer _ e report_here)

@@ -22,9 +22,9 @@ use Rattle.fmp_codes.specs.declared.records.Runner.TheVariants as runner
 use Rattle.fmp_setup.specs.declared.setup.Order.TheVariants as order
 use Rattle.fmp_setup.specs.Setup.{Setup, of_tasks, alone}
 use Rattle.fmp_rules.proofs.Scenario.{a_task, both, value}
-use Rattle.fmp_law_refusals.specs.Callers.{told_caller}
-use Rattle.fmp_law_refusals.specs.Refusals.{refusal_told, IsRefusalTold}
-use Rattle.fmp_law_refusals.specs.Outcomes.{answer_told}
+use Rattle.fmp_law_refusals.specs.Callers.{report_caller}
+use Rattle.fmp_law_refusals.specs.Refusals.{refusal_reported, IsRefusalReported}
+use Rattle.fmp_law_refusals.specs.Outcomes.{answer_reported}
 
 -- On two processors: T1 on the first and T2 on the second run from boot on; T3 is dormant, and can only be on the first. A semaphore with
 -- one unit of at most one, an eventflag for one task, data queues of no value and of one, a pool of one block, an alarm and a spin lock.
@@ -56,7 +56,7 @@ ok = answer.Done code.Accepted None
 
 -- with which code the next call is refused after these lines
 abbrev next : List Record → ℕ → Runner → Call → Option Code
-next lines p r c = refusal_told machine lines (Some r) (event.Call (as_proc p) c)
+next lines p r c = refusal_reported machine lines (Some r) (event.Call (as_proc p) c)
 
 abbrev asks : TaskCall → Option Code
 asks c = next [] 1 T1 (call.Task c)
@@ -176,19 +176,19 @@ blocks = refl
 
 -- A line that answers a later error of its row, a needless one, or none where one is due is no line of the machine.
 
-another_error : IsRefusalTold machine [] (line 1 T1 (call.Task (tasks.ChgPri (pos 3) (pos 17))) (answer.Done code.ObjectState None)) → ⊥
+another_error : IsRefusalReported machine [] (line 1 T1 (call.Task (tasks.ChgPri (pos 3) (pos 17))) (answer.Done code.ObjectState None)) → ⊥
 another_error h = cc
 
-needless_error : IsRefusalTold machine [] (line 1 T1 (call.Task (tasks.ActTsk (pos 3))) (answer.Done code.QueueOverflow None)) → ⊥
+needless_error : IsRefusalReported machine [] (line 1 T1 (call.Task (tasks.ActTsk (pos 3))) (answer.Done code.QueueOverflow None)) → ⊥
 needless_error h = cc
 
-no_error : IsRefusalTold machine with_lock (line 1 T1 (call.Task (tasks.ActTsk (pos 3))) ok) → ⊥
+no_error : IsRefusalReported machine with_lock (line 1 T1 (call.Task (tasks.ActTsk (pos 3))) ok) → ⊥
 no_error h = cc
 
 -- What calls answer that are not refused.
 
 abbrev answers_next : List Record → ℕ → Runner → Call → Answer
-answers_next lines p r c = answer_told machine lines (Some r) None (event.Call (as_proc p) c)
+answers_next lines p r c = answer_reported machine lines (Some r) None (event.Call (as_proc p) c)
 
 at_once_or_not : answers_next [] 1 T1 (call.Sync (sync.WaiSem (pos 1))) ∷ answers_next taken 1 T1 (call.Sync (sync.WaiSem (pos 1)))
     ∷ answers_next taken 1 T1 (call.Sync (sync.TwaiSem (pos 1) (pos 0)))
@@ -206,19 +206,19 @@ with_values : answers_next [] 1 T1 (call.Buffer (buffer.GetMpf (pos 1))) ∷ ans
 with_values = refl
 
 -- nobody calls where no task runs
-nobody_calls : answer_told machine [] None None (event.Call (as_proc 1) (call.Task (tasks.ActTsk (pos 9)))) ≡ answer.Idle
+nobody_calls : answer_reported machine [] None None (event.Call (as_proc 1) (call.Task (tasks.ActTsk (pos 9)))) ≡ answer.Idle
 nobody_calls = refl
 
 -- a tick is held back while its processor is locked, and an interrupt finds no request unless one was sent
-signals : answer_told machine with_lock (Some T1) None (event.Tick (as_proc 1)) ∷ answer_told machine disabled (Some T1) None (event.Tick (as_proc 1))
-    ∷ answer_told machine disabled (Some T1) None (event.Ipi (as_proc 1))
-    ∷ answer_told machine [] (Some T1) None (event.Ipi (as_proc 1))
-    ∷ answer_told machine (record (line 1 T1 (call.Task (tasks.ActTsk (pos 2))) ok) { requests = as_proc 2 ∷ [] } ∷ []) (Some T2) None (event.Ipi (as_proc 2)) ∷ []
+signals : answer_reported machine with_lock (Some T1) None (event.Tick (as_proc 1)) ∷ answer_reported machine disabled (Some T1) None (event.Tick (as_proc 1))
+    ∷ answer_reported machine disabled (Some T1) None (event.Ipi (as_proc 1))
+    ∷ answer_reported machine [] (Some T1) None (event.Ipi (as_proc 1))
+    ∷ answer_reported machine (record (line 1 T1 (call.Task (tasks.ActTsk (pos 2))) ok) { requests = as_proc 2 ∷ [] } ∷ []) (Some T2) None (event.Ipi (as_proc 2)) ∷ []
     ≡ answer.Held ∷ answer.Taken ∷ answer.Held ∷ answer.Nothing ∷ answer.Taken ∷ []
 signals = refl
 
 -- who calls: the tops at boot, and whom a record says to run from then on
-callers : told_caller machine (as_proc 2) [] ∷ told_caller machine (as_proc 2) (record (line 2 T2 (call.Task tasks.SlpTsk) answer.Wait) { run_change = Some None } ∷ [])
-    ∷ told_caller machine (as_proc 1) asleep ∷ []
+callers : report_caller machine (as_proc 2) [] ∷ report_caller machine (as_proc 2) (record (line 2 T2 (call.Task tasks.SlpTsk) answer.Wait) { run_change = Some None } ∷ [])
+    ∷ report_caller machine (as_proc 1) asleep ∷ []
     ≡ Some T2 ∷ None ∷ Some T1 ∷ []
 callers = refl

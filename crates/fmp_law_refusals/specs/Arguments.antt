@@ -26,7 +26,7 @@ use Rattle.fmp_setup.specs.declared.setup.PoolSetup.{PoolSetup}
 use Rattle.fmp_setup.specs.Setup.{Setup, no_pool, no_cyclic, no_alarm}
 use Rattle.fmp_law_balance.specs.Pools.{handed_out, given_back}
 use Rattle.fmp_law_waits.specs.Waits.{setup_of}
-use Rattle.fmp_law_records.specs.Requests.{told_processor}
+use Rattle.fmp_law_records.specs.Requests.{report_processor}
 use Rattle.fmp_law_refusals.specs.Misplaced.{is_misplaced}
 use Rattle.fmp_law_refusals.specs.Meanings.{is_one_of, is_zero_or_of, says_time, says_timeout, task_of, task_meant, object_of, is_in_class}
 use Rattle.fmp_law_refusals.specs.Known.{are_known}
@@ -115,7 +115,7 @@ is_range_error other = false
 
 -- somebody makes the call, and it is not misplaced
 abbrev pub is_in_place : Setup → List Record → Option Runner → Event → Call → Bool
-is_in_place c records r e x = is_some r && not (is_misplaced (told_processor c (processor_of e) records) r x)
+is_in_place c records r e x = is_some r && not (is_misplaced (report_processor c (processor_of e) records) r x)
 
 -- where these are the records before it, a call answers E_ID just where it is in place and has an ID of no object, and E_PAR just
 -- where it is in place, its IDs are known, and another argument is out of its range

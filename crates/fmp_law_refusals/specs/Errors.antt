@@ -19,23 +19,23 @@ use Rattle.fmp_codes.specs.declared.codes.Code.{Code}
 use Rattle.fmp_codes.specs.declared.codes.Code.TheVariants as code
 use Rattle.fmp_codes.specs.declared.records.Runner.{Runner}
 use Rattle.fmp_setup.specs.Setup.{Setup}
-use Rattle.fmp_law_records.specs.Accepting.{TaskTold}
+use Rattle.fmp_law_records.specs.Accepting.{TaskReported}
 use Rattle.fmp_law_records.specs.Locks.{is_holder}
 use Rattle.fmp_law_refusals.specs.Meanings.{is_polling, task_of, task_meant, object_of}
 use Rattle.fmp_law_refusals.specs.Misplaced.{is_caller_named}
-use Rattle.fmp_law_refusals.specs.Found.{FoundTold, semaphore_setup, data_queue_setup, for_wakeup, for_unit, waits_so, somebody_waits}
+use Rattle.fmp_law_refusals.specs.Found.{FoundReported, semaphore_setup, data_queue_setup, for_wakeup, for_unit, waits_so, somebody_waits}
 use Rattle.fmp_law_refusals.specs.Found.{is_used, has_bits, takes_value, gives_value, has_block, holds_lock}
 
 abbrev pub Errors : Type 0
 Errors = List (Bool × Code)
 
-module _ (c : Setup) (x : FoundTold) (p : Proc) (r : Option Runner) where
+module _ (c : Setup) (x : FoundReported) (p : Proc) (r : Option Runner) where
   -- Of a task.
 
-  abbrev pub is_activated : TaskTold → Bool
+  abbrev pub is_activated : TaskReported → Bool
   is_activated t = t.life.active && is_some t.life.queued
 
-  abbrev pub is_elsewhere : TaskTold → Bool
+  abbrev pub is_elsewhere : TaskReported → Bool
   is_elsewhere t = not (t.life.at.number == p.number)
 
   -- of a wakeup: the task is dormant; or it does not sleep, and as many wakeups are queued for it as there may be

@@ -19,16 +19,16 @@ use Rattle.fmp_law_balance.specs.Semaphores.{brought, granted}
 use Rattle.fmp_law_balance.specs.Queues.{puts, out_by}
 use Rattle.fmp_law_waits.specs.Asked.{OpenWait}
 use Rattle.fmp_law_counts.specs.Wakeups.{queued_by}
-use Rattle.fmp_law_records.specs.Accepting.{TaskTold, told_task}
-use Rattle.fmp_law_records.specs.Priorities.{told_priority}
-use Rattle.fmp_law_records.specs.Patterns.{are_there, told_pattern}
+use Rattle.fmp_law_records.specs.Accepting.{TaskReported, report_task}
+use Rattle.fmp_law_records.specs.Priorities.{report_priority}
+use Rattle.fmp_law_records.specs.Patterns.{are_there, report_pattern}
 use Rattle.fmp_law_records.specs.Locks.{is_holder, holder_by}
 use Rattle.fmp_law_refusals.specs.Arguments.{is_out, pool_setup}
 
 -- of each task, with its priority and how many wakeups are queued for it; how many units a semaphore and how many values a data queue has, which
 -- pattern an eventflag, which blocks of a pool are out, and who holds a spin lock
-pub record FoundTold : Type 0 where
-  pub task : Task → TaskTold
+pub record FoundReported : Type 0 where
+  pub task : Task → TaskReported
   pub priority : Task → Pri
   pub wakeups : Task → ℕ
   pub units : Object → ℕ
@@ -48,13 +48,13 @@ module _ (c : Setup) where
   data_queue_setup d = slice_index_or c.data_queues (d.number - 1) no_data_queue
 
   -- after these records of a run from boot. What came in and did not go out is there
-  abbrev pub found_told : List Record → FoundTold
-  found_told records = record {
-    task = λ t. told_task c t records;
-    priority = λ t. told_priority c t records;
+  abbrev pub found_reported : List Record → FoundReported
+  found_reported records = record {
+    task = λ t. report_task c t records;
+    priority = λ t. report_priority c t records;
     wakeups = λ t. queued_by t records 0;
     units = λ s. (semaphore_setup s).initial + sum_by (brought s) records - sum_by (granted s) records;
-    pattern = λ f. told_pattern c f records;
+    pattern = λ f. report_pattern c f records;
     values = λ d. length (puts d [] records) - length (flat_map (out_by d) records);
     out = is_out records;
     holder = λ l. holder_by l records None;
@@ -95,7 +95,7 @@ waits_so what (Some o) = what o.wait
 
 -- What is there.
 
-module _ (c : Setup) (x : FoundTold) where
+module _ (c : Setup) (x : FoundReported) where
   -- some task waits for this
   abbrev pub somebody_waits : (Wait → Bool) → Bool
   somebody_waits what = list_any (λ t. waits_so what (x.task t).wait) (all_tasks c)

@@ -17,7 +17,7 @@ use Rattle.fmp_codes.specs.declared.records.Record.{Record}
 use Rattle.fmp_codes.specs.declared.records.Runner.{Runner}
 use Rattle.fmp_codes.specs.declared.records.Runner.TheVariants as runner
 use Rattle.fmp_law_records.specs.Due.{is_handler}
-use Rattle.fmp_law_records.specs.Requests.{ProcessorTold, is_held_told}
+use Rattle.fmp_law_records.specs.Requests.{ProcessorReported, is_held_reported}
 
 -- Who may make a call.
 
@@ -105,8 +105,8 @@ moves_caller r (call.Task (task.MigTsk id to)) = is_caller_named r id
 moves_caller r other = false
 
 -- a call is misplaced: its caller may not make it, or not while the processor is CPU-locked or held, as the records say that it is
-abbrev pub is_misplaced : ProcessorTold → Option Runner → Call → Bool
-is_misplaced before r c = is_not_for r c || (before.locked && not (is_for_locked c)) || ((may_wait c || moves_caller r c) && is_held_told before)
+abbrev pub is_misplaced : ProcessorReported → Option Runner → Call → Bool
+is_misplaced before r c = is_not_for r c || (before.locked && not (is_for_locked c)) || ((may_wait c || moves_caller r c) && is_held_reported before)
 
 -- What is answered.
 
@@ -120,13 +120,13 @@ is_idle answer.Idle = true
 is_idle other = false
 
 -- where its processor was so before a call, the call answers idle just where nobody makes it, and E_CTX just where it is misplaced
-pub record IsPlaced (before : ProcessorTold) (r : Option Runner) (a : Answer) (c : Call) : Type 0 where
+pub record IsPlaced (before : ProcessorReported) (r : Option Runner) (a : Answer) (c : Call) : Type 0 where
   pub idle : is_idle a ≡ not (is_some r)
   pub misplaced : is_context_error a ≡ (is_some r && is_misplaced before r c)
 
-abbrev pub EventIsPlaced : ProcessorTold → Option Runner → Answer → Event → Type 0
+abbrev pub EventIsPlaced : ProcessorReported → Option Runner → Answer → Event → Type 0
 EventIsPlaced before r a (event.Call p c) = IsPlaced before r a c
 EventIsPlaced before r a other = Unit {0}
 
-abbrev pub CallIsPlaced : ProcessorTold → Record → Type 0
+abbrev pub CallIsPlaced : ProcessorReported → Record → Type 0
 CallIsPlaced before r = EventIsPlaced before r.runner r.answer r.event

@@ -30,12 +30,12 @@ use Rattle.fmp_law_balance.specs.Accepted.{accepted_value}
 use Rattle.fmp_law_records.specs.Lives.{queued_count}
 use Rattle.fmp_law_records.specs.Flags.{number_if}
 use Rattle.fmp_law_records.specs.Due.{is_handler}
-use Rattle.fmp_law_records.specs.Requests.{ProcessorTold, some_due, is_held_told, told_processor}
-use Rattle.fmp_law_refusals.specs.Callers.{told_running}
+use Rattle.fmp_law_records.specs.Requests.{ProcessorReported, some_due, is_held_reported, report_processor}
+use Rattle.fmp_law_refusals.specs.Callers.{report_running}
 use Rattle.fmp_law_refusals.specs.Meanings.{task_meant, object_of}
 use Rattle.fmp_law_refusals.specs.Arguments.{pool_setup}
-use Rattle.fmp_law_refusals.specs.Found.{FoundTold, found_told, has_bits, takes_value, gives_value, has_block}
-use Rattle.fmp_law_refusals.specs.Refusals.{first_of, row_told}
+use Rattle.fmp_law_refusals.specs.Found.{FoundReported, found_reported, has_bits, takes_value, gives_value, has_block}
+use Rattle.fmp_law_refusals.specs.Refusals.{first_of, row_reported}
 
 abbrev pub accepted : Answer
 accepted = answer.Done code.Accepted None
@@ -47,7 +47,7 @@ gives v = answer.Done code.Accepted (Some v)
 abbrev pub or_waits : Bool → Answer → Answer
 or_waits at_once a = if at_once then a else answer.Wait
 
-module _ (c : Setup) (x : FoundTold) (here : ProcessorTold) (running : Option Task) (p : Proc) (r : Option Runner) (received : Option ℤ) where
+module _ (c : Setup) (x : FoundReported) (here : ProcessorReported) (running : Option Task) (p : Proc) (r : Option Runner) (received : Option ℤ) where
   -- the least block of a pool that is not out
   abbrev pub least_block : Object → ℤ
   least_block m = pos (unwrap_or (position (λ b. not (x.out m b)) (range_with_len 0 (pool_setup c m).blocks)) 0)
@@ -89,7 +89,7 @@ module _ (c : Setup) (x : FoundTold) (here : ProcessorTold) (running : Option Ta
   system_outcome system.SnsCtx = gives (number_if (is_handler r))
   system_outcome system.SnsLoc = gives (number_if here.locked)
   system_outcome system.SnsDsp = gives (number_if here.disabled)
-  system_outcome system.SnsDpn = gives (number_if (is_held_told here))
+  system_outcome system.SnsDpn = gives (number_if (is_held_reported here))
   system_outcome other = accepted
 
   -- who finds a lock taken tries again
@@ -98,13 +98,13 @@ module _ (c : Setup) (x : FoundTold) (here : ProcessorTold) (running : Option Ta
   spin_outcome (spin.IlocSpn id) = if is_some (x.holder (object_of id)) then answer.Spin else accepted
   spin_outcome other = accepted
 
-  abbrev pub outcome_told : Call → Answer
-  outcome_told (call.Task y) = task_outcome y
-  outcome_told (call.Sync y) = sync_outcome y
-  outcome_told (call.Buffer y) = buffer_outcome y
-  outcome_told (call.System y) = system_outcome y
-  outcome_told (call.Spin y) = spin_outcome y
-  outcome_told other = accepted
+  abbrev pub outcome_reported : Call → Answer
+  outcome_reported (call.Task y) = task_outcome y
+  outcome_reported (call.Sync y) = sync_outcome y
+  outcome_reported (call.Buffer y) = buffer_outcome y
+  outcome_reported (call.System y) = system_outcome y
+  outcome_reported (call.Spin y) = spin_outcome y
+  outcome_reported other = accepted
 
 -- the answer of a call that is refused with a code, or is not
 abbrev pub refused_or : Option Code → Answer → Answer
@@ -114,17 +114,17 @@ refused_or (Some z) a = answer.Done z None
 -- What an event answers where these are the records before it. A call answers the code of the first error of its row, or else what is told
 -- above. A tick that counts is held back where its processor is CPU-locked or a handler is due there, and an interrupt where the
 -- processor is held.
-abbrev pub answer_told : Setup → List Record → Option Runner → Option ℤ → Event → Answer
-answer_told c records r received (event.Call p y) =
+abbrev pub answer_reported : Setup → List Record → Option Runner → Option ℤ → Event → Answer
+answer_reported c records r received (event.Call p y) =
     if is_some r
-    then refused_or (first_of (row_told c records p r y)) (outcome_told c (found_told c records) (told_processor c p records) (told_running c p records) p r received y)
+    then refused_or (first_of (row_reported c records p r y)) (outcome_reported c (found_reported c records) (report_processor c p records) (report_running c p records) p r received y)
     else answer.Idle
-answer_told c records r received (event.Tick p) =
-    let x : ProcessorTold = told_processor c p records in
+answer_reported c records r received (event.Tick p) =
+    let x : ProcessorReported = report_processor c p records in
     if has_time c.timer p then (if x.locked || some_due x.handlers.due then answer.Held else answer.Taken) else answer.Nothing
-answer_told c records r received (event.Ipi p) =
-    let x : ProcessorTold = told_processor c p records in if is_held_told x then answer.Held else if x.pending then answer.Taken else answer.Nothing
+answer_reported c records r received (event.Ipi p) =
+    let x : ProcessorReported = report_processor c p records in if is_held_reported x then answer.Held else if x.pending then answer.Taken else answer.Nothing
 
 -- an event answers this, but for the value that a call receives from a data queue, which the balance of its values tells
-abbrev pub IsAnswerTold : Setup → List Record → Record → Type 0
-IsAnswerTold c records r = r.answer ≡ answer_told c records r.runner (accepted_value r.answer) r.event
+abbrev pub IsAnswerReported : Setup → List Record → Record → Type 0
+IsAnswerReported c records r = r.answer ≡ answer_reported c records r.runner (accepted_value r.answer) r.event

@@ -11,11 +11,11 @@ use Rattle.fmp_codes.specs.declared.records.Event.TheVariants as event
 use Rattle.fmp_codes.specs.declared.records.Record.{Record}
 use Rattle.fmp_codes.specs.declared.records.Runner.{Runner}
 use Rattle.fmp_setup.specs.Setup.{Setup}
-use Rattle.fmp_law_records.specs.Requests.{told_processor}
+use Rattle.fmp_law_records.specs.Requests.{report_processor}
 use Rattle.fmp_law_refusals.specs.Misplaced.{is_misplaced}
 use Rattle.fmp_law_refusals.specs.Known.{are_known}
 use Rattle.fmp_law_refusals.specs.Arguments.{are_proper}
-use Rattle.fmp_law_refusals.specs.Found.{found_told}
+use Rattle.fmp_law_refusals.specs.Found.{found_reported}
 use Rattle.fmp_law_refusals.specs.Errors.{Errors, state_errors}
 
 -- the code that an answer refuses a call with, if it does
@@ -30,18 +30,18 @@ first_of [] = None
 first_of (e ∷ es) = if e.0 then Some e.1 else first_of es
 
 -- the row of a call that is made on p: its errors in their order
-abbrev pub row_told : Setup → List Record → Proc → Option Runner → Call → Errors
-row_told c records p r y =
-    (is_misplaced (told_processor c p records) r y, code.Context)
+abbrev pub row_reported : Setup → List Record → Proc → Option Runner → Call → Errors
+row_reported c records p r y =
+    (is_misplaced (report_processor c p records) r y, code.Context)
     ∷ (not (are_known c y), code.Identifier)
     ∷ (not (are_proper c records r y), code.Parameter)
-    ∷ state_errors c (found_told c records) p r y
+    ∷ state_errors c (found_reported c records) p r y
 
 -- where these are the records before an event, a call that somebody makes is refused with the code of the first error of its row, and
 -- nothing else is refused
-abbrev pub refusal_told : Setup → List Record → Option Runner → Event → Option Code
-refusal_told c records r (event.Call p y) = if is_some r then first_of (row_told c records p r y) else None
-refusal_told c records r other = None
+abbrev pub refusal_reported : Setup → List Record → Option Runner → Event → Option Code
+refusal_reported c records r (event.Call p y) = if is_some r then first_of (row_reported c records p r y) else None
+refusal_reported c records r other = None
 
-abbrev pub IsRefusalTold : Setup → List Record → Record → Type 0
-IsRefusalTold c records r = refused_with r.answer ≡ refusal_told c records r.runner r.event
+abbrev pub IsRefusalReported : Setup → List Record → Record → Type 0
+IsRefusalReported c records r = refused_with r.answer ≡ refusal_reported c records r.runner r.event

@@ -7,19 +7,19 @@ ghost use Rattle.fmp_rules.specs.Arrivals.{numbered};
 ghost use Rattle.fmp_rules.specs.Step.{step, replay, answers};
 ghost use Rattle.fmp_rules.specs.Boot.{booted};
 ghost use Rattle.fmp_law_safety.specs.Runs.{processor_of, AreOn};
-ghost use Rattle.fmp_law_records.specs.Requests.{told_processor};
-ghost use Rattle.fmp_law_refusals.specs.Callers.{IsCallerTold};
+ghost use Rattle.fmp_law_records.specs.Requests.{report_processor};
+ghost use Rattle.fmp_law_refusals.specs.Callers.{IsCallerReported};
 ghost use Rattle.fmp_law_refusals.specs.Misplaced.{CallIsPlaced};
 ghost use Rattle.fmp_law_refusals.specs.Arguments.{ArgumentsAreJudged};
-ghost use Rattle.fmp_law_refusals.specs.Refusals.{IsRefusalTold};
-ghost use Rattle.fmp_law_refusals.specs.Outcomes.{IsAnswerTold};
+ghost use Rattle.fmp_law_refusals.specs.Refusals.{IsRefusalReported};
+ghost use Rattle.fmp_law_refusals.specs.Outcomes.{IsAnswerReported};
 
 /// After every list of events on the processors of a valid configuration, whoever can make calls from the processor of an event, as its
 /// record has it, is told by the records before: the first handler that is due there, or else the task that the last of them on this
 /// processor that tells of a change says, or the top at boot if none does.
-pub fn callers_are_told()
+pub fn callers_are_reported()
     ensures { (c : Setup) (events : List Event) → IsValid c → AreOn c.processors events → (event : Event) → (processor_of event).number ≤ c.processors
-        → IsCallerTold c (answers numbered (booted c) events) (step numbered (replay numbered (booted c) events) event).1 }
+        → IsCallerReported c (answers numbered (booted c) events) (step numbered (replay numbered (booted c) events) event).1 }
 {}
 
 /// After every list of events on the processors of a valid configuration, a call answers `idle` just where nobody makes it, and
@@ -28,7 +28,7 @@ pub fn callers_are_told()
 /// records, and it can make its caller wait, or suspends it or takes it elsewhere.
 pub fn calls_are_made_in_place()
     ensures { (c : Setup) (events : List Event) → IsValid c → AreOn c.processors events → (event : Event) → (processor_of event).number ≤ c.processors
-        → CallIsPlaced (told_processor c (processor_of event) (answers numbered (booted c) events)) (step numbered (replay numbered (booted c) events) event).1 }
+        → CallIsPlaced (report_processor c (processor_of event) (answers numbered (booted c) events)) (step numbered (replay numbered (booted c) events) event).1 }
 {}
 
 /// So it is of the arguments of a call that is in place: it answers E_ID just where an ID is that of no object of the configuration,
@@ -44,15 +44,15 @@ pub fn arguments_are_judged()
 /// the first error of its row that the records before it tell, and is not refused if they tell none: it is misplaced, an ID is
 /// unknown, another argument is out of its range, and then the errors on the state in the order of the row. No tick and no interrupt
 /// answers a code.
-pub fn refusals_are_told()
+pub fn refusals_are_reported()
     ensures { (c : Setup) (events : List Event) → IsValid c → AreOn c.processors events → (event : Event) → (processor_of event).number ≤ c.processors
-        → IsRefusalTold c (answers numbered (booted c) events) (step numbered (replay numbered (booted c) events) event).1 }
+        → IsRefusalReported c (answers numbered (booted c) events) (step numbered (replay numbered (booted c) events) event).1 }
 {}
 
 /// So is every answer, whole: with which code a call is refused, whether it is done at once, waits, finds its spin lock taken or ends its
 /// caller, and with which value it is done; and whether a tick or an interrupt is taken, held back or finds nothing. The only thing
 /// that this law does not tell is the value that a call receives from a data queue, which `nothing_is_lost_or_doubled` tells.
-pub fn answers_are_told()
+pub fn answers_are_reported()
     ensures { (c : Setup) (events : List Event) → IsValid c → AreOn c.processors events → (event : Event) → (processor_of event).number ≤ c.processors
-        → IsAnswerTold c (answers numbered (booted c) events) (step numbered (replay numbered (booted c) events) event).1 }
+        → IsAnswerReported c (answers numbered (booted c) events) (step numbered (replay numbered (booted c) events) event).1 }
 {}

@@ -91,5 +91,5 @@ module _ {Q : Type 0} (w : World Q) (p : Proc) where
   some_runs f = ap is_some f.running
 
   -- a call that tells something
-  pub keeps_told : (row : Row Q) → row.effect.0 ≡ w → Occupied w p → KeepsOthers w (called w p row).0 p
-  keeps_told row e o = keeps_called row o (λ a. subst (λ v. KeepsOthers w v p) (sym e) (keeps_all w p o))
+  pub keeps_reported : (row : Row Q) → row.effect.0 ≡ w → Occupied w p → KeepsOthers w (called w p row).0 p
+  keeps_reported row e o = keeps_called row o (λ a. subst (λ v. KeepsOthers w v p) (sym e) (keeps_all w p o))

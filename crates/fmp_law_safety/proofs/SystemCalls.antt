@@ -20,7 +20,7 @@ use Rattle.fmp_rules.specs.SystemCalls.{rotation, rotation_in_handler, get_tid, 
 use Rattle.fmp_law_safety.specs.Safe.{IsNumberOf, Safe}
 use Rattle.fmp_law_safety.specs.Counts.{Counts, HasCounts}
 use Rattle.fmp_law_safety.proofs.Keeps.{Occupied, KeepsOthers}
-use Rattle.fmp_law_safety.proofs.Calls.{from, Accepts, keeps_called, from_task, occupied_at, some_runs, keeps_told}
+use Rattle.fmp_law_safety.proofs.Calls.{from, Accepts, keeps_called, from_task, occupied_at, some_runs, keeps_reported}
 use Rattle.fmp_law_safety.proofs.KeepsProcessors.{keeps_flags, keeps_unlocked_alone}
 use Rattle.fmp_law_safety.proofs.KeepsWords.{keeps_rotate}
 use Rattle.fmp_law_safety.proofs.Tells.{Tells, tells_plain, tells_value, tells_flags, as_before, tells_task}
@@ -53,20 +53,20 @@ module _ {Q : Type 0} (k : Ordering Q) (w : World Q) (p : Proc) (s : Safe k w) (
   keeps_system (call.IrotRdq n) = keeps_rotation_in_handler (Some p) n
   keeps_system (call.MrotRdq n q) = keeps_rotation (processor_named w q) n
   keeps_system (call.ImrotRdq n q) = keeps_rotation_in_handler (processor_named w q) n
-  keeps_system call.GetTid = keeps_told w p (get_tid w p) refl occupied
-  keeps_system call.IgetTid = keeps_told w p (in_handler (get_tid w p)) refl occupied
-  keeps_system call.GetPid = keeps_told w p (get_pid w p) refl occupied
-  keeps_system call.IgetPid = keeps_told w p (in_handler (get_pid w p)) refl occupied
+  keeps_system call.GetTid = keeps_reported w p (get_tid w p) refl occupied
+  keeps_system call.IgetTid = keeps_reported w p (in_handler (get_tid w p)) refl occupied
+  keeps_system call.GetPid = keeps_reported w p (get_pid w p) refl occupied
+  keeps_system call.IgetPid = keeps_reported w p (in_handler (get_pid w p)) refl occupied
   keeps_system call.LocCpu = keeps_loc context.Task
   keeps_system call.IlocCpu = keeps_loc context.Handler
   keeps_system call.UnlCpu = keeps_unl context.Task
   keeps_system call.IunlCpu = keeps_unl context.Handler
   keeps_system call.DisDsp = keeps_disabled true
   keeps_system call.EnaDsp = keeps_disabled false
-  keeps_system call.SnsCtx = keeps_told w p (sense w (is_some (handler w p))) refl occupied
-  keeps_system call.SnsLoc = keeps_told w p (sense w (processor w p).locked) refl occupied
-  keeps_system call.SnsDsp = keeps_told w p (sense w (processor w p).disabled) refl occupied
-  keeps_system call.SnsDpn = keeps_told w p (sense w (is_held w p)) refl occupied
+  keeps_system call.SnsCtx = keeps_reported w p (sense w (is_some (handler w p))) refl occupied
+  keeps_system call.SnsLoc = keeps_reported w p (sense w (processor w p).locked) refl occupied
+  keeps_system call.SnsDsp = keeps_reported w p (sense w (processor w p).disabled) refl occupied
+  keeps_system call.SnsDpn = keeps_reported w p (sense w (is_held w p)) refl occupied
 
 -- ---- what they tell
 

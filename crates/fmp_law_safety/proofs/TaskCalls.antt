@@ -29,7 +29,7 @@ use Rattle.fmp_law_safety.specs.Safe.{IsNumberOf, TaskInRange, Safe}
 use Rattle.fmp_law_safety.specs.Counts.{Counts, HasCounts}
 use Rattle.fmp_law_safety.proofs.Items.{item_holds}
 use Rattle.fmp_law_safety.proofs.Keeps.{Occupied, KeepsOthers, keeps_all, keeps_then, occupied_by_task}
-use Rattle.fmp_law_safety.proofs.Calls.{from, Accepts, keeps_called, FromTask, from_task, free_where_unheld, not_caller, occupied_at, some_runs, keeps_told}
+use Rattle.fmp_law_safety.proofs.Calls.{from, Accepts, keeps_called, FromTask, from_task, free_where_unheld, not_caller, occupied_at, some_runs, keeps_reported}
 use Rattle.fmp_law_safety.proofs.KeepsProcessors.{keeps_opened, opened_here}
 use Rattle.fmp_law_safety.proofs.KeepsTasks.{may_run_parts, becomes_noted, becomes_counted, becomes_changed, becomes_started, becomes_moved, becomes_unqueued, no_wait_ended, becomes_ended}
 use Rattle.fmp_law_safety.proofs.KeepsWords.{keeps_with_task, keeps_place, keeps_requeue, keeps_end_wait, keeps_make_ready, keeps_begin_wait, keeps_done_or_wait, time_in_range}
@@ -182,7 +182,7 @@ module _ {Q : Type 0} (k : Ordering Q) (w : World Q) (p : Proc) (s : Safe k w) (
   keeps_task_call call.ExtTsk = keeps_ext
   keeps_task_call (call.TerTsk id) = keeps_ter (task_named w id)
   keeps_task_call (call.ChgPri id n) = keeps_chg (task_or_caller w p id) n
-  keeps_task_call (call.GetPri id) = keeps_told w p (get_pri w (task_or_caller w p id)) refl occupied
+  keeps_task_call (call.GetPri id) = keeps_reported w p (get_pri w (task_or_caller w p id)) refl occupied
   keeps_task_call call.SlpTsk = keeps_sleep forever
   keeps_task_call (call.TslpTsk timeout) = keeps_sleep timeout
   keeps_task_call (call.WupTsk id) = keeps_wup context.Task (task_or_caller w p id)
@@ -238,8 +238,8 @@ module _ {Q : Type 0} (k : Ordering Q) (n : Counts) (w : World Q) (h : HasCounts
       let few = h.in_bits.wakeups in omega (arith, most, few)
 
   -- the counts of a task are taken back, and told
-  tells_counted : (t : Task) (r : TaskRecord) (told : ℕ) → r.wait ≡ (task w t).wait → told < 2 ^ 63 → Tells n (with_task w t r, with_value (pos told))
-  tells_counted t r told same e = tells_task n w h t r w.order (answer.Done code.Accepted (Some (pos told))) (λ d v i. as_before n w h t d v (sym same ∙ i)) e
+  tells_counted : (t : Task) (r : TaskRecord) (report : ℕ) → r.wait ≡ (task w t).wait → report < 2 ^ 63 → Tells n (with_task w t r, with_value (pos report))
+  tells_counted t r report same e = tells_task n w h t r w.order (answer.Done code.Accepted (Some (pos report))) (λ d v i. as_before n w h t d v (sym same ∙ i)) e
 
   -- its fields change, and its place
   tells_changed : (t : Task) (r : TaskRecord) (x : Q) → r.wait ≡ (task w t).wait → Tells n (record w { tasks = with_item w.tasks t.number r; order = x }, done)

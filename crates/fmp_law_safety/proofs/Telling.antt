@@ -101,12 +101,12 @@ changed_to n before after f = cond_both (is_same before after) None (Some after)
 
 module _ {Q : Type 0} (k : Ordering Q) (lists : (v : World Q) → Lists k v) (n : Counts) (w : World Q) (s : Safe k w) (h : HasCounts n w) where
   -- a state that has the counts, and a record that names nothing else, where the state is safe
-  abbrev Told : World Q × Record → Type 0
-  Told x = Safe k x.0 → HasCounts n x.0 × NamesOnly n x.1
+  abbrev Report : World Q × Record → Type 0
+  Report x = Safe k x.0 → HasCounts n x.0 × NamesOnly n x.1
 
-  settled_told : (e : Event) → (processor_of e).number ≤ n.processors → (did : World Q × Effect) → Tells n did → Told (settled k (before_event k w e (processor_of e)) did)
+  settled_reported : (e : Event) → (processor_of e).number ≤ n.processors → (did : World Q × Effect) → Tells n did → Report (settled k (before_event k w e (processor_of e)) did)
   unfolding settled before_event
-  settled_told e on did t safe =
+  settled_reported e on did t safe =
       let q : Proc = processor_of e in
       let kept : HasCounts n (settle k (tops k w) did.0 q) = counts_settle k n (tops k w) did.0 q t.counts in
       let counted : 1 + length did.0.processors ≤ n.processors + 1 = let same = t.counts.processors in omega (arith, same) in (
@@ -123,9 +123,9 @@ module _ {Q : Type 0} (k : Ordering Q) (lists : (v : World Q) → Lists k v) (n 
         },
       )
 
-  unchanged_told : (e : Event) → (processor_of e).number ≤ n.processors → (a : Answer) → AnswerFits a → Told (unchanged w e (processor_of e) a)
+  unchanged_reported : (e : Event) → (processor_of e).number ≤ n.processors → (a : Answer) → AnswerFits a → Report (unchanged w e (processor_of e) a)
   unfolding unchanged
-  unchanged_told e on a fits safe = (
+  unchanged_reported e on a fits safe = (
     h,
     record {
       processor = on;
@@ -139,20 +139,20 @@ module _ {Q : Type 0} (k : Ordering Q) (lists : (v : World Q) → Lists k v) (n 
     },
   )
 
-  step_told : (e : Event) → (processor_of e).number ≤ n.processors → EventInBits e → Told (step k w e)
-  step_told (event.Call p c) on fits =
-      cond_both (is_some (runner_of w p)) _ _ Told (λ _. settled_told (event.Call p c) on (called w p (row_of k w p c)) (tells_call k n w h s (lists w) p c fits))
-      (λ _. unchanged_told (event.Call p c) on answer.Idle tt)
-  step_told (event.Tick p) on fits =
-      cond_both (has_time w.timer p) _ _ Told
+  step_recorded : (e : Event) → (processor_of e).number ≤ n.processors → EventInBits e → Report (step k w e)
+  step_recorded (event.Call p c) on fits =
+      cond_both (is_some (runner_of w p)) _ _ Report (λ _. settled_reported (event.Call p c) on (called w p (row_of k w p c)) (tells_call k n w h s (lists w) p c fits))
+      (λ _. unchanged_reported (event.Call p c) on answer.Idle tt)
+  step_recorded (event.Tick p) on fits =
+      cond_both (has_time w.timer p) _ _ Report
       (λ _.
-      cond_both ((processor w p).locked || is_some (handler w p)) _ _ Told (λ _. unchanged_told (event.Tick p) on answer.Held tt)
-      (λ _. settled_told (event.Tick p) on (tick k w p) (tells_tick k lists n p w h)))
-      (λ _. unchanged_told (event.Tick p) on answer.Nothing tt)
-  step_told (event.Ipi p) on fits =
+      cond_both ((processor w p).locked || is_some (handler w p)) _ _ Report (λ _. unchanged_reported (event.Tick p) on answer.Held tt)
+      (λ _. settled_reported (event.Tick p) on (tick k w p) (tells_tick k lists n p w h)))
+      (λ _. unchanged_reported (event.Tick p) on answer.Nothing tt)
+  step_recorded (event.Ipi p) on fits =
       let found : Answer = if (processor w p).latch then answer.Taken else answer.Nothing in
-      cond_both (is_held w p) _ _ Told (λ _. unchanged_told (event.Ipi p) on answer.Held tt)
-      (λ _. settled_told (event.Ipi p) on (w, plain found) (tells_plain n w found h (cond_both (processor w p).latch answer.Taken answer.Nothing AnswerFits (λ _. tt) (λ _. tt))))
+      cond_both (is_held w p) _ _ Report (λ _. unchanged_reported (event.Ipi p) on answer.Held tt)
+      (λ _. settled_reported (event.Ipi p) on (w, plain found) (tells_plain n w found h (cond_both (processor w p).latch answer.Taken answer.Nothing AnswerFits (λ _. tt) (λ _. tt))))
 
 -- ---- runs
 
@@ -162,7 +162,7 @@ module _ (n : Counts) where
 
   pub step_names : (m : State) (e : Event) → Safe numbered m → HasCounts n m → (processor_of e).number ≤ n.processors → EventInBits e →
       HasCounts n (step numbered m e).0 × NamesOnly n (step numbered m e).1
-  step_names m e s h on fits = step_told numbered numbered_lists n m s h e on fits (safe_after m e s h on)
+  step_names m e s h on fits = step_recorded numbered numbered_lists n m s h e on fits (safe_after m e s h on)
 
   answers_name : (m : State) (es : List Event) → Safe numbered m → HasCounts n m → AreOn n.processors es → All EventInBits es → All (NamesOnly n) (answers numbered m es)
   answers_name m [] s h on fits = All-nil (NamesOnly n)

@@ -21,7 +21,7 @@ ghost use Rattle.fmp_law_safety.specs.Laws.{FindsNothing, TakesRequest, RunsTop,
 /// no ready task there has a lower priority number, or the same one and a lower number in `order.ready`, and there is no top
 /// only where no task is ready. Likewise the first in the queue of an object waits there, and no task that does has a lower
 /// priority number, where the queue is by priority, or else a lower number in `order.begun`. That these numbers put first who
-/// was ready earlier and who waits longer is not said here: `ready_order_is_told` and `served_in_order` say it of the records.
+/// was ready earlier and who waits longer is not said here: `ready_order_is_reported` and `served_in_order` say it of the records.
 pub fn first_means_least()
     ensures first { (qualifies : Task → Bool) (before : Task → Task → Bool) (n : ℕ)
         → IsStrict before → IsFirst qualifies before n (world.first (in_order qualifies before n)) }

@@ -14,10 +14,10 @@ use Rattle.fmp_config_tokens.specs.declared.modes.Place.TheVariants as places
 use Rattle.fmp_config_tokens.specs.declared.modes.Mode.{Mode}
 use Rattle.fmp_config_tokens.specs.declared.modes.Mode.TheVariants as modes
 use Rattle.fmp_config_tokens.specs.declared.modes.Step.TheVariants.{Pass, Give, Stop}
-use Rattle.fmp_config_tokens.specs.Steps.{is_next, behind, at_line_end, single_in_code, single, begun, in_gap, step_of, line_after}
+use Rattle.fmp_config_tokens.specs.Steps.{is_next, following, at_line_end, single_in_code, single, begun, in_gap, step_of, line_after}
 use Rattle.fmp_config_tokens.specs.Lexing.{with_lexeme, ended, text_of, lexed}
 use Rattle.fmp_law_tokens.specs.Parts.{Blank, Symbol, is_directive, opens_comment, stands_alone, may_stand}
-use Rattle.fmp_law_tokens.specs.Tokens.{place_behind}
+use Rattle.fmp_law_tokens.specs.Tokens.{place_after}
 
 -- ---- a step, and what is read
 
@@ -86,12 +86,12 @@ begun_in_gap place line b rest space opens =
       | inr other ↦ rw (feed, space, other) refl
     ]
 
-pub blank_in_gap : (place : Place) (line b : ℕ) (rest : List ℕ) → may_stand place (Blank b) rest ≡ true → in_gap place line b rest ≡ Pass (modes.Gap (place_behind place (Blank b)))
+pub blank_in_gap : (place : Place) (line b : ℕ) (rest : List ℕ) → may_stand place (Blank b) rest ≡ true → in_gap place line b rest ≡ Pass (modes.Gap (place_after place (Blank b)))
 unfolding in_gap at_line_end
 blank_in_gap place line b rest may =
     let parts = and_parts (is_of Space b) _ may in
     elim (cases_Bool (eqb b 10)) [
-      | inl feed ↦ elim place as (λ p. not (is_directive p && eqb b 10) ≡ true → in_gap p line b rest ≡ Pass (modes.Gap (place_behind p (Blank b)))) [
+      | inl feed ↦ elim place as (λ p. not (is_directive p && eqb b 10) ≡ true → in_gap p line b rest ≡ Pass (modes.Gap (place_after p (Blank b)))) [
         | places.LineStart ↦ λ h. rw feed refl
         | places.Code ↦ λ h. rw feed refl
         | places.Directive ↦ λ h. let no = rw feed at h in absurd (false≢true no)
@@ -99,7 +99,7 @@ blank_in_gap place line b rest may =
       | inr other ↦ rw (other, parts.0) refl
     ]
 
-pub identifier_in_gap : (place : Place) (line b : ℕ) (rest : List ℕ) → is_of Letter b ≡ true → in_gap place line b rest ≡ Give kinds.Identifier line (modes.Word (behind place))
+pub identifier_in_gap : (place : Place) (line b : ℕ) (rest : List ℕ) → is_of Letter b ≡ true → in_gap place line b rest ≡ Give kinds.Identifier line (modes.Word (following place))
 unfolding begun
 identifier_in_gap place line b rest letter =
     let word = word-letter b letter in
@@ -107,7 +107,7 @@ identifier_in_gap place line b rest letter =
     let opens : opens_comment b rest ≡ false = rw slash refl in
     begun_in_gap place line b rest (word_no_space b word) opens ∙ rw letter refl
 
-pub digits_in_gap : (place : Place) (line b : ℕ) (rest : List ℕ) → is_of DigitClass b ≡ true → in_gap place line b rest ≡ Give kinds.Digits line (modes.Word (behind place))
+pub digits_in_gap : (place : Place) (line b : ℕ) (rest : List ℕ) → is_of DigitClass b ≡ true → in_gap place line b rest ≡ Give kinds.Digits line (modes.Word (following place))
 unfolding begun
 digits_in_gap place line b rest digit =
     let word = digit_is_word b digit in
@@ -116,7 +116,7 @@ digits_in_gap place line b rest digit =
     begun_in_gap place line b rest (word_no_space b word) opens ∙ rw (digit_no_letter b digit, digit) refl
 
 -- a byte of no word that stands alone
-single_alone : (place : Place) (line b : ℕ) (rest : List ℕ) → stands_alone place b rest ≡ true → single place line b rest ≡ Give kinds.Symbol line (modes.Gap (behind place))
+single_alone : (place : Place) (line b : ℕ) (rest : List ℕ) → stands_alone place b rest ≡ true → single place line b rest ≡ Give kinds.Symbol line (modes.Gap (following place))
 unfolding single single_in_code
 single_alone places.LineStart line b rest alone =
     let parts = and_parts (is_ascii_graphic b) _ alone in
@@ -135,7 +135,7 @@ alone_no_space places.LineStart b rest alone = graphic_no_space b (and_parts (is
 alone_no_space places.Code b rest alone = graphic_no_space b (and_parts (is_ascii_graphic b) _ alone).0
 alone_no_space places.Directive b rest alone = (or_parts (is_of Space b) (eqb b 92 && is_next 10 rest) (not-true _ alone)).0
 
-pub symbol_in_gap : (place : Place) (line b : ℕ) (rest : List ℕ) → may_stand place (Symbol b) rest ≡ true → in_gap place line b rest ≡ Give kinds.Symbol line (modes.Gap (behind place))
+pub symbol_in_gap : (place : Place) (line b : ℕ) (rest : List ℕ) → may_stand place (Symbol b) rest ≡ true → in_gap place line b rest ≡ Give kinds.Symbol line (modes.Gap (following place))
 unfolding begun
 symbol_in_gap place line b rest may =
     let parts = and_parts (stands_alone place b rest) _ may in

@@ -18,38 +18,38 @@ use Rattle.fmp_config_tokens.specs.declared.modes.Step.{Step}
 use Rattle.fmp_config_tokens.specs.declared.modes.Step.TheVariants.{Pass, Give, Stop}
 use Rattle.fmp_config_tokens.specs.Steps.{is_next, goes_on, at_line_end, single_in_code, single, begun, in_gap, in_line_comment, step_of, line_after}
 use Rattle.fmp_config_tokens.specs.Lexing.{Lexeme, Lexed, text_of, ended_at, ended_in, stepped, lexed, lexed_text}
-use Rattle.fmp_law_tokens.specs.Cuts.{AreTokens, IsCutBehind}
+use Rattle.fmp_law_tokens.specs.Cuts.{AreTokens, IsCutAfter}
 use Rattle.fmp_law_tokens.proofs.Gaps.{prefix_more}
 
--- ---- what a step asks of the bytes behind its own
+-- ---- what a step asks of the bytes after its own
 
 abbrev SameHead : List ℕ → List ℕ → Type 0
 SameHead (a ∷ xs) (b ∷ ys) = a ≡ b
 SameHead _ _ = ⊥
 
 -- no more than the first of them
-same_behind : (mode : Mode) (line b c : ℕ) (xs ys : List ℕ) → step_of mode line b (c ∷ xs) ≡ step_of mode line b (c ∷ ys)
+same_after : (mode : Mode) (line b c : ℕ) (xs ys : List ℕ) → step_of mode line b (c ∷ xs) ≡ step_of mode line b (c ∷ ys)
 unfolding step_of in_gap begun single in_line_comment
-same_behind (modes.Gap places.LineStart) line b c xs ys = refl
-same_behind (modes.Gap places.Code) line b c xs ys = refl
-same_behind (modes.Gap places.Directive) line b c xs ys = refl
-same_behind (modes.Word places.LineStart) line b c xs ys = refl
-same_behind (modes.Word places.Code) line b c xs ys = refl
-same_behind (modes.Word places.Directive) line b c xs ys = refl
-same_behind (modes.Quoted began) line b c xs ys = refl
-same_behind (modes.Escaped began) line b c xs ys = refl
-same_behind (modes.LineComment places.LineStart) line b c xs ys = refl
-same_behind (modes.LineComment places.Code) line b c xs ys = refl
-same_behind (modes.LineComment places.Directive) line b c xs ys = refl
-same_behind (modes.Opening place began) line b c xs ys = refl
-same_behind (modes.Block place began) line b c xs ys = refl
-same_behind (modes.Star place began) line b c xs ys = refl
-same_behind modes.Continued line b c xs ys = refl
+same_after (modes.Gap places.LineStart) line b c xs ys = refl
+same_after (modes.Gap places.Code) line b c xs ys = refl
+same_after (modes.Gap places.Directive) line b c xs ys = refl
+same_after (modes.Word places.LineStart) line b c xs ys = refl
+same_after (modes.Word places.Code) line b c xs ys = refl
+same_after (modes.Word places.Directive) line b c xs ys = refl
+same_after (modes.Quoted began) line b c xs ys = refl
+same_after (modes.Escaped began) line b c xs ys = refl
+same_after (modes.LineComment places.LineStart) line b c xs ys = refl
+same_after (modes.LineComment places.Code) line b c xs ys = refl
+same_after (modes.LineComment places.Directive) line b c xs ys = refl
+same_after (modes.Opening place began) line b c xs ys = refl
+same_after (modes.Block place began) line b c xs ys = refl
+same_after (modes.Star place began) line b c xs ys = refl
+same_after modes.Continued line b c xs ys = refl
 
 same_step : (mode : Mode) (line b : ℕ) (xs ys : List ℕ) → SameHead xs ys → step_of mode line b xs ≡ step_of mode line b ys
 same_step mode line b [] ys same = absurd same
 same_step mode line b (x ∷ xs) [] same = absurd same
-same_step mode line b (x ∷ xs) (y ∷ ys) same = ap (λ c. step_of mode line b (c ∷ xs)) same ∙ same_behind mode line b y xs ys
+same_step mode line b (x ∷ xs) (y ∷ ys) same = ap (λ c. step_of mode line b (c ∷ xs)) same ∙ same_after mode line b y xs ys
 
 -- a byte that gives a token gives it at the end of a text, too
 module _ (kind : TokenKind) (l : ℕ) (next : Mode) where
@@ -124,7 +124,7 @@ abbrev IsWord : Mode → Type 0
 IsWord (modes.Word place) = Unit {0}
 IsWord other = ⊥
 
--- behind the first byte of a word or number stands the rest of it
+-- after the first byte of a word or number stands the rest of it
 abbrev LeavesWord : TokenKind → Mode → Type 0
 LeavesWord kinds.Identifier next = IsWord next
 LeavesWord kinds.Digits next = IsWord next
@@ -184,11 +184,11 @@ word_ends place (b ∷ word) line all =
 
 -- ---- the cut
 
--- where a text is cut behind some tokens, so that those are the tokens of its beginning
+-- where a text is cut after some tokens, so that those are the tokens of its beginning
 record Cut (mode : Mode) (line : ℕ) (bytes : List ℕ) (before : List Lexeme) : Type 0 where
   front : List ℕ
-  behind : List ℕ
-  parts : bytes ≡ front ++ behind
+  following : List ℕ
+  parts : bytes ≡ front ++ following
   tokens : AreTokens (lexed mode line front).lexemes before
   head : ((before ≡ []) × (front ≡ [])) ⊎ SameHead front bytes
   word : IsWord mode → prefix Word front ≡ prefix Word bytes
@@ -232,14 +232,14 @@ word_twice (b ∷ bytes) =
 -- before all tokens
 nothing : (mode : Mode) (line : ℕ) (bytes : List ℕ) → (IsWord mode → ⊥) → Cut mode line bytes []
 unfolding lexed
-nothing mode line bytes other = record { front = []; behind = bytes; parts = refl; tokens = mode_tokens mode line; head = inl (refl, refl); word = λ is. absurd (other is) }
+nothing mode line bytes other = record { front = []; following = bytes; parts = refl; tokens = mode_tokens mode line; head = inl (refl, refl); word = λ is. absurd (other is) }
 
 cut_first : (mode : Mode) (line : ℕ) (bytes : List ℕ) → Cut mode line bytes []
 cut_first (modes.Word place) line bytes =
     let ends = word_ends place (prefix Word bytes) line (list_all-take_while (is_of Word) bytes) in
     record {
       front = prefix Word bytes;
-      behind = after Word bytes;
+      following = after Word bytes;
       parts = sym (prefix-after Word bytes);
       tokens = subst (λ (l : Lexed). AreTokens l.lexemes []) (sym ends.1) (ended_tokens place ends.0);
       head = elim (word_head bytes) [ inl none ↦ inl (refl, none) | inr there ↦ inr there ];
@@ -314,22 +314,22 @@ cut (b ∷ bytes) mode line (x ∷ before) token rest e = by (λ next front othe
     by : ((next : Mode) (front : List Lexeme) (first : Lexeme) (more : List Lexeme) → (lexed next (line_after line b) bytes).lexemes ≡ front ++ (first ∷ more) → Cut next (line_after line b) bytes front)
         → (step : Step) → step_of mode line b bytes ≡ step → (stepped step (b ∷ bytes) (λ next. lexed next (line_after line b) bytes)).lexemes ≡ x ∷ (before ++ (token ∷ rest)) → Cut mode line (b ∷ bytes) (x ∷ before)
     by others (Stop end) is e2 = absurd (let bad = e2 in cc)
-    by behind (Pass next) is e2 =
-        let r = behind next (x ∷ before) token rest e2 in
+    by following (Pass next) is e2 =
+        let r = following next (x ∷ before) token rest e2 in
         let there : SameHead r.front bytes = elim r.head [ inl none ↦ absurd (let bad = none.0 in cc) | inr same ↦ same ] in
         let step = same_step mode line b r.front bytes there ∙ is in
         record {
           front = b ∷ r.front;
-          behind = r.behind;
+          following = r.following;
           parts = ap (λ (bs : List ℕ). b ∷ bs) r.parts;
           tokens = rw step r.tokens;
           head = inr refl;
           word = word_step mode line b bytes r.front next is r.word;
         }
-    by behind (Give kind l next) is e2 =
+    by following (Give kind l next) is e2 =
         let first : record { kind = kind; text = text_of kind (b ∷ bytes); line = l } ≡ x = cc in
         let others : (lexed next (line_after line b) bytes).lexemes ≡ before ++ (token ∷ rest) = cc in
-        let r = behind next before token rest others in
+        let r = following next before token rest others in
         let step : step_of mode line b r.front ≡ Give kind l next =
         elim r.head [
           | inl none ↦ let empty = none.1 in rw empty (step_alone kind l next mode line b bytes is)
@@ -339,15 +339,15 @@ cut (b ∷ bytes) mode line (x ∷ before) token rest e = by (λ next front othe
         let text = same_text kind next b r.front bytes leaves r.word in
         record {
           front = b ∷ r.front;
-          behind = r.behind;
+          following = r.following;
           parts = ap (λ (bs : List ℕ). b ∷ bs) r.parts;
           tokens = rw step (with_token _ x _ before (ap (λ (t : List ℕ). record { kind = kind; text = t; line = l }) text ∙ first) r.tokens);
           head = inr refl;
           word = word_token mode line b bytes r.front kind l next is;
         }
 
-pub cut_before : (text : List ℕ) (before : List Lexeme) (token : Lexeme) (rest : List Lexeme) → (lexed_text text).lexemes ≡ before ++ (token ∷ rest) → IsCutBehind text before
+pub cut_before : (text : List ℕ) (before : List Lexeme) (token : Lexeme) (rest : List Lexeme) → (lexed_text text).lexemes ≡ before ++ (token ∷ rest) → IsCutAfter text before
 unfolding lexed_text
 cut_before text before token rest e =
     let c = cut text (modes.Gap places.LineStart) 1 before token rest e in
-    record { front = c.front; behind = c.behind; parts = c.parts; tokens = c.tokens }
+    record { front = c.front; following = c.following; parts = c.parts; tokens = c.tokens }

@@ -18,7 +18,7 @@ use Rattle.fmp_config_tokens.specs.declared.modes.Mode.TheVariants as modes
 use Rattle.fmp_config_tokens.specs.declared.modes.Step.TheVariants.{Pass, Give, Stop}
 use Rattle.fmp_config_tokens.specs.Steps.{is_next, at_line_end, single_in_code, single, begun, in_gap, step_of, line_after}
 use Rattle.fmp_config_tokens.specs.Lexing.{text_of, lexed}
-use Rattle.fmp_law_tokens.specs.Parts.{Blank, BlockComment, LineComment, JoinedLine, Identifier, Digits, Symbol, Quoted, Hash, LineEnd, is_directive, begins_with, ends_comment, ends_behind, opens_comment, stands_alone, may_stand}
+use Rattle.fmp_law_tokens.specs.Parts.{Blank, BlockComment, LineComment, JoinedLine, Identifier, Digits, Symbol, Quoted, Hash, LineEnd, is_directive, begins_with, ends_comment, ends_after, opens_comment, stands_alone, may_stand}
 use Rattle.fmp_law_tokens.specs.Tokens.{Glyph}
 use Rattle.fmp_law_tokens.proofs.Bytes.{passes, gives, stops, word_no_letter, word_no_digit, word_is_digit, digit_is_word, begun_in_gap, blank_in_gap, identifier_in_gap, digits_in_gap, symbol_in_gap}
 use Rattle.fmp_law_tokens.proofs.Left.{glyphs_in, GapLeft, IsLeft, part_before}
@@ -45,13 +45,13 @@ slash_runs places.LineStart (b ∷ bytes) next = let is = eqb-true b 47 next in 
 slash_runs places.Code (b ∷ bytes) next = let is = eqb-true b 47 next in rw is refl
 slash_runs places.Directive (b ∷ bytes) next = let is = eqb-true b 47 next in rw is refl
 
-comment_left : (place : Place) (bytes : List ℕ) (glyphs : List Glyph) (inner rest : List ℕ) → bytes ≡ inner ++ rest → ends_behind place inner rest ≡ true → GapLeft place rest glyphs → is_next 47 bytes ≡ true
+comment_left : (place : Place) (bytes : List ℕ) (glyphs : List Glyph) (inner rest : List ℕ) → bytes ≡ inner ++ rest → ends_after place inner rest ≡ true → GapLeft place rest glyphs → is_next 47 bytes ≡ true
     → GapLeft place (47 ∷ bytes) glyphs
 comment_left place bytes glyphs [] rest parts ends left next = absurd (false≢true (sym (slash_runs place bytes next) ∙ ap (ends_comment place) parts ∙ ends))
 comment_left place bytes glyphs (c ∷ inner) rest parts ends left next =
     let is = eqb-true c 47 (rw parts at next) in
-    let behind = and_parts (not (ends_comment place (c ∷ (inner ++ rest)))) _ ends in
-    rw (parts, is) (part_before place (LineComment inner) rest glyphs behind.1 left)
+    let following = and_parts (not (ends_comment place (c ∷ (inner ++ rest)))) _ ends in
+    rw (parts, is) (part_before place (LineComment inner) rest glyphs following.1 left)
 
 at_byte : (place : Place) (b c : ℕ) (bytes : List ℕ) (glyphs : List Glyph) → b ≡ c → GapLeft place (c ∷ bytes) glyphs → GapLeft place (b ∷ bytes) glyphs
 at_byte place b c bytes glyphs is left = subst (λ (x : ℕ). GapLeft place (x ∷ bytes) glyphs) (sym is) left

@@ -1,4 +1,4 @@
--- What a text is made of, that is left behind what was read: in gaps, words, strings and comments.
+-- What a text is made of, that is left after what was read: in gaps, words, strings and comments.
 use Rattle.std.proofs.Common.{◌≡◌, ℕ, Bool, true, false, List, [], ◌∷◌, ◌++◌, map, refl, ap}
 use Rattle.std.specs.List.{flat_map}
 use Rattle.std.proofs.lemmas.Bool.{false≢true}
@@ -12,8 +12,8 @@ use Rattle.fmp_config_tokens.specs.declared.modes.Mode.{Mode}
 use Rattle.fmp_config_tokens.specs.declared.modes.Mode.TheVariants as modes
 use Rattle.fmp_config_tokens.specs.Steps.{is_next}
 use Rattle.fmp_config_tokens.specs.Lexing.{ended_in, lexed}
-use Rattle.fmp_law_tokens.specs.Parts.{Part, TextEnd, written, has_pair, ends_behind, is_inner, may_stand}
-use Rattle.fmp_law_tokens.specs.Tokens.{Glyph, glyph_of, glyphs_of, place_behind, SpellsParts}
+use Rattle.fmp_law_tokens.specs.Parts.{Part, TextEnd, written, has_pair, ends_after, is_inner, may_stand}
+use Rattle.fmp_law_tokens.specs.Tokens.{Glyph, glyph_of, glyphs_of, place_after, SpellsParts}
 
 -- the tokens that are read, apart from their lines
 abbrev pub glyphs_in : Mode → ℕ → List ℕ → List Glyph
@@ -40,7 +40,7 @@ pub record LineLeft (place : Place) (text : List ℕ) (glyphs : List Glyph) : Ty
   pub inner : List ℕ
   pub rest : List ℕ
   pub parts : text ≡ inner ++ rest
-  pub ends : ends_behind place inner rest ≡ true
+  pub ends : ends_after place inner rest ≡ true
   pub left : GapLeft place rest glyphs
 
 -- the rest of a comment `/* .. */`, and what follows it
@@ -51,7 +51,7 @@ pub record BlockLeft (place : Place) (text : List ℕ) (glyphs : List Glyph) : T
   pub unclosed : has_pair 42 47 (inner ++ (42 ∷ [])) ≡ false
   pub left : GapLeft place rest glyphs
 
--- such a comment behind its `*`, and a directive behind its line feed
+-- such a comment after its `*`, and a directive after its line feed
 pub record OpeningLeft (place : Place) (text : List ℕ) (glyphs : List Glyph) : Type 0 where
   pub rest : List ℕ
   pub parts : text ≡ 42 ∷ rest
@@ -78,7 +78,7 @@ abbrev pub IsLeft : List ℕ → Type 0
 IsLeft text = (mode : Mode) (line : ℕ) → (lexed mode line text).end ≡ Done → Left mode text (glyphs_in mode line text)
 
 -- one more part
-pub part_before : (place : Place) (part : Part) (rest : List ℕ) (glyphs : List Glyph) → may_stand place part rest ≡ true → GapLeft (place_behind place part) rest glyphs → GapLeft place (written part ++ rest) (glyphs_of part ++ glyphs)
+pub part_before : (place : Place) (part : Part) (rest : List ℕ) (glyphs : List Glyph) → may_stand place part rest ≡ true → GapLeft (place_after place part) rest glyphs → GapLeft place (written part ++ rest) (glyphs_of part ++ glyphs)
 part_before place part rest glyphs may left = record {
   parts = part ∷ left.parts;
   spelled = (rest, refl, may, left.spelled);

@@ -12,7 +12,7 @@ use Rattle.fmp_config_tokens.specs.declared.modes.Mode.{Mode}
 use Rattle.fmp_config_tokens.specs.declared.modes.Mode.TheVariants as modes
 use Rattle.fmp_config_tokens.specs.Steps.{is_next, goes_on, single, begun, in_gap, in_line_comment, step_of, line_after}
 use Rattle.fmp_config_tokens.specs.Lexing.{Lexeme, Lexed, with_lexeme, text_of, ended_in, lexed}
-use Rattle.fmp_law_tokens.specs.Parts.{is_directive, begins_with, has_pair, ends_comment, ends_behind, is_inner}
+use Rattle.fmp_law_tokens.specs.Parts.{is_directive, begins_with, has_pair, ends_comment, ends_after, is_inner}
 use Rattle.fmp_law_tokens.specs.Tokens.{Glyph, glyph_of}
 
 -- a text was read to its end as these tokens
@@ -20,7 +20,7 @@ pub record ReadsTo (read : Lexed) (glyphs : List Glyph) : Type 0 where
   pub done : read.end ≡ Done
   pub same : map glyph_of read.lexemes ≡ glyphs
 
--- a text is read so behind whole parts, whatever its line
+-- a text is read so after whole parts, whatever its line
 abbrev pub Follows : Place → List ℕ → List Glyph → Type 0
 Follows place rest glyphs = (line : ℕ) → ReadsTo (lexed (modes.Gap place) line rest) glyphs
 
@@ -29,7 +29,7 @@ one_read lexeme read glyph glyphs e r = let same = r.same in record { done = r.d
 
 -- ---- comments
 
--- the rest of a comment behind these bytes, and behind a `*`
+-- the rest of a comment after these bytes, and after a `*`
 block_both : (place : Place) (began : ℕ) (rest : List ℕ) (glyphs : List Glyph) → Follows place rest glyphs → (inner : List ℕ) → has_pair 42 47 (inner ++ (42 ∷ [])) ≡ false
     → ((line : ℕ) → ReadsTo (lexed (modes.Block place began) line ((inner ++ (42 ∷ 47 ∷ [])) ++ rest)) glyphs)
     × (is_next 47 (inner ++ (42 ∷ [])) ≡ false → (line : ℕ) → ReadsTo (lexed (modes.Star place began) line ((inner ++ (42 ∷ 47 ∷ [])) ++ rest)) glyphs)
@@ -76,7 +76,7 @@ goes_on_is places.LineStart b rest = refl
 goes_on_is places.Code b rest = refl
 goes_on_is places.Directive b rest = refl
 
-pub line_comment_passes : (place : Place) (rest : List ℕ) (glyphs : List Glyph) → Follows place rest glyphs → (inner : List ℕ) → ends_behind place inner rest ≡ true
+pub line_comment_passes : (place : Place) (rest : List ℕ) (glyphs : List Glyph) → Follows place rest glyphs → (inner : List ℕ) → ends_after place inner rest ≡ true
     → (line : ℕ) → ReadsTo (lexed (modes.LineComment place) line (inner ++ rest)) glyphs
 unfolding lexed step_of in_line_comment
 line_comment_passes place rest glyphs follows [] ends line = rw (comment_as_gap place line rest ends) (follows line)
@@ -86,7 +86,7 @@ line_comment_passes place rest glyphs follows (b ∷ inner) ends line =
     let on : goes_on place b (inner ++ rest) ≡ false = goes_on_is place b (inner ++ rest) ∙ goes.1 in
     rw (goes.0, on) (line_comment_passes place rest glyphs follows inner parts.1 line)
 
-pub slash_first : (place : Place) (inner rest : List ℕ) → ends_behind place inner rest ≡ true → ends_behind place (47 ∷ inner) rest ≡ true
+pub slash_first : (place : Place) (inner rest : List ℕ) → ends_after place inner rest ≡ true → ends_after place (47 ∷ inner) rest ≡ true
 slash_first places.LineStart inner rest ends = ends
 slash_first places.Code inner rest ends = ends
 slash_first places.Directive inner rest ends = ends

@@ -8,8 +8,8 @@ abbrev pub AreTokens : List Lexeme → List Lexeme → Type 0
 AreTokens lexemes before = (lexemes ≡ before) ⊎ ((end : Lexeme) × (end.kind ≡ DirectiveEnd) × (lexemes ≡ before ++ end ∷ []))
 
 -- a beginning of the text has these tokens; a directive that was cut is ended by its end
-pub record IsCutBehind (text : List ℕ) (before : List Lexeme) : Type 0 where
+pub record IsCutAfter (text : List ℕ) (before : List Lexeme) : Type 0 where
   pub front : List ℕ
-  pub behind : List ℕ
-  pub parts : text ≡ front ++ behind
+  pub following : List ℕ
+  pub parts : text ≡ front ++ following
   pub tokens : AreTokens (lexed_text front).lexemes before

@@ -10,7 +10,7 @@ use Rattle.fmp_config_tokens.specs.declared.modes.Place.{Place}
 use Rattle.fmp_config_tokens.specs.declared.modes.Place.TheVariants.{LineStart, Code, Directive}
 use Rattle.fmp_config_tokens.specs.Steps.{is_next}
 
--- what a text is made of. The bytes of a comment are those between `/*` and `*/` or behind `//`, those of a string the
+-- what a text is made of. The bytes of a comment are those between `/*` and `*/` or after `//`, those of a string the
 -- ones between its quotes
 pub data Part : Type 0 where
   Blank : ℕ → Part
@@ -69,12 +69,12 @@ abbrev pub ends_comment : Place → List ℕ → Bool
 ends_comment place [] = true
 ends_comment place (b ∷ bytes) = b == line_feed || (is_directive place && (b == backslash && is_next line_feed bytes))
 
--- such a comment ends behind these bytes, and not in them
-abbrev pub ends_behind : Place → List ℕ → List ℕ → Bool
-ends_behind place [] rest = ends_comment place rest
-ends_behind place (b ∷ inner) rest = not (ends_comment place (b ∷ (inner ++ rest))) && ends_behind place inner rest
+-- such a comment ends after these bytes, and not in them
+abbrev pub ends_after : Place → List ℕ → List ℕ → Bool
+ends_after place [] rest = ends_comment place rest
+ends_after place (b ∷ inner) rest = not (ends_comment place (b ∷ (inner ++ rest))) && ends_after place inner rest
 
--- bytes of a string, behind a `\` or not: a `\` takes the next byte along, and a quote stands only so
+-- bytes of a string, after a `\` or not: a `\` takes the next byte along, and a quote stands only so
 abbrev pub is_inner : Bool → List ℕ → Bool
 is_inner true [] = false
 is_inner false [] = true
@@ -102,7 +102,7 @@ stands_alone Directive b rest = not (is_of Space b || (b == backslash && is_next
 abbrev pub may_stand : Place → Part → List ℕ → Bool
 may_stand place (Blank b) rest = is_of Space b && not (is_directive place && b == line_feed)
 may_stand place (BlockComment inner) rest = not (has_pair asterisk slash (inner ++ (asterisk ∷ [])))
-may_stand place (LineComment inner) rest = ends_behind place inner rest
+may_stand place (LineComment inner) rest = ends_after place inner rest
 may_stand place JoinedLine rest = is_directive place
 may_stand place (Identifier word) rest = is_identifier word && not (begins_with Word rest)
 may_stand place (Digits word) rest = is_number word && not (begins_with Word rest)

@@ -7,7 +7,7 @@ use Rattle.fmp_config_tokens.specs.declared.modes.Place.{Place}
 use Rattle.fmp_config_tokens.specs.declared.modes.Place.TheVariants.{LineStart, Code, Directive}
 use Rattle.fmp_config_tokens.specs.declared.tokens.TokenKind.{TokenKind}
 use Rattle.fmp_config_tokens.specs.declared.tokens.TokenKind.TheVariants as kinds
-use Rattle.fmp_config_tokens.specs.Steps.{behind}
+use Rattle.fmp_config_tokens.specs.Steps.{following}
 use Rattle.fmp_config_tokens.specs.Lexing.{Lexeme}
 use Rattle.fmp_law_tokens.specs.Parts.{Part, Blank, Identifier, Digits, Symbol, Quoted, Hash, LineEnd, TextEnd, written, is_directive, may_stand}
 
@@ -30,23 +30,23 @@ glyphs_of LineEnd = record { kind = kinds.DirectiveEnd; text = [] } ∷ []
 glyphs_of TextEnd = record { kind = kinds.DirectiveEnd; text = [] } ∷ []
 glyphs_of _ = []
 
--- the place behind a part: line feeds in comments end no line
-abbrev pub place_behind : Place → Part → Place
-place_behind place (Blank b) = if b == line_feed then LineStart else place
-place_behind place (Identifier word) = behind place
-place_behind place (Digits word) = behind place
-place_behind place (Symbol b) = behind place
-place_behind place (Quoted inner) = Code
-place_behind place Hash = Directive
-place_behind place LineEnd = LineStart
-place_behind place TextEnd = LineStart
-place_behind place _ = place
+-- the place after a part: line feeds in comments end no line
+abbrev pub place_after : Place → Part → Place
+place_after place (Blank b) = if b == line_feed then LineStart else place
+place_after place (Identifier word) = following place
+place_after place (Digits word) = following place
+place_after place (Symbol b) = following place
+place_after place (Quoted inner) = Code
+place_after place Hash = Directive
+place_after place LineEnd = LineStart
+place_after place TextEnd = LineStart
+place_after place _ = place
 
--- a text is these parts, one behind the other, each where it may stand, and no directive is left open
+-- a text is these parts, one after the other, each where it may stand, and no directive is left open
 abbrev pub SpellsParts : Place → List Part → List ℕ → Type 0
 SpellsParts place [] text = (text ≡ []) × (is_directive place ≡ false)
 SpellsParts place (part ∷ parts) text =
-    (rest : List ℕ) × (text ≡ written part ++ rest) × (may_stand place part rest ≡ true) × SpellsParts (place_behind place part) parts rest
+    (rest : List ℕ) × (text ≡ written part ++ rest) × (may_stand place part rest ≡ true) × SpellsParts (place_after place part) parts rest
 
 -- a whole text is parts that are these tokens
 pub record SpellsTokens (glyphs : List Glyph) (text : List ℕ) : Type 0 where

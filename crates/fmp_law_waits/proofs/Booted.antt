@@ -27,15 +27,15 @@ use Rattle.fmp_law_safety.proofs.Items.{item_holds}
 use Rattle.fmp_law_safety.proofs.Listed.{numbered_lists}
 use Rattle.fmp_law_waits.specs.Waits.{nobody_waits}
 use Rattle.fmp_law_waits.specs.Releases.{EachReleaseFits}
-use Rattle.fmp_law_waits.specs.Laws.{AreWaitsTold}
-use Rattle.fmp_law_waits.proofs.Words.{IsKept, told_kept, counts_task}
+use Rattle.fmp_law_waits.specs.Laws.{AreWaitsReported}
+use Rattle.fmp_law_waits.proofs.Words.{IsKept, report_kept, counts_task}
 use Rattle.fmp_law_waits.proofs.Follows.{Sound}
 use Rattle.fmp_law_waits.proofs.Ticks.{numbered_once}
-use Rattle.fmp_law_waits.proofs.Steps.{told_run, fit_run}
+use Rattle.fmp_law_waits.proofs.Steps.{report_run, fit_run}
 
 -- nobody waits, and there are as many of each
 pub record Quiet {Q : Type 0} (config : Setup) (w : World Q) : Type 0 where
-  pub told : (t : Task) → IsKept config w t None
+  pub report : (t : Task) → IsKept config w t None
   pub sound : Sound config w
 
 module _ {Q : Type 0} (config : Setup) (k : Ordering Q) where
@@ -44,7 +44,7 @@ module _ {Q : Type 0} (config : Setup) (k : Ordering Q) where
       let r : TaskRecord = started (task w t) p in
       let same = (counts_task w t r w.order).0 in
       record {
-        told = told_kept config w nobody_waits q.told t r w.order (record { wait = refl; left = (q.told t).0.left; assigned = tt }, (q.told t).1);
+        report = report_kept config w nobody_waits q.report t r w.order (record { wait = refl; left = (q.report t).0.left; assigned = tt }, (q.report t).1);
         sound = record {
           few = record { semaphores = q.sound.few.semaphores; pools = q.sound.few.pools; data_queues = q.sound.few.data_queues };
           few_eventflags = q.sound.few_eventflags;
@@ -65,7 +65,7 @@ module _ {Q : Type 0} (config : Setup) (k : Ordering Q) where
   quiet_running w (p ∷ ps) q =
       quiet_running (with_top_running k w p) ps
       (record {
-        told = q.told;
+        report = q.report;
         sound = record {
           few = record { semaphores = q.sound.few.semaphores; pools = q.sound.few.pools; data_queues = q.sound.few.data_queues };
           few_eventflags = q.sound.few_eventflags;
@@ -87,7 +87,7 @@ module _ (c : Setup) (valid : IsValid c) where
 
   quiet_at_first : Quiet c at_first
   quiet_at_first = record {
-    told = λ t. (
+    report = λ t. (
       record {
         wait = item_holds (λ (r : TaskRecord). r.wait ≡ None) no_task at_first.tasks t.number refl (All-map (λ (r : TaskRecord). r.wait ≡ None) resting c.tasks (λ i d h. refl));
         left = item_holds (λ (o : Option ℕ). o ≡ None) None at_first.waits_left t.number refl (All-map (λ (o : Option ℕ). o ≡ None) (λ s. None) c.tasks (λ i d h. refl));
@@ -111,8 +111,8 @@ module _ (c : Setup) (valid : IsValid c) where
   pub quiet_booted : Quiet c (booted c)
   quiet_booted = quiet_running c numbered (all_started numbered at_first 1 c.tasks) (processors_to c.processors) (quiet_started c numbered at_first 1 c.tasks quiet_at_first)
 
-  pub waits_told : (events : List Event) → AreOn c.processors events → AreWaitsTold c events (answers numbered (booted c) events)
-  waits_told events on = told_run c numbered numbered_once numbered_lists (booted c) quiet_booted.sound nobody_waits quiet_booted.told events (runs_safe c events valid on)
+  pub waits_reported : (events : List Event) → AreOn c.processors events → AreWaitsReported c events (answers numbered (booted c) events)
+  waits_reported events on = report_run c numbered numbered_once numbered_lists (booted c) quiet_booted.sound nobody_waits quiet_booted.report events (runs_safe c events valid on)
 
   pub releases_fit : (events : List Event) → AreOn c.processors events → EachReleaseFits c nobody_waits (answers numbered (booted c) events)
-  releases_fit events on = fit_run c numbered numbered_once numbered_lists (booted c) quiet_booted.sound nobody_waits quiet_booted.told events (runs_safe c events valid on)
+  releases_fit events on = fit_run c numbered numbered_once numbered_lists (booted c) quiet_booted.sound nobody_waits quiet_booted.report events (runs_safe c events valid on)

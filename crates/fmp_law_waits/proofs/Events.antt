@@ -21,7 +21,7 @@ use Rattle.fmp_rules.specs.Rows.{called, plain}
 use Rattle.fmp_rules.specs.Tick.{tick}
 use Rattle.fmp_rules.specs.Step.{tops, row_of, settled, before_event, unchanged, step}
 use Rattle.fmp_law_safety.proofs.Settling.{settle_is}
-use Rattle.fmp_law_balance.proofs.Steps.{told}
+use Rattle.fmp_law_balance.proofs.Steps.{report}
 use Rattle.fmp_law_balance.specs.Accepted.{is_accepted}
 use Rattle.fmp_law_waits.specs.Waits.{is_tick_for}
 
@@ -29,31 +29,31 @@ module _ {Q : Type 0} (k : Ordering Q) (w : World Q) where
   abbrev Tells : Event → World Q × Record → Type 0
   Tells e after = after.1.event ≡ e
 
-  pub event_told : (e : Event) → (step k w e).1.event ≡ e
+  pub event_reported : (e : Event) → (step k w e).1.event ≡ e
   unfolding settled before_event unchanged
-  event_told (event.Call p c) = cond_both (is_some (runner_of w p)) _ _ (Tells (event.Call p c)) (λ _. refl) (λ _. refl)
-  event_told (event.Tick p) =
+  event_reported (event.Call p c) = cond_both (is_some (runner_of w p)) _ _ (Tells (event.Call p c)) (λ _. refl) (λ _. refl)
+  event_reported (event.Tick p) =
       cond_both (has_time w.timer p) _ _ (Tells (event.Tick p)) (λ _. cond_both ((processor w p).locked || is_some (handler w p)) _ _ (Tells (event.Tick p)) (λ _. refl) (λ _. refl)) (λ _. refl)
-  event_told (event.Ipi p) = cond_both (is_held w p) _ _ (Tells (event.Ipi p)) (λ _. refl) (λ _. refl)
+  event_reported (event.Ipi p) = cond_both (is_held w p) _ _ (Tells (event.Ipi p)) (λ _. refl) (λ _. refl)
 
 -- A law that says nothing of the processors, of the change of the running task and of requests holds of a step where it holds
 -- of what each call and a tick that is taken do, and of the answers of all other events.
 module _ {Q : Type 0} (k : Ordering Q) (w : World Q) (L : World Q → Record → Type 0)
     (blind : (v : World Q) (cs : List Processor) (r : Record) (x : Option (Option Task)) (ps : List Proc) →
     L v r → L (record v { processors = cs }) (record r { run_change = x; requests = ps }))
-    (calls : (p : Proc) (c : Call) → L (called w p (row_of k w p c)).0 (told (event.Call p c) (runner_of w p) (called w p (row_of k w p c)).1))
-    (idles : (p : Proc) (c : Call) → L w (told (event.Call p c) (runner_of w p) (plain answer.Idle)))
-    (ticks : (p : Proc) → L (tick k w p).0 (told (event.Tick p) (runner_of w p) (tick k w p).1))
-    (held : (p : Proc) → L w (told (event.Tick p) (runner_of w p) (plain answer.Held)))
-    (early : (p : Proc) → L w (told (event.Tick p) (runner_of w p) (plain answer.Nothing)))
-    (interrupts : (p : Proc) (a : Answer) → is_accepted a ≡ false → L w (told (event.Ipi p) (runner_of w p) (plain a))) where
+    (calls : (p : Proc) (c : Call) → L (called w p (row_of k w p c)).0 (report (event.Call p c) (runner_of w p) (called w p (row_of k w p c)).1))
+    (idles : (p : Proc) (c : Call) → L w (report (event.Call p c) (runner_of w p) (plain answer.Idle)))
+    (ticks : (p : Proc) → L (tick k w p).0 (report (event.Tick p) (runner_of w p) (tick k w p).1))
+    (held : (p : Proc) → L w (report (event.Tick p) (runner_of w p) (plain answer.Held)))
+    (early : (p : Proc) → L w (report (event.Tick p) (runner_of w p) (plain answer.Nothing)))
+    (interrupts : (p : Proc) (a : Answer) → is_accepted a ≡ false → L w (report (event.Ipi p) (runner_of w p) (plain a))) where
   abbrev After : World Q × Record → Type 0
   After after = L after.0 after.1
 
-  settles : (e : Event) (q : Proc) (did : World Q × Effect) → L did.0 (told e (runner_of w q) did.1) → After (settled k (before_event k w e q) did)
+  settles : (e : Event) (q : Proc) (did : World Q × Effect) → L did.0 (report e (runner_of w q) did.1) → After (settled k (before_event k w e q) did)
   unfolding settled before_event
   settles e q did h =
-      subst (λ v. L v (settled k (before_event k w e q) did).1) (sym (settle_is k (tops k w) did.0 q)) (blind did.0 _ (told e (runner_of w q) did.1) _ _ h)
+      subst (λ v. L v (settled k (before_event k w e q) did).1) (sym (settle_is k (tops k w) did.0 q)) (blind did.0 _ (report e (runner_of w q) did.1) _ _ h)
 
   pub by_event : (e : Event) → L (step k w e).0 (step k w e).1
   unfolding unchanged

@@ -118,7 +118,7 @@ all_in c pending r m numbers (x ∷ xs) cover all =
     (has-more m x.task.number numbers (cover x.task one.0 one.1), all_in c pending r m numbers xs cover (All-tail (EndsOpenWait c pending r) x xs all))
 
 module _ (c : Setup) (pending : OpenWaits) (r : Record) (numbers : List ℕ) (cover : Cover pending numbers) where
-  -- a task that waits behind the record waited before, or made the call
+  -- a task that waits after the record waited before, or made the call
   waited : (t : Task) (o : OpenWait) (begun before : Option OpenWait) → begins t r ≡ begun → pending t ≡ before → option_or begun (option_map (lasts c t r) before) ≡ Some o
       → has t.number (caller_number r.runner ∷ numbers) ≡ true
   waited t o None None b p is = absurd cc
@@ -138,15 +138,15 @@ module _ (c : Setup) (pending : OpenWaits) (r : Record) (numbers : List ℕ) (co
             (waited t o (begins t r) (pending t) refl refl (rw lasting at is))
       ]
 
-few_behind : (c : Setup) (pending : OpenWaits) (rs : List Record) (numbers : List ℕ) → Cover pending numbers → EachReleaseFits c pending rs
+few_after : (c : Setup) (pending : OpenWaits) (rs : List Record) (numbers : List ℕ) → Cover pending numbers → EachReleaseFits c pending rs
     → sum_by (λ (r : Record). length r.releases) rs ≤ length numbers + length rs
-few_behind c pending [] numbers cover fit = omega arith
-few_behind c pending (r ∷ rs) numbers cover fit =
+few_after c pending [] numbers cover fit = omega arith
+few_after c pending (r ∷ rs) numbers cover fit =
     let here = length-left (caller_number r.runner ∷ numbers) r.releases fit.0.once (all_in c pending r (caller_number r.runner) numbers r.releases cover fit.0.fit) in
-    let rest = few_behind c (after_record c pending r) rs (left (caller_number r.runner ∷ numbers) r.releases) (cover_after c pending r numbers cover) fit.1 in
+    let rest = few_after c (after_record c pending r) rs (left (caller_number r.runner ∷ numbers) r.releases) (cover_after c pending r numbers cover) fit.1 in
     omega (arith, here, rest, sum_by-cons (λ (x : Record). length x.releases) r rs)
 
 pub few_releases : (c : Setup) (es : List Event) → IsValid c → AreOn c.processors es → sum_by (λ (r : Record). length r.releases) (answers numbered (booted c) es) ≤ length es
 few_releases c es valid on =
-    let few = few_behind c nobody_waits (answers numbered (booted c) es) [] (λ t o is. absurd cc) (releases_fit c valid es on) in
+    let few = few_after c nobody_waits (answers numbered (booted c) es) [] (λ t o is. absurd cc) (releases_fit c valid es on) in
     omega (arith, few, length-answers (booted c) es)

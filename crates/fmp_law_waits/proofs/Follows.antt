@@ -32,14 +32,14 @@ use Rattle.fmp_law_balance.specs.Accepted.{is_accepted}
 use Rattle.fmp_law_balance.specs.Queues.{is_task}
 use Rattle.fmp_law_balance.proofs.Called.{refuses, not_accepted}
 use Rattle.fmp_law_balance.proofs.Shapes.{Few}
-use Rattle.fmp_law_balance.proofs.Steps.{told as record_of}
+use Rattle.fmp_law_balance.proofs.Steps.{report as record_of}
 use Rattle.fmp_setup.specs.Setup.{Setup}
 use Rattle.fmp_rules.specs.Tick.{one_less}
 use Rattle.fmp_law_waits.specs.Asked.{OpenWait, asked}
 use Rattle.fmp_law_waits.specs.Waits.{is_tick_for, migrates, assigned_by, assigned_after, lasts, OpenWaits, after_record, terminates}
 use Rattle.fmp_law_waits.specs.Releases.{EndsOpenWait, Fits, NoneTwice}
 use Rattle.fmp_law_waits.proofs.Named.{eqb_sym, caller_runs, HasOpen, open_of}
-use Rattle.fmp_law_waits.proofs.Words.{SameCounts, KeptAs, IsKept, counts_task, counts_wait, told_kept, told_ended, told_begun}
+use Rattle.fmp_law_waits.proofs.Words.{SameCounts, KeptAs, IsKept, counts_task, counts_wait, report_kept, report_ended, report_begun}
 
 -- there are at most so many of each, a place for the ticks left of each task, and the timer is as configured
 pub record Sound {Q : Type 0} (config : Setup) (w : World Q) : Type 0 where
@@ -83,7 +83,7 @@ module _ {Q : Type 0} (k : Ordering Q) (w : World Q) (p : Proc) (s : Safe k w) w
 module _ {Q : Type 0} (config : Setup) (w : World Q) (pending : OpenWaits) where
   -- the record r tells the waits of v, where these were open in w, and its releases fit
   pub record Follows (v : World Q) (r : Record) : Type 0 where
-    pub told : (t : Task) → IsKept config v t (after_record config pending r t)
+    pub report : (t : Task) → IsKept config v t (after_record config pending r t)
     pub fits : All (EndsOpenWait config pending r) r.releases
     pub once : NoneTwice r.releases
     pub counts : SameCounts w v
@@ -91,9 +91,9 @@ module _ {Q : Type 0} (config : Setup) (w : World Q) (pending : OpenWaits) where
   -- the same of a state that has the same tasks and waits
   pub follows_beside : (v u : World Q) (r : Record) → Follows v r → u.tasks ≡ v.tasks → u.waits_left ≡ v.waits_left → u.eventflags ≡ v.eventflags → u.timer ≡ v.timer → Follows u r
   follows_beside v u r h tasks left flags timer = record {
-    told = λ t.
+    report = λ t.
         subst (λ xs. IsKept config (record v { tasks = xs; waits_left = u.waits_left }) t (after_record config pending r t)) (sym tasks)
-        (subst (λ xs. IsKept config (record v { waits_left = xs }) t (after_record config pending r t)) (sym left) (h.told t));
+        (subst (λ xs. IsKept config (record v { waits_left = xs }) t (after_record config pending r t)) (sym left) (h.report t));
     fits = h.fits;
     once = h.once;
     counts = (ap length tasks ∙ h.counts.0, ap length left ∙ h.counts.1, ap length flags ∙ h.counts.2, timer ∙ h.counts.3);
@@ -101,14 +101,14 @@ module _ {Q : Type 0} (config : Setup) (w : World Q) (pending : OpenWaits) where
 
   -- nobody is released, and each wait lasts as it is
   pub stays : (v : World Q) (r : Record) → r.releases ≡ [] → ((t : Task) → after_record config pending r t ≡ pending t) → ((t : Task) → IsKept config v t (pending t)) → SameCounts w v → Follows v r
-  stays v r none same told counts = record {
-    told = λ t. subst (IsKept config v t) (sym (same t)) (told t);
+  stays v r none same report counts = record {
+    report = λ t. subst (IsKept config v t) (sym (same t)) (report t);
     fits = subst (All (EndsOpenWait config pending r)) (sym none) (All-nil (EndsOpenWait config pending r));
     once = subst NoneTwice (sym none) tt;
     counts = counts;
   }
 
-module _ {Q : Type 0} (config : Setup) (k : Ordering Q) (w : World Q) (pending : OpenWaits) (told : (t : Task) → IsKept config w t (pending t)) (p : Proc) where
+module _ {Q : Type 0} (config : Setup) (k : Ordering Q) (w : World Q) (pending : OpenWaits) (report : (t : Task) → IsKept config w t (pending t)) (p : Proc) where
   -- what holds of a call and of what it did
   abbrev pub CallFollows : Call → World Q × Effect → Type 0
   CallFollows c did = Follows config w pending did.0 (record_of (event.Call p c) (runner_of w p) did.1)
@@ -122,7 +122,7 @@ module _ {Q : Type 0} (config : Setup) (k : Ordering Q) (w : World Q) (pending :
       (λ t.
       cond-false (is_accepted r.answer && terminates t r.event) None (option_map (lasts config t r) (pending t)) (ap (λ b. b && terminates t r.event) no)
       ∙ lasts_same config t r (λ q. refl) (λ q. cond-false (is_accepted r.answer) (assigned_by config t (migrates t r.event) q) q no) (pending t))
-      told (refl, refl, refl, refl)
+      report (refl, refl, refl, refl)
 
   -- the waits that an accepted call leaves alone
   pub done_lasts : (c : Call) (did : Effect) (value : Option ℤ) → did.answer ≡ answer.Done code.Accepted value → SparesTasks (event.Call p c) → (t : Task) →
@@ -143,22 +143,22 @@ module _ {Q : Type 0} (config : Setup) (k : Ordering Q) (w : World Q) (pending :
   -- one that changes one task, whose wait stays
   pub task_follows : (c : Call) (u : Task) (r : TaskRecord) (q : Q) (value : Option ℤ) → SparesTasks (event.Call p c) → KeptAs config u (pending u) r (item None w.waits_left u.number) →
       CallFollows c (record w { tasks = with_item w.tasks u.number r; order = q }, plain (answer.Done code.Accepted value))
-  task_follows c u r q value apart here = done_follows c (record w { tasks = with_item w.tasks u.number r; order = q }) value None apart (told_kept config w pending told u r q here) (counts_task w u r q)
+  task_follows c u r q value apart here = done_follows c (record w { tasks = with_item w.tasks u.number r; order = q }) value None apart (report_kept config w pending report u r q here) (counts_task w u r q)
 
   -- one that releases a task that waits for this, where that fits
   pub release_follows : (c : Call) (u : Task) (x : Code) (value answered : Option ℤ) (y : Wait) → SparesTasks (event.Call p c) → (task w u).wait ≡ Some y →
       ((o : OpenWait) → o.wait ≡ y → Fits config o (event.Call p c) (answer.Done code.Accepted answered) (record { task = u; code = x; value = value })) →
       CallFollows c (make_ready k w u, record { answer = answer.Done code.Accepted answered; releases = record { task = u; code = x; value = value } ∷ []; lost = None })
   release_follows c u x value answered y apart waits fits =
-      let was : HasOpen (pending u) y _ _ = open_of (pending u) (task w u).wait _ _ (told u).0 y waits in
+      let was : HasOpen (pending u) y _ _ = open_of (pending u) (task w u).wait _ _ (report u).0 y waits in
       let did : Effect = record { answer = answer.Done code.Accepted answered; releases = record { task = u; code = x; value = value } ∷ []; lost = None } in
       let r : Record = record_of (event.Call p c) (runner_of w p) did in
       record {
-        told = λ t.
+        report = λ t.
             subst (λ b. IsKept config (make_ready k w u) t (if b then None else option_map (lasts config t r) (pending t)))
             (sym (ap (λ b. ((u.number == t.number) || false) || b) (apart t).0 ∙ or-false ((u.number == t.number) || false) ∙ or-false (u.number == t.number)))
             (subst (λ o. IsKept config (make_ready k w u) t (if u.number == t.number then None else o)) (sym (done_lasts c did answered refl apart t))
-            (told_ended config w pending told u (record (task w u) { wait = None }) w.order refl refl t));
+            (report_ended config w pending report u (record (task w u) { wait = None }) w.order refl refl t));
         fits = All-cons (EndsOpenWait config pending r) (record { task = u; code = x; value = value }) [] (was.what, was.is, fits was.what was.wait) (All-nil (EndsOpenWait config pending r));
         once = (refl, tt);
         counts = counts_wait w u (record (task w u) { wait = None }) None w.order;
@@ -180,12 +180,12 @@ module _ {Q : Type 0} (config : Setup) (k : Ordering Q) (w : World Q) (pending :
           let r : Record = record_of (event.Call p c) (runner_of w p) (plain answer.Wait) in
           let v : World Q = begin_wait k w u x left in
           record {
-            told = λ t.
+            report = λ t.
                 subst (λ before. IsKept config v t (option_or (if is_task t (runner_of w p) then asked p c else None) before)) (sym (lasts_same config t r (λ q. refl) (λ q. refl) (pending t)))
                 (subst (λ h. IsKept config v t (option_or (if is_task t h then asked p c else None) (pending t))) (sym (caller_runs w p from))
                 (subst (λ h. IsKept config v t (option_or (if t.number == u.number then h else None) (pending t))) (sym is)
                 (subst (λ b. IsKept config v t (option_or (if b then Some o else None) (pending t))) (eqb_sym u.number t.number)
-                (told_begun config w pending told u (record (task w u) { wait = Some x }) o w.order refl (processors_same (task w u).assigned p may.assigned) refl within timed t))));
+                (report_begun config w pending report u (record (task w u) { wait = Some x }) o w.order refl (processors_same (task w u).assigned p may.assigned) refl within timed t))));
             fits = All-nil (EndsOpenWait config pending r);
             once = tt;
             counts = counts_wait w u (record (task w u) { wait = Some x }) left w.order;

@@ -30,7 +30,7 @@ use Rattle.fmp_law_waits.specs.Waits.{OpenWaits, is_released}
 use Rattle.fmp_law_waits.specs.Releases.{sets, Gives, Fits, NoneTwice}
 use Rattle.fmp_law_waits.specs.Laws.{Waits}
 use Rattle.fmp_law_waits.proofs.Named.{HasOpen, open_of}
-use Rattle.fmp_law_waits.proofs.Words.{SameCounts, IsKept, same_counts_then, counts_wait, told_ended}
+use Rattle.fmp_law_waits.proofs.Words.{SameCounts, IsKept, same_counts_then, counts_wait, report_ended}
 
 -- what is open when this task is released
 abbrev without : OpenWaits → Task → OpenWaits
@@ -60,8 +60,8 @@ module _ {Q : Type 0} (config : Setup) (k : Ordering Q) where
   counts_ready : (w : World Q) (u : Task) → SameCounts w (make_ready k w u)
   counts_ready w u = counts_wait w u (record (task w u) { wait = None }) None w.order
 
-  told_ready : (w : World Q) (pending : OpenWaits) → ((t : Task) → IsKept config w t (pending t)) → (u t : Task) → IsKept config (make_ready k w u) t (without pending u t)
-  told_ready w pending told u t = told_ended config w pending told u (record (task w u) { wait = None }) w.order refl refl t
+  report_ready : (w : World Q) (pending : OpenWaits) → ((t : Task) → IsKept config w t (pending t)) → (u t : Task) → IsKept config (make_ready k w u) t (without pending u t)
+  report_ready w pending report u t = report_ended config w pending report u (record (task w u) { wait = None }) w.order refl refl t
 
   -- who does not wait does not wait when another one is released
   still_none : (w : World Q) (u t : Task) → (task w t).wait ≡ None → (task (make_ready k w u) t).wait ≡ None
@@ -83,16 +83,16 @@ abbrev pub AreForFlag : {Q : Type 0} → World Q → Object → List Task → Ty
 AreForFlag w f ts = All (λ t. (g : Object) (y : ℕ) (m : Mode) → (task w t).wait ≡ Some (wait.Eventflag g y m) → g ≡ f) ts
 
 module _ {Q : Type 0} (config : Setup) (k : Ordering Q) (f : Object) where
-  pub served_told : (w : World Q) (pending : OpenWaits) → ((t : Task) → IsKept config w t (pending t)) → (x : ℕ) (ts : List Task) →
+  pub served_reported : (w : World Q) (pending : OpenWaits) → ((t : Task) → IsKept config w t (pending t)) → (x : ℕ) (ts : List Task) →
       (t : Task) → IsKept config (served k w f x ts).0 t (if is_released t (served k w f x ts).1 then None else pending t)
-  served_told w pending told x [] t = told t
-  served_told w pending told x (u ∷ ts) t =
+  served_reported w pending report x [] t = report t
+  served_reported w pending report x (u ∷ ts) t =
       cond_both (is_met x (task w u).wait) _ _ (λ (did : World Q × List Release). IsKept config did.0 t (if is_released t did.1 then None else pending t))
       (λ _.
       let rest = served k (make_ready k w u) f (cleared w f x) ts in
       subst (IsKept config rest.0 t) (one_by_one (u.number == t.number) (is_released t rest.1) None (pending t))
-      (served_told (make_ready k w u) (without pending u) (told_ready config k w pending told u) (cleared w f x) ts t))
-      (λ _. served_told w pending told x ts t)
+      (served_reported (make_ready k w u) (without pending u) (report_ready config k w pending report u) (cleared w f x) ts t))
+      (λ _. served_reported w pending report x ts t)
 
   pub served_counts : (w : World Q) (x : ℕ) (ts : List Task) → SameCounts w (served k w f x ts).0
   served_counts w x [] = (refl, refl, length-set w.eventflags (f.number - 1) _, refl)
@@ -125,9 +125,9 @@ module _ {Q : Type 0} (config : Setup) (k : Ordering Q) (f : Object) where
     served_one : (w : World Q) (pending : OpenWaits) → ((t : Task) → IsKept config w t (pending t)) → (x : ℕ) (u : Task) →
         ((g : Object) (y : ℕ) (m : Mode) → (task w u).wait ≡ Some (wait.Eventflag g y m) → g ≡ f) → is_met x (task w u).wait ≡ true →
         Ends ByCall pending (record { task = u; code = code.Accepted; value = Some (pos x) })
-    served_one w pending told x u here met =
+    served_one w pending report x u here met =
         let parts = met_parts x (task w u).wait met in
-        let was : HasOpen (pending u) (wait.Eventflag parts.0 parts.1 parts.2) _ _ = open_of (pending u) (task w u).wait _ _ (told u).0 (wait.Eventflag parts.0 parts.1 parts.2) parts.3 in
+        let was : HasOpen (pending u) (wait.Eventflag parts.0 parts.1 parts.2) _ _ = open_of (pending u) (task w u).wait _ _ (report u).0 (wait.Eventflag parts.0 parts.1 parts.2) parts.3 in
         let this : sets parts.0 e ≡ true = subst (λ (g : Object). sets g e ≡ true) (sym (here parts.0 parts.1 parts.2 parts.3)) set in (
           was.what,
           was.is,
@@ -140,17 +140,17 @@ module _ {Q : Type 0} (config : Setup) (k : Ordering Q) (f : Object) where
         (λ _ h. absurd (none-some _ h)) (all i d below g y m)
 
     pub served_fit : (w : World Q) (pending : OpenWaits) → ((t : Task) → IsKept config w t (pending t)) → (x : ℕ) (ts : List Task) → AreForFlag w f ts → All (Ends ByCall pending) (served k w f x ts).1
-    served_fit w pending told x [] all = All-nil (Ends ByCall pending)
-    served_fit w pending told x (u ∷ ts) all =
+    served_fit w pending report x [] all = All-nil (Ends ByCall pending)
+    served_fit w pending report x (u ∷ ts) all =
         let P : Task → Type 0 = λ t. (g : Object) (y : ℕ) (m : Mode) → (task w t).wait ≡ Some (wait.Eventflag g y m) → g ≡ f in
         let here = All-head P u ts all in
         let others = All-tail P u ts all in
         cond_both (is_met x (task w u).wait) _ _ (λ (did : World Q × List Release). All (Ends ByCall pending) did.1)
         (λ met.
         let v : World Q = make_ready k w u in
-        All-cons (Ends ByCall pending) (record { task = u; code = code.Accepted; value = Some (pos x) }) (served k v f (cleared w f x) ts).1 (served_one w pending told x u here met)
-        (ends_before ByCall pending u _ (served_fit v (without pending u) (told_ready config k w pending told u) (cleared w f x) ts (for_flag_after w u ts others))))
-        (λ _. served_fit w pending told x ts others)
+        All-cons (Ends ByCall pending) (record { task = u; code = code.Accepted; value = Some (pos x) }) (served k v f (cleared w f x) ts).1 (served_one w pending report x u here met)
+        (ends_before ByCall pending u _ (served_fit v (without pending u) (report_ready config k w pending report u) (cleared w f x) ts (for_flag_after w u ts others))))
+        (λ _. served_fit w pending report x ts others)
 
 -- Those whose time is over.
 
@@ -164,13 +164,13 @@ Distinct [] = Unit {0}
 Distinct (t ∷ ts) = All (λ u. u.number ≡ t.number → ⊥) ts × Distinct ts
 
 module _ {Q : Type 0} (config : Setup) (k : Ordering Q) where
-  pub released_told : (w : World Q) (pending : OpenWaits) → ((t : Task) → IsKept config w t (pending t)) → (ts : List Task) →
+  pub released_reported : (w : World Q) (pending : OpenWaits) → ((t : Task) → IsKept config w t (pending t)) → (ts : List Task) →
       (t : Task) → IsKept config (released k w ts).0 t (if is_released t (released k w ts).1 then None else pending t)
-  released_told w pending told [] t = told t
-  released_told w pending told (u ∷ ts) t =
+  released_reported w pending report [] t = report t
+  released_reported w pending report (u ∷ ts) t =
       let rest = released k (make_ready k w u) ts in
       subst (IsKept config rest.0 t) (one_by_one (u.number == t.number) (is_released t rest.1) None (pending t))
-      (released_told (make_ready k w u) (without pending u) (told_ready config k w pending told u) ts t)
+      (released_reported (make_ready k w u) (without pending u) (report_ready config k w pending report u) ts t)
 
   pub released_counts : (w : World Q) (ts : List Task) → SameCounts w (released k w ts).0
   released_counts w [] = (refl, refl, refl, refl)
@@ -193,7 +193,7 @@ module _ {Q : Type 0} (config : Setup) (k : Ordering Q) where
 
   released_one : (w : World Q) (pending : OpenWaits) → ((t : Task) → IsKept config w t (pending t)) → (u : Task) → is_over (item None w.waits_left u.number) ≡ true →
       Ends IsDue pending (record { task = u; code = code_of (task w u).wait; value = None })
-  released_one w pending told u over = go (pending u) refl (told u).0
+  released_one w pending report u over = go (pending u) refl (report u).0
     where
       go : (x : Option OpenWait) → pending u ≡ x → Waits x (task w u).wait (item None w.waits_left u.number) (task w u).assigned → Ends IsDue pending (record { task = u; code = code_of (task w u).wait; value = None })
       go None is h = absurd (none-some 0 (sym h.left ∙ none_left (item None w.waits_left u.number) over))
@@ -201,13 +201,13 @@ module _ {Q : Type 0} (config : Setup) (k : Ordering Q) where
 
   pub released_fit : (w : World Q) (pending : OpenWaits) → ((t : Task) → IsKept config w t (pending t)) → (ts : List Task) → Distinct ts → All (λ t. is_over (item None w.waits_left t.number) ≡ true) ts →
       All (Ends IsDue pending) (released k w ts).1
-  released_fit w pending told [] distinct all = All-nil (Ends IsDue pending)
-  released_fit w pending told (u ∷ ts) distinct all =
+  released_fit w pending report [] distinct all = All-nil (Ends IsDue pending)
+  released_fit w pending report (u ∷ ts) distinct all =
       let P : Task → Type 0 = λ t. is_over (item None w.waits_left t.number) ≡ true in
       let v : World Q = make_ready k w u in
-      All-cons (Ends IsDue pending) (record { task = u; code = code_of (task w u).wait; value = None }) (released k v ts).1 (released_one w pending told u (All-head P u ts all))
+      All-cons (Ends IsDue pending) (record { task = u; code = code_of (task w u).wait; value = None }) (released k v ts).1 (released_one w pending report u (All-head P u ts all))
       (ends_before IsDue pending u _
-      (released_fit v (without pending u) (told_ready config k w pending told u) ts distinct.1
+      (released_fit v (without pending u) (report_ready config k w pending report u) ts distinct.1
       (λ i d below.
       let t : Task = slice_index_or ts i d in
       subst (λ o. is_over o ≡ true) (sym (item_other None w.waits_left u.number None t.number t.least u.least (distinct.0 i d below))) (All-tail P u ts all i d below))))

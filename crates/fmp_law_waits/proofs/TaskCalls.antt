@@ -32,7 +32,7 @@ use Rattle.fmp_law_safety.proofs.Items.{item_holds}
 use Rattle.fmp_law_safety.proofs.Calls.{Accepts, from_task}
 use Rattle.fmp_law_safety.proofs.KeepsTasks.{no_wait_ended}
 use Rattle.fmp_law_balance.proofs.Called.{by_called}
-use Rattle.fmp_law_balance.proofs.Steps.{told as record_of}
+use Rattle.fmp_law_balance.proofs.Steps.{report as record_of}
 use Rattle.fmp_setup.specs.Setup.{Setup}
 use Rattle.fmp_rules.specs.World.{item}
 use Rattle.fmp_law_safety.proofs.Items.{item_same, item_other}
@@ -41,7 +41,7 @@ use Rattle.fmp_law_waits.specs.Waits.{OpenWaits, is_number_of, setup_of, assigne
 use Rattle.fmp_law_waits.specs.Releases.{breaks_off, Gives, EndsOpenWait}
 use Rattle.fmp_law_waits.specs.Laws.{Waits}
 use Rattle.fmp_law_waits.proofs.Named.{by_task, task_known, none_open, waits_not}
-use Rattle.fmp_law_waits.proofs.Words.{SameCounts, KeptAs, IsKept, counts_task, counts_wait, told_ended}
+use Rattle.fmp_law_waits.proofs.Words.{SameCounts, KeptAs, IsKept, counts_task, counts_wait, report_ended}
 use Rattle.fmp_law_waits.proofs.Follows.{Sound, SparesTasks, lasts_same, stays, CallFollows, refused_follows, done_follows, task_follows, release_follows, running_within, running_waits_not, begins_follows, done_or_waits_follow}
 
 -- a task as it ends is as configured
@@ -68,9 +68,9 @@ some_wait : (o : Option Wait) → is_none o ≡ false → (y : Wait) × (o ≡ S
 some_wait None e = absurd (true≢false e)
 some_wait (Some y) e = (y, refl)
 
-module _ {Q : Type 0} (config : Setup) (k : Ordering Q) (w : World Q) (s : Safe k w) (sound : Sound config w) (pending : OpenWaits) (told : (t : Task) → IsKept config w t (pending t)) (p : Proc) where
+module _ {Q : Type 0} (config : Setup) (k : Ordering Q) (w : World Q) (s : Safe k w) (sound : Sound config w) (pending : OpenWaits) (report : (t : Task) → IsKept config w t (pending t)) (p : Proc) where
   abbrev Ends : TaskCall → World Q × Effect → Type 0
-  Ends c did = CallFollows config k w pending told p (calls.Task c) did
+  Ends c did = CallFollows config k w pending report p (calls.Task c) did
 
   abbrev Spares : TaskCall → Type 0
   Spares c = SparesTasks (event.Call p (calls.Task c))
@@ -89,15 +89,15 @@ module _ {Q : Type 0} (config : Setup) (k : Ordering Q) (w : World Q) (s : Safe 
   starts : (t : Task) (to : Proc) → (task w t).wait ≡ None → KeptAs config t (pending t) (started (task w t) to) (item None w.waits_left t.number)
   starts t to none =
       let ticks = item None w.waits_left t.number in (
-        waits_not (task w t).wait ticks (task w t).assigned to (pending t) (told t).0 none,
-        (told t).1,
+        waits_not (task w t).wait ticks (task w t).assigned to (pending t) (report t).0 none,
+        (report t).1,
       )
 
   activates : (c : TaskCall) (t : Task) (to : Proc) (kept : Option Proc) → Spares c → Ends c (activate k w t to kept, done)
   activates c t to kept spares =
       cond_both (task w t).active (with_task w t (record (task w t) { activations = 1; kept = kept })) (start k w t to) (λ (v : World Q). Ends c (v, done))
-      (λ _. task_follows config k w pending told p (calls.Task c) t (record (task w t) { activations = 1; kept = kept }) w.order None spares (told t))
-      (λ dormant. task_follows config k w pending told p (calls.Task c) t (started (task w t) to) _ None spares (starts t to (dormant_waits_not t dormant)))
+      (λ _. task_follows config k w pending report p (calls.Task c) t (record (task w t) { activations = 1; kept = kept }) w.order None spares (report t))
+      (λ dormant. task_follows config k w pending report p (calls.Task c) t (started (task w t) to) _ None spares (starts t to (dormant_waits_not t dormant)))
 
   acts : (c : TaskCall) (o : Option Task) → Spares c → Ends c (act k w o).effect
   unfolding act
@@ -169,10 +169,10 @@ module _ {Q : Type 0} (config : Setup) (k : Ordering Q) (w : World Q) (s : Safe 
         go (negsuc n) some = absurd (false≢true some)
         go (pos n) some =
             target (n == 0) (nat_le 1 n && nat_le n (length w.processors)) (setup_of config moved).class.initial (class_of w (task_or_caller w p id)).initial n
-            (ap (λ (x : TaskSetup). x.class.initial) (told moved).1) some
+            (ap (λ (x : TaskSetup). x.class.initial) (report moved).1) some
 
     moved_there : KeptAs config moved (option_map (lasts config moved tells) (pending moved)) (record (task w moved) { assigned = next }) (item None w.waits_left moved.number)
-    moved_there = (go (pending moved) (told moved).0, (told moved).1)
+    moved_there = (go (pending moved) (report moved).0, (report moved).1)
       where
         go : (x : Option OpenWait) → Waits x (task w moved).wait (item None w.waits_left moved.number) (task w moved).assigned →
             Waits (option_map (lasts config moved tells) x) (task w moved).wait (item None w.waits_left moved.number) next
@@ -186,12 +186,12 @@ module _ {Q : Type 0} (config : Setup) (k : Ordering Q) (w : World Q) (s : Safe 
     others_stay : (t : Task) → (t.number ≡ moved.number → ⊥) → IsKept config w t (option_map (lasts config t tells) (pending t))
     others_stay t other =
         subst (IsKept config w t)
-        (sym (lasts_same config t tells (λ q. refl) (λ q. ap (λ b. assigned_by config t (if b then Some to else None) q) (names_no_other id known t other)) (pending t))) (told t)
+        (sym (lasts_same config t tells (λ q. refl) (λ q. ap (λ b. assigned_by config t (if b then Some to else None) q) (names_no_other id known t other)) (pending t))) (report t)
 
     migrates_follow : (v : World Q) → SameCounts w v → v.waits_left ≡ w.waits_left → task v moved ≡ record (task w moved) { assigned = next } → ((t : Task) → (t.number ≡ moved.number → ⊥) → task v t ≡ task w t) →
         Ends (call.MigTsk id to) (v, done)
     migrates_follow v counts left here others = record {
-      told = λ t.
+      report = λ t.
           let now : Option OpenWait = option_map (lasts config t tells) (pending t) in
           subst (λ xs. KeptAs config t now (task v t) (item None xs t.number)) (sym left)
           (⊎_elim
@@ -227,10 +227,10 @@ module _ {Q : Type 0} (config : Setup) (k : Ordering Q) (w : World Q) (s : Safe 
       let c = calls.Task (call.TerTsk id) in
       let r : Record = record_of (event.Call p c) (runner_of w p) done in
       record {
-        told = λ t.
+        report = λ t.
             subst (λ b. IsKept config (finish k w u) t (if b then None else option_map (lasts config t r) (pending t))) (sym (task_known w id sound.few_tasks known t))
             (subst (λ o. IsKept config (finish k w u) t (if u.number == t.number then None else o)) (sym (lasts_same config t r (λ q. refl) (λ q. refl) (pending t)))
-            (told_ended config w pending told u (ended (task w u)) w.order (no_wait_ended (task w u)) (ended_setup (task w u)) t));
+            (report_ended config w pending report u (ended (task w u)) w.order (no_wait_ended (task w u)) (ended_setup (task w u)) t));
         fits = All-nil (EndsOpenWait config pending r);
         once = tt;
         counts = counts_wait w u (ended (task w u)) None w.order;
@@ -243,11 +243,11 @@ module _ {Q : Type 0} (config : Setup) (k : Ordering Q) (w : World Q) (s : Safe 
       let u : Task = caller w p in
       let v : World Q = finish k (opened w p) u in
       let r : Record = record_of (event.Call p (calls.Task call.ExtTsk)) (runner_of w p) (plain answer.Gone) in
-      let none : pending u ≡ None = none_open (pending u) _ _ _ (told u).0 (running_waits_not k w p s u running) in
+      let none : pending u ≡ None = none_open (pending u) _ _ _ (report u).0 (running_waits_not k w p s u running) in
       stays config w pending v r refl (λ t. lasts_same config t r (λ q. refl) (λ q. refl) (pending t))
       (λ t.
       subst (IsKept config v t) (by_task (λ x b. (if b then None else pending x) ≡ pending x) u t (λ e. sym none) (λ d. refl))
-      (told_ended config w pending told u (ended (task w u)) w.order (no_wait_ended (task w u)) (ended_setup (task w u)) t))
+      (report_ended config w pending report u (ended (task w u)) w.order (no_wait_ended (task w u)) (ended_setup (task w u)) t))
       (counts_wait w u (ended (task w u)) None w.order)
 
   sleeps_or_waits : (c : TaskCall) (timeout : ℤ) → Spares c → Accepts w p (tslp_tsk k w p timeout) → asked p (calls.Task c) ≡ Some (record { wait = wait.Sleep; left = ticks_of timeout; assigned = p }) →
@@ -256,8 +256,8 @@ module _ {Q : Type 0} (config : Setup) (k : Ordering Q) (w : World Q) (s : Safe 
   sleeps_or_waits c timeout spares a is =
       let t = caller w p in
       let r = record (task w t) { wakeups = (task w t).wakeups - 1 } in
-      done_or_waits_follow config k w pending told p s sound (calls.Task c) (nat_lt 0 (task w t).wakeups) (with_task w t r, done) wait.Sleep timeout (from_task w p false true a.rule) is
-      (λ _. task_follows config k w pending told p (calls.Task c) t r w.order None spares (told t))
+      done_or_waits_follow config k w pending report p s sound (calls.Task c) (nat_lt 0 (task w t).wakeups) (with_task w t r, done) wait.Sleep timeout (from_task w p false true a.rule) is
+      (λ _. task_follows config k w pending report p (calls.Task c) t r w.order None spares (report t))
 
   -- a task that sleeps is released, where the call wakes it up
   wakes_up : (c : TaskCall) (o : Option Task) → Spares c →
@@ -269,84 +269,84 @@ module _ {Q : Type 0} (config : Setup) (k : Ordering Q) (w : World Q) (s : Safe 
       cond_both (is_sleep (task w u).wait) (release k w u code.Accepted None) (with_task w u r, done) (Ends c)
       (λ e.
       let asleep = sleeps (task w u).wait e in
-      release_follows config k w pending told p (calls.Task c) u code.Accepted None None wait.Sleep spares asleep
+      release_follows config k w pending report p (calls.Task c) u code.Accepted None None wait.Sleep spares asleep
       (λ a is. inl (record { accepted = refl; code = refl; given = subst (λ y. Gives (event.Call p (calls.Task c)) u y None) (sym is) (gives asleep) })))
-      (λ _. task_follows config k w pending told p (calls.Task c) u r w.order None spares (told u))
+      (λ _. task_follows config k w pending report p (calls.Task c) u r w.order None spares (report u))
 
   breaks : (c : TaskCall) (id : ℤ) → Spares c → breaks_off (task_of id) (event.Call p (calls.Task c)) ≡ true → is_none (task w (task_of id)).wait ≡ false → Ends c (rel_wai k w (task_named w id)).effect
   unfolding rel_wai
   breaks c id spares named some =
       let waits = some_wait (task w (task_of id)).wait some in
-      release_follows config k w pending told p (calls.Task c) (task_of id) code.WaitReleased None None waits.0 spares waits.1
+      release_follows config k w pending report p (calls.Task c) (task_of id) code.WaitReleased None None waits.0 spares waits.1
       (λ a is. inr (inl (record { accepted = refl; called = named; code = refl; value = refl })))
 
   pub follows_task : (c : TaskCall) → Ends c (called w p (task_row k w p c))
   unfolding act mact can_act can_wup mig_tsk ext_tsk ter_tsk chg_pri tslp_tsk wup rel_wai sus_tsk rsm_tsk dly_tsk
   follows_task (call.ActTsk id) =
       let c = call.ActTsk id in
-      by_called w p (Ends c) (act k w (task_or_caller w p id)) (refl, tt) (refused_follows config k w pending told p (calls.Task c)) (λ a. acts c (task_or_caller w p id) (λ t. (refl, refl)))
+      by_called w p (Ends c) (act k w (task_or_caller w p id)) (refl, tt) (refused_follows config k w pending report p (calls.Task c)) (λ a. acts c (task_or_caller w p id) (λ t. (refl, refl)))
   follows_task (call.IactTsk id) =
       let c = call.IactTsk id in
-      by_called w p (Ends c) (in_handler (act k w (task_named w id))) (refl, tt) (refused_follows config k w pending told p (calls.Task c)) (λ a. acts c (task_named w id) (λ t. (refl, refl)))
+      by_called w p (Ends c) (in_handler (act k w (task_named w id))) (refl, tt) (refused_follows config k w pending report p (calls.Task c)) (λ a. acts c (task_named w id) (λ t. (refl, refl)))
   follows_task (call.MactTsk id to) =
       let c = call.MactTsk id to in
-      by_called w p (Ends c) (mact k w (task_or_caller w p id) to) (refl, tt) (refused_follows config k w pending told p (calls.Task c)) (λ a. macts c (task_or_caller w p id) to (λ t. (refl, refl)))
+      by_called w p (Ends c) (mact k w (task_or_caller w p id) to) (refl, tt) (refused_follows config k w pending report p (calls.Task c)) (λ a. macts c (task_or_caller w p id) to (λ t. (refl, refl)))
   follows_task (call.ImactTsk id to) =
       let c = call.ImactTsk id to in
-      by_called w p (Ends c) (in_handler (mact k w (task_named w id) to)) (refl, tt) (refused_follows config k w pending told p (calls.Task c)) (λ a. macts c (task_named w id) to (λ t. (refl, refl)))
+      by_called w p (Ends c) (in_handler (mact k w (task_named w id) to)) (refl, tt) (refused_follows config k w pending report p (calls.Task c)) (λ a. macts c (task_named w id) to (λ t. (refl, refl)))
   follows_task (call.CanAct id) =
       let c = call.CanAct id in
-      by_called w p (Ends c) (can_act w (task_or_caller w p id)) tt (refused_follows config k w pending told p (calls.Task c))
-      (λ a. task_follows config k w pending told p (calls.Task c) (own_task_of id) _ w.order _ (λ t. (refl, refl)) (told (own_task_of id)))
+      by_called w p (Ends c) (can_act w (task_or_caller w p id)) tt (refused_follows config k w pending report p (calls.Task c))
+      (λ a. task_follows config k w pending report p (calls.Task c) (own_task_of id) _ w.order _ (λ t. (refl, refl)) (report (own_task_of id)))
   follows_task (call.MigTsk id to) =
       let c = call.MigTsk id to in
-      by_called w p (Ends c) (mig_tsk k w p (task_or_caller w p id) to) (refl, tt) (refused_follows config k w pending told p (calls.Task c)) (λ a. migrates id to a)
+      by_called w p (Ends c) (mig_tsk k w p (task_or_caller w p id) to) (refl, tt) (refused_follows config k w pending report p (calls.Task c)) (λ a. migrates id to a)
   follows_task call.ExtTsk =
-      by_called w p (Ends call.ExtTsk) (ext_tsk k w p) tt (refused_follows config k w pending told p (calls.Task call.ExtTsk)) (λ a. exits (from_task w p true false a.rule).running)
+      by_called w p (Ends call.ExtTsk) (ext_tsk k w p) tt (refused_follows config k w pending report p (calls.Task call.ExtTsk)) (λ a. exits (from_task w p true false a.rule).running)
   follows_task (call.TerTsk id) =
       let c = call.TerTsk id in
-      by_called w p (Ends c) (ter_tsk k w p (task_named w id)) (refl, (refl, tt)) (refused_follows config k w pending told p (calls.Task c)) (λ a. ends id a.known)
+      by_called w p (Ends c) (ter_tsk k w p (task_named w id)) (refl, (refl, tt)) (refused_follows config k w pending report p (calls.Task c)) (λ a. ends id a.known)
   follows_task (call.ChgPri id n) =
       let c = call.ChgPri id n in
-      by_called w p (Ends c) (chg_pri k w (task_or_caller w p id) n) (refl, tt) (refused_follows config k w pending told p (calls.Task c))
-      (λ a. task_follows config k w pending told p (calls.Task c) (own_task_of id) _ _ None (λ t. (refl, refl)) (told (own_task_of id)))
+      by_called w p (Ends c) (chg_pri k w (task_or_caller w p id) n) (refl, tt) (refused_follows config k w pending report p (calls.Task c))
+      (λ a. task_follows config k w pending report p (calls.Task c) (own_task_of id) _ _ None (λ t. (refl, refl)) (report (own_task_of id)))
   follows_task (call.GetPri id) =
       let c = call.GetPri id in
-      by_called w p (Ends c) (get_pri w (task_or_caller w p id)) (refl, tt) (refused_follows config k w pending told p (calls.Task c))
-      (λ a. done_follows config k w pending told p (calls.Task c) w _ None (λ t. (refl, refl)) told (refl, refl, refl, refl))
+      by_called w p (Ends c) (get_pri w (task_or_caller w p id)) (refl, tt) (refused_follows config k w pending report p (calls.Task c))
+      (λ a. done_follows config k w pending report p (calls.Task c) w _ None (λ t. (refl, refl)) report (refl, refl, refl, refl))
   follows_task call.SlpTsk =
       let c = call.SlpTsk in
-      by_called w p (Ends c) (tslp_tsk k w p forever) tt (refused_follows config k w pending told p (calls.Task c)) (λ a. sleeps_or_waits c forever (λ t. (refl, refl)) a refl)
+      by_called w p (Ends c) (tslp_tsk k w p forever) tt (refused_follows config k w pending report p (calls.Task c)) (λ a. sleeps_or_waits c forever (λ t. (refl, refl)) a refl)
   follows_task (call.TslpTsk timeout) =
       let c = call.TslpTsk timeout in
-      by_called w p (Ends c) (tslp_tsk k w p timeout) tt (refused_follows config k w pending told p (calls.Task c)) (λ a. sleeps_or_waits c timeout (λ t. (refl, refl)) a refl)
+      by_called w p (Ends c) (tslp_tsk k w p timeout) tt (refused_follows config k w pending report p (calls.Task c)) (λ a. sleeps_or_waits c timeout (λ t. (refl, refl)) a refl)
   follows_task (call.WupTsk id) =
       let c = call.WupTsk id in
-      by_called w p (Ends c) (wup k w (task_or_caller w p id)) (refl, (refl, tt)) (refused_follows config k w pending told p (calls.Task c))
+      by_called w p (Ends c) (wup k w (task_or_caller w p id)) (refl, (refl, tt)) (refused_follows config k w pending report p (calls.Task c))
       (λ a. wakes_up c (task_or_caller w p id) (λ t. (refl, refl)) (λ asleep. (names_waiting id wait.Sleep a.known asleep, refl)))
   follows_task (call.IwupTsk id) =
       let c = call.IwupTsk id in
-      by_called w p (Ends c) (in_handler (wup k w (task_named w id))) (refl, (refl, tt)) (refused_follows config k w pending told p (calls.Task c))
+      by_called w p (Ends c) (in_handler (wup k w (task_named w id))) (refl, (refl, tt)) (refused_follows config k w pending report p (calls.Task c))
       (λ a. wakes_up c (task_named w id) (λ t. (refl, refl)) (λ asleep. (is_itself id a.known, refl)))
   follows_task (call.CanWup id) =
       let c = call.CanWup id in
-      by_called w p (Ends c) (can_wup w (task_or_caller w p id)) (refl, tt) (refused_follows config k w pending told p (calls.Task c))
-      (λ a. task_follows config k w pending told p (calls.Task c) (own_task_of id) _ w.order _ (λ t. (refl, refl)) (told (own_task_of id)))
+      by_called w p (Ends c) (can_wup w (task_or_caller w p id)) (refl, tt) (refused_follows config k w pending report p (calls.Task c))
+      (λ a. task_follows config k w pending report p (calls.Task c) (own_task_of id) _ w.order _ (λ t. (refl, refl)) (report (own_task_of id)))
   follows_task (call.RelWai id) =
       let c = call.RelWai id in
-      by_called w p (Ends c) (rel_wai k w (task_named w id)) (refl, tt) (refused_follows config k w pending told p (calls.Task c)) (λ a. breaks c id (λ t. (refl, refl)) (is_itself id a.known) a.errors.0)
+      by_called w p (Ends c) (rel_wai k w (task_named w id)) (refl, tt) (refused_follows config k w pending report p (calls.Task c)) (λ a. breaks c id (λ t. (refl, refl)) (is_itself id a.known) a.errors.0)
   follows_task (call.IrelWai id) =
       let c = call.IrelWai id in
-      by_called w p (Ends c) (in_handler (rel_wai k w (task_named w id))) (refl, tt) (refused_follows config k w pending told p (calls.Task c)) (λ a. breaks c id (λ t. (refl, refl)) (is_itself id a.known) a.errors.0)
+      by_called w p (Ends c) (in_handler (rel_wai k w (task_named w id))) (refl, tt) (refused_follows config k w pending report p (calls.Task c)) (λ a. breaks c id (λ t. (refl, refl)) (is_itself id a.known) a.errors.0)
   follows_task (call.SusTsk id) =
       let c = call.SusTsk id in
-      by_called w p (Ends c) (sus_tsk k w p (task_or_caller w p id)) (refl, (refl, tt)) (refused_follows config k w pending told p (calls.Task c))
-      (λ a. task_follows config k w pending told p (calls.Task c) (own_task_of id) _ _ None (λ t. (refl, refl)) (told (own_task_of id)))
+      by_called w p (Ends c) (sus_tsk k w p (task_or_caller w p id)) (refl, (refl, tt)) (refused_follows config k w pending report p (calls.Task c))
+      (λ a. task_follows config k w pending report p (calls.Task c) (own_task_of id) _ _ None (λ t. (refl, refl)) (report (own_task_of id)))
   follows_task (call.RsmTsk id) =
       let c = call.RsmTsk id in
-      by_called w p (Ends c) (rsm_tsk k w (task_named w id)) (refl, tt) (refused_follows config k w pending told p (calls.Task c))
-      (λ a. task_follows config k w pending told p (calls.Task c) (task_of id) _ _ None (λ t. (refl, refl)) (told (task_of id)))
+      by_called w p (Ends c) (rsm_tsk k w (task_named w id)) (refl, tt) (refused_follows config k w pending report p (calls.Task c))
+      (λ a. task_follows config k w pending report p (calls.Task c) (task_of id) _ _ None (λ t. (refl, refl)) (report (task_of id)))
   follows_task (call.DlyTsk time) =
       let c = call.DlyTsk time in
-      by_called w p (Ends c) (dly_tsk k w p time) tt (refused_follows config k w pending told p (calls.Task c))
-      (λ a. begins_follows config k w pending told p s sound (calls.Task c) wait.Delay (ticks_of time) (from_task w p false true a.rule) refl)
+      by_called w p (Ends c) (dly_tsk k w p time) tt (refused_follows config k w pending report p (calls.Task c))
+      (λ a. begins_follows config k w pending report p s sound (calls.Task c) wait.Delay (ticks_of time) (from_task w p false true a.rule) refl)

@@ -15,7 +15,7 @@ use Rattle.fmp_rules.specs.Ordering.{Ordering}
 use Rattle.fmp_rules.specs.Arrivals.{numbered, inserted, inserted_if, in_order, comes_before}
 use Rattle.fmp_rules.specs.Tick.{code_of, one_less, lowered, counted_down, is_over, tasks_expired, expired, alarms_due, with_handlers_due, released, ticked, tick}
 use Rattle.fmp_law_safety.proofs.KeepsDue.{alarms_keep, cyclics_keep}
-use Rattle.fmp_law_balance.proofs.Steps.{told as record_of}
+use Rattle.fmp_law_balance.proofs.Steps.{report as record_of}
 use Rattle.std.proofs.lemmas.Option.{none-some, same_Some}
 use Rattle.std.proofs.Math.Bool.{or-false}
 use Rattle.fmp_codes.specs.declared.records.Answer.TheVariants as answer
@@ -33,7 +33,7 @@ use Rattle.fmp_law_waits.specs.Releases.{over_code, EndsOpenWait}
 use Rattle.fmp_law_waits.specs.Laws.{Waits, left_of}
 use Rattle.fmp_law_waits.proofs.Words.{SameCounts, IsKept, same_counts_then}
 use Rattle.fmp_law_waits.proofs.Follows.{Sound, Follows, follows_beside}
-use Rattle.fmp_law_waits.proofs.Several.{Distinct, Ends, IsDue, released_told, released_counts, released_once, released_fit}
+use Rattle.fmp_law_waits.proofs.Several.{Distinct, Ends, IsDue, released_reported, released_counts, released_once, released_fit}
 
 -- Each task stands once among those with ticks left.
 
@@ -122,7 +122,7 @@ handlers_beside p v =
     let H : World _ → Type 0 = λ u. (u.tasks ≡ v.tasks) × (u.waits_left ≡ v.waits_left) × (u.eventflags ≡ v.eventflags) × (u.timer ≡ v.timer) in
     cyclics_keep p H (λ u c h. h) (alarms_due v p (expired v.alarms_left v.alarms)) (expired v.cyclics_left v.cyclics) (alarms_keep p H (λ u a h. h) v (expired v.alarms_left v.alarms) (refl, refl, refl, refl))
 
-module _ {Q : Type 0} (config : Setup) (k : Ordering Q) (once : TimedOnce k) (w : World Q) (s : Safe k w) (sound : Sound config w) (pending : OpenWaits) (told : (t : Task) → IsKept config w t (pending t)) (p : Proc) where
+module _ {Q : Type 0} (config : Setup) (k : Ordering Q) (once : TimedOnce k) (w : World Q) (s : Safe k w) (sound : Sound config w) (pending : OpenWaits) (report : (t : Task) → IsKept config w t (pending t)) (p : Proc) where
   -- a tick on p, of which it is not said yet whom it releases
   abbrev took : Record
   took = record_of (event.Tick p) (runner_of w p) (plain answer.Taken)
@@ -153,9 +153,9 @@ module _ {Q : Type 0} (config : Setup) (k : Ordering Q) (once : TimedOnce k) (w 
       assigned = h.assigned;
     }
 
-  told_down : (t : Task) → IsKept config (counted_down w p) t (fallen t)
+  report_down : (t : Task) → IsKept config (counted_down w p) t (fallen t)
   unfolding counted_down
-  told_down t = (waits_fallen t (pending t) (told t).0, (told t).1)
+  report_down t = (waits_fallen t (pending t) (report t).0, (report t).1)
 
   counts_down : SameCounts w (counted_down w p)
   unfolding counted_down
@@ -172,7 +172,7 @@ module _ {Q : Type 0} (config : Setup) (k : Ordering Q) (once : TimedOnce k) (w 
       go None is ends = absurd (none-some due.0 ends)
       go (Some o) is ends =
           let same : lasts config x.task took o ≡ due.0 = same_Some (lasts config x.task took o) due.0 ends in
-          let was : item None w.waits_left x.task.number ≡ o.left = subst (λ y. item None w.waits_left x.task.number ≡ left_of y) is (told x.task).0.left in
+          let was : item None w.waits_left x.task.number ≡ o.left = subst (λ y. item None w.waits_left x.task.number ≡ left_of y) is (report x.task).0.left in
           let last = last_tick (counts_for config.timer p o.assigned) o.left (subst TicksInRange was in_range) (ap (λ (y : OpenWait). y.left) same ∙ due.2.0) in (
             o,
             is,
@@ -189,7 +189,7 @@ module _ {Q : Type 0} (config : Setup) (k : Ordering Q) (once : TimedOnce k) (w 
 
   follows_ticked : (v : World Q) → ((t : Task) → IsKept config v t (fallen t)) → SameCounts w v → TickFollows v
   unfolding ticked
-  follows_ticked v told_v counts =
+  follows_ticked v report_v counts =
       let timed : List Task = k.timed v.order v.waits_left in
       let ts : List Task = tasks_expired v.waits_left timed in
       let over : Task → Bool = λ t. is_over (item None v.waits_left t.number) in
@@ -198,10 +198,10 @@ module _ {Q : Type 0} (config : Setup) (k : Ordering Q) (once : TimedOnce k) (w 
       let few : length v.waits_left ≤ 64 = rw (counts.1, sound.waits_left) sound.few_tasks in
       let distinct : Distinct ts = distinct_filter over timed (once v few) in
       let beside = handlers_beside p did.0 in
-      let due = released_fit config k v fallen told_v ts distinct (filter_passes over timed) in
+      let due = released_fit config k v fallen report_v ts distinct (filter_passes over timed) in
       follows_beside config w pending did.0 (with_handlers_due did.0 p) r
       (record {
-        told = λ t. subst (λ b. IsKept config did.0 t (if b then None else fallen t)) (sym (or-false (is_released t did.1))) (released_told config k v fallen told_v ts t);
+        report = λ t. subst (λ b. IsKept config did.0 t (if b then None else fallen t)) (sym (or-false (is_released t did.1))) (released_reported config k v fallen report_v ts t);
         fits = λ i d h. due_fits r refl refl (slice_index_or did.1 i d) (due i d h);
         once = released_once config k v ts distinct;
         counts = same_counts_then w v did.0 counts (released_counts config k v ts);
@@ -209,4 +209,4 @@ module _ {Q : Type 0} (config : Setup) (k : Ordering Q) (once : TimedOnce k) (w 
       beside.0 beside.1 beside.2 beside.3
 
   pub follows_tick : Follows config w pending (tick k w p).0 (record_of (event.Tick p) (runner_of w p) (tick k w p).1)
-  follows_tick = follows_ticked (counted_down w p) told_down counts_down
+  follows_tick = follows_ticked (counted_down w p) report_down counts_down

@@ -36,7 +36,7 @@ use Rattle.fmp_law_waits.proofs.Words.{IsKept}
 use Rattle.fmp_law_waits.proofs.Follows.{Sound}
 use Rattle.fmp_law_waits.proofs.TaskCalls.{names_no_other}
 
-module _ {Q : Type 0} (config : Setup) (k : Ordering Q) (w : World Q) (s : Safe k w) (sound : Sound config w) (pending : OpenWaits) (told : (t : Task) → IsKept config w t (pending t)) where
+module _ {Q : Type 0} (config : Setup) (k : Ordering Q) (w : World Q) (s : Safe k w) (sound : Sound config w) (pending : OpenWaits) (report : (t : Task) → IsKept config w t (pending t)) where
   module _ (p : Proc) (t : Task) (o : OpenWait) (waits : (task w t).wait ≡ Some o.wait) where
     -- what is so of a call that did this
     abbrev Releases : Call → World Q × Effect → Type 0
@@ -53,7 +53,7 @@ module _ {Q : Type 0} (config : Setup) (k : Ordering Q) (w : World Q) (s : Safe 
     is_own id known named =
         let u : Task = unwrap_or (task_or_caller w p id) (as_task 1) in
         ⊎_elim (λ (e : t.number ≡ u.number). eq-eqb u.number t.number (sym e))
-        (λ (d : t.number ≡ u.number → ⊥). absurd (both_ways (is_number_of t id) (names_no_other config k w s sound pending told p id known t d) named)) (cases_eq t.number u.number)
+        (λ (d : t.number ≡ u.number → ⊥). absurd (both_ways (is_number_of t id) (names_no_other config k w s sound pending report p id known t d) named)) (cases_eq t.number u.number)
 
     is_named : (id : ℤ) → is_some (task_named w id) ≡ true → is_number_of t id ≡ true → ((unwrap_or (task_named w id) (as_task 1)).number == t.number) ≡ true
     is_named id known named = sym (task_known w id sound.few_tasks known t) ∙ named
@@ -102,7 +102,7 @@ module _ {Q : Type 0} (config : Setup) (k : Ordering Q) (w : World Q) (s : Safe 
 
   pub releases_called : (e : Event) → ReleasesCalled pending (step k w e).1
   releases_called e t o is =
-      let waits : (task w t).wait ≡ Some o.wait = (told t).0.wait ∙ ap (λ x. option_map (λ (y : OpenWait). y.wait) x) is in
+      let waits : (task w t).wait ≡ Some o.wait = (report t).0.wait ∙ ap (λ x. option_map (λ (y : OpenWait). y.wait) x) is in
       let L : World Q → Record → Type 0 = λ v r. is_accepted r.answer ≡ true → must_end t o.wait r.event ≡ true → is_released t r.releases ≡ true in
       by_step k w L (λ v cs r x ps h. h) (λ p c. releases_call p t o waits c) (λ p c none accepted must. absurd (false≢true accepted)) (λ p accepted must. absurd (false≢true must))
       (λ e r a no_call no_e accepted must. absurd (both_ways (is_accepted a) no_e accepted)) e

@@ -10,7 +10,7 @@ use Rattle.fmp_rules.specs.World.{World, item, with_item, no_task, task}
 use Rattle.fmp_law_safety.proofs.Items.{item_after, item_put, item_same, item_other, task_at}
 use Rattle.fmp_law_waits.specs.Asked.{OpenWait}
 use Rattle.fmp_law_waits.specs.Waits.{OpenWaits, setup_of}
-use Rattle.fmp_law_waits.specs.Laws.{Waits, IsTold}
+use Rattle.fmp_law_waits.specs.Laws.{Waits, IsReported}
 use Rattle.fmp_law_waits.proofs.Named.{by_task}
 
 -- from w to v there are as many tasks, waits and eventflags, and the timer is the same
@@ -37,32 +37,32 @@ module _ {Q : Type 0} (w : World Q) where
       SameCounts w (record w { tasks = with_item w.tasks t.number r; waits_left = with_item w.waits_left t.number left; order = q })
   counts_wait t r left q = (length-set w.tasks (t.number - 1) r, length-set w.waits_left (t.number - 1) left, refl, refl)
 
-module _ {Q : Type 0} (c : Setup) (w : World Q) (pending : OpenWaits) (told : (t : Task) → IsKept c w t (pending t)) where
+module _ {Q : Type 0} (c : Setup) (w : World Q) (pending : OpenWaits) (report : (t : Task) → IsKept c w t (pending t)) where
   -- a task changes, and its wait stays
-  pub told_kept : (u : Task) (r : TaskRecord) (q : Q) → KeptAs c u (pending u) r (item None w.waits_left u.number) →
+  pub report_kept : (u : Task) (r : TaskRecord) (q : Q) → KeptAs c u (pending u) r (item None w.waits_left u.number) →
       (t : Task) → IsKept c (record w { tasks = with_item w.tasks u.number r; order = q }) t (pending t)
-  told_kept u r q here t =
+  report_kept u r q here t =
       item_after no_task w.tasks u.number r (λ (x : TaskRecord). KeptAs c t (pending t) x (item None w.waits_left t.number)) t.number
-      (λ i. subst (λ v. KeptAs c v (pending v) r (item None w.waits_left v.number)) (sym (task_at t u i)) here) (told t)
+      (λ i. subst (λ v. KeptAs c v (pending v) r (item None w.waits_left v.number)) (sym (task_at t u i)) here) (report t)
 
   -- the setup of each task, where that of one stays
   setup_kept : (u : Task) (r : TaskRecord) → r.setup ≡ (task w u).setup → (t : Task) → (item no_task (with_item w.tasks u.number r) t.number).setup ≡ setup_of c t
   setup_kept u r same t =
       item_after no_task w.tasks u.number r (λ (x : TaskRecord). x.setup ≡ setup_of c t) t.number
-      (λ i. same ∙ (told u).1 ∙ ap (λ v. setup_of c v) (sym (task_at t u i))) (told t).1
+      (λ i. same ∙ (report u).1 ∙ ap (λ v. setup_of c v) (sym (task_at t u i))) (report t).1
 
   -- all others stay
   others : (u : Task) (r : TaskRecord) (left : Option ℕ) (t : Task) → (t.number ≡ u.number → ⊥) →
       Waits (pending t) (item no_task (with_item w.tasks u.number r) t.number).wait (item None (with_item w.waits_left u.number left) t.number) (item no_task (with_item w.tasks u.number r) t.number).assigned
   others u r left t d =
       subst (λ (x : TaskRecord). Waits (pending t) x.wait (item None (with_item w.waits_left u.number left) t.number) x.assigned) (sym (item_other no_task w.tasks u.number r t.number t.least u.least d))
-      (subst (λ l. Waits (pending t) (task w t).wait l (task w t).assigned) (sym (item_other None w.waits_left u.number left t.number t.least u.least d)) (told t).0)
+      (subst (λ l. Waits (pending t) (task w t).wait l (task w t).assigned) (sym (item_other None w.waits_left u.number left t.number t.least u.least d)) (report t).0)
 
   -- its wait ends
-  pub told_ended : (u : Task) (r : TaskRecord) (q : Q) → r.wait ≡ None → r.setup ≡ (task w u).setup →
+  pub report_ended : (u : Task) (r : TaskRecord) (q : Q) → r.wait ≡ None → r.setup ≡ (task w u).setup →
       (t : Task) → IsKept c (record w { tasks = with_item w.tasks u.number r; waits_left = with_item w.waits_left u.number None; order = q }) t (if u.number == t.number then None else pending t)
-  told_ended u r q none same t = (
-    by_task (λ x b. IsTold (record w { tasks = with_item w.tasks u.number r; waits_left = with_item w.waits_left u.number None; order = q }) x (if b then None else pending x)) u t
+  report_ended u r q none same t = (
+    by_task (λ x b. IsReported (record w { tasks = with_item w.tasks u.number r; waits_left = with_item w.waits_left u.number None; order = q }) x (if b then None else pending x)) u t
         (λ e. record {
           wait = item_put no_task w.tasks u.number r (λ (x : TaskRecord). x.wait ≡ None) none refl;
           left = item_put None w.waits_left u.number None (λ (x : Option ℕ). x ≡ None) refl refl;
@@ -73,12 +73,12 @@ module _ {Q : Type 0} (c : Setup) (w : World Q) (pending : OpenWaits) (told : (t
   )
 
   -- it begins to wait
-  pub told_begun : (u : Task) (r : TaskRecord) (o : OpenWait) (q : Q) → r.wait ≡ Some o.wait → r.assigned ≡ o.assigned → r.setup ≡ (task w u).setup → u.number ≤ length w.tasks → u.number ≤ length w.waits_left →
+  pub report_begun : (u : Task) (r : TaskRecord) (o : OpenWait) (q : Q) → r.wait ≡ Some o.wait → r.assigned ≡ o.assigned → r.setup ≡ (task w u).setup → u.number ≤ length w.tasks → u.number ≤ length w.waits_left →
       (t : Task) →
       IsKept c (record w { tasks = with_item w.tasks u.number r; waits_left = with_item w.waits_left u.number o.left; order = q }) t (option_or (if u.number == t.number then Some o else None) (pending t))
-  told_begun u r o q is at same within timed t = (
+  report_begun u r o q is at same within timed t = (
     by_task
-        (λ x b. IsTold (record w { tasks = with_item w.tasks u.number r; waits_left = with_item w.waits_left u.number o.left; order = q }) x (option_or (if b then Some o else None) (pending x))) u t
+        (λ x b. IsReported (record w { tasks = with_item w.tasks u.number r; waits_left = with_item w.waits_left u.number o.left; order = q }) x (option_or (if b then Some o else None) (pending x))) u t
         (λ e. record {
           wait = ap (λ (x : TaskRecord). x.wait) (item_same no_task w.tasks u.number r u.least within) ∙ is;
           left = item_same None w.waits_left u.number o.left u.least timed;

@@ -25,9 +25,9 @@ pub record Waits (pending : Option OpenWait) (now : Option Wait) (ticks : Option
   pub assigned : IfSome pending (λ o. processor ≡ o.assigned)
 
 -- so does this task in this state
-abbrev pub IsTold : {Q : Type 0} → World Q → Task → Option OpenWait → Type 0
-IsTold w t pending = Waits pending (task w t).wait (item None w.waits_left t.number) (task w t).assigned
+abbrev pub IsReported : {Q : Type 0} → World Q → Task → Option OpenWait → Type 0
+IsReported w t pending = Waits pending (task w t).wait (item None w.waits_left t.number) (task w t).assigned
 
 -- at every prefix of a run of these events with these records, the records so far tell each task's wait
-abbrev pub AreWaitsTold : Setup → List Event → List Record → Type 0
-AreWaitsTold c events records = (n : ℕ) (t : Task) → IsTold (replay numbered (booted c) (take n events)) t (after_records c nobody_waits (take n records) t)
+abbrev pub AreWaitsReported : Setup → List Event → List Record → Type 0
+AreWaitsReported c events records = (n : ℕ) (t : Task) → IsReported (replay numbered (booted c) (take n events)) t (after_records c nobody_waits (take n records) t)

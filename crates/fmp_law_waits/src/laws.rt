@@ -10,13 +10,13 @@ ghost use Rattle.fmp_rules.specs.Boot.{booted};
 ghost use Rattle.fmp_law_safety.specs.Runs.{AreOn};
 ghost use Rattle.fmp_law_waits.specs.Waits.{nobody_waits};
 ghost use Rattle.fmp_law_waits.specs.Releases.{EachReleaseFits};
-ghost use Rattle.fmp_law_waits.specs.Laws.{AreWaitsTold};
+ghost use Rattle.fmp_law_waits.specs.Laws.{AreWaitsReported};
 
 /// At every prefix of every list of events on the processors of a valid configuration, a task waits exactly where the records
 /// tell of a wait that it began and that was not ended since: for what its call asked, and with as many ticks left as its
 /// timeout had, but for the ticks that were taken since and counted for it.
-pub fn waits_are_told()
-    ensures { (c : Setup) (events : List Event) → IsValid c → AreOn c.processors events → AreWaitsTold c events (answers numbered (booted c) events) }
+pub fn waits_are_reported()
+    ensures { (c : Setup) (events : List Event) → IsValid c → AreOn c.processors events → AreWaitsReported c events (answers numbered (booted c) events) }
 {}
 
 /// Each release that the records of such a run tell of ends the wait that its task began last and that was not ended since, and

@@ -47,7 +47,7 @@ times_any-none name (list ∷ lists) none =
     let counted = sum_by-cons (times name) list lists in
     omega (arith, counted, rest, first)
 
--- how often a name stands behind one name more
+-- how often a name stands after one name more
 pub times-push : (name other : List ℕ) (list : List (List ℕ)) → times name (list ++ other ∷ []) ≡ times name list + cond (bytes_eq name other) 1 0
 times-push name other list =
     let counted = sum_by-append (λ o. cond (bytes_eq name o) 1 0) list (other ∷ []) in
@@ -76,7 +76,7 @@ pub either_way : {A E : Type 0} (r : Result A E) (P Q : Type 0) → OnOk r P →
 either_way (Ok x) P Q p q = inl p
 either_way (Err e) P Q p q = inr q
 
--- no name stands behind the last
+-- no name stands after the last
 pub past_last : (names : List (List ℕ)) (i : ℕ) → slice_get names i ≡ None → drop i names ≡ []
 past_last [] zero is = refl
 past_last [] (suc i) is = refl

@@ -9,7 +9,7 @@ use Rattle.std.specs.Global.{Vec}
 use Rattle.std.specs.Str.{bytes_eq}
 use Rattle.indexmap.specs.IndexMap.{IndexMap}
 use Rattle.indexmap.specs.IndexSet.{IndexSet}
-use Rattle.fmp_bytes.specs.Bytes.{behind, is_identifier, letter_p}
+use Rattle.fmp_bytes.specs.Bytes.{following, is_identifier, letter_p}
 use Rattle.fmp_bytes.specs.Numerals.{are_digits}
 use Rattle.fmp_names.specs.Constants.{constant_in}
 use Rattle.fmp_calls.specs.declared.kinds.ObjectKind.{ObjectKind}
@@ -103,7 +103,7 @@ is_constant word = is_some (constant_in word)
 
 -- `P` followed by one or more digits only
 unfoldable pub is_processor_word : List ℕ → Bool
-is_processor_word word = option_map_or (are_digits 10) (behind letter_p word) false
+is_processor_word word = option_map_or (are_digits 10) (following letter_p word) false
 
 -- the words that no object and no defined name may be
 unfoldable pub is_reserved : List ℕ → Bool

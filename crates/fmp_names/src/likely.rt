@@ -40,7 +40,7 @@ fn word_in(chunk: u64) -> u64 {
     chunk & (first >> 7).wrapping_sub(1)
 }
 
-/// The first bytes, up to eight, as a number in little-endian order, and zeros behind the last.
+/// The first bytes, up to eight, as a number in little-endian order, and zeros after the last.
 fn padded(bytes: &[u8]) -> u64 {
     let mut chunk: [u8; 8] = [0; 8];
     for index in 0..bytes.len().min(8) {
@@ -49,7 +49,7 @@ fn padded(bytes: &[u8]) -> u64 {
     u64::from_le_bytes(chunk)
 }
 
-/// The first bytes of a word as a number, up to eight, and zeros behind its end.
+/// The first bytes of a word as a number, up to eight, and zeros after its end.
 #[inline(always)]
 pub fn word_key(bytes: &[u8]) -> u64 {
     match bytes.first_chunk::<8>() {

@@ -13,7 +13,7 @@ ghost use Rattle.fmp_names.specs.Names as spec;
 use crate::constants::constant_in;
 use crate::likely::Likely;
 use crate::pieces::{Piece, Pieces};
-use fmp_bytes::{are_digits, behind, is_identifier};
+use fmp_bytes::{are_digits, following, is_identifier};
 use fmp_calls::{KnownCall, NameKind, ObjectKind};
 use indexmap::{IndexMap, IndexSet};
 use std::alloc::{AllocError, Global};
@@ -74,7 +74,7 @@ pub fn is_constant(word: &[u8]) -> bool
 pub fn is_processor_word(word: &[u8]) -> bool
     ensures { result ≡ spec.is_processor_word word.now }
 {
-    match behind(b'P', word) {
+    match following(b'P', word) {
         Some(digits) => are_digits(10, digits),
         None => false,
     }
@@ -103,7 +103,7 @@ fn some_has_name(sets: &[IndexSet<Vec<u8>>; 8], name: &[u8]) -> bool
     sets.iter().any(|set| has_name(set, name))
 }
 
-/// Adds a name behind all others of the set, which must not hold it yet. An `Err` changes nothing.
+/// Adds a name after all others of the set, which must not hold it yet. An `Err` changes nothing.
 fn insert_name(set: &mut IndexSet<Vec<u8>>, name: Vec<u8>) -> Result<(), AllocError>
     requires { spec.has_name (spec.texts set.old) name.items ≡ false }
     ensures ok { OnOk result (spec.texts set.new ≡ spec.texts set.old ++ name.items ∷ []) }
@@ -113,7 +113,7 @@ fn insert_name(set: &mut IndexSet<Vec<u8>>, name: Vec<u8>) -> Result<(), AllocEr
     Ok(())
 }
 
-/// Adds a name behind the others of the kind at this place, which must not have it yet. An `Err` changes nothing.
+/// Adds a name after the others of the kind at this place, which must not have it yet. An `Err` changes nothing.
 fn insert_object(
     objects: &mut [IndexSet<Vec<u8>>; 8],
     place: usize,
@@ -139,7 +139,7 @@ fn remember(
     likely.add(place, name, objects[place].len().saturating_add(1))
 }
 
-/// Adds a name that is not defined yet with the number that it stands for, behind all others. An `Err` changes nothing.
+/// Adds a name that is not defined yet with the number that it stands for, after all others. An `Err` changes nothing.
 fn insert_definition(
     defined: &mut IndexMap<Vec<u8>, u32>,
     name: Vec<u8>,
@@ -383,7 +383,7 @@ impl Names {
         self.nth(kind, number - 1)
     }
 
-    /// The name of the kind at this index, which counts from 0, and `None` behind the last.
+    /// The name of the kind at this index, which counts from 0, and `None` after the last.
     fn nth(&self, kind: NameKind, index: usize) -> Option<&[u8]>
         ensures { option_copied result ≡ slice_get (spec.names_of self.now kind) index }
     {

@@ -10,7 +10,7 @@ ghost use Rattle.fmp_law_safety.specs.Laws.{FindsNothing, TakesRequest, RunsTop}
 use fmp_codes::{Answer, Event, Record};
 use fmp_plain_machine::PlainMachine;
 use fmp_rules::Config;
-use fmp_step::{boot, step_told};
+use fmp_step::{boot, step_recorded};
 use std::alloc::AllocError;
 use std::marker::Model;
 
@@ -55,39 +55,39 @@ impl Plain {
         ensures taken { TakesRequest self.old.state event result self.new.state }
         ensures top { RunsTop numbered self.old.state event result self.new.state }
     {
-        let mut told = Record::answer(event, None, Answer::Nothing);
-        self.step_into(event, &mut told);
-        told
+        let mut report = Record::answer(event, None, Answer::Nothing);
+        self.step_into(event, &mut report);
+        report
     }
 
     /// Plays one event, and makes a record tell what it answers and did, whatever it told before.
-    pub fn step_into(&mut self, event: Event, told: &mut Record)
+    pub fn step_into(&mut self, event: Event, report: &mut Record)
         requires { self.old.steps < 4294967295 }
-        ensures step { (self.new.state, told.new) ≡ step numbered self.old.state event }
+        ensures step { (self.new.state, report.new) ≡ step numbered self.old.state event }
         ensures steps { self.new.steps ≡ self.old.steps + 1 }
 
         // As of `step`.
-        ensures nothing { FindsNothing numbered self.old.state event told.new self.new.state }
-        ensures taken { TakesRequest self.old.state event told.new self.new.state }
-        ensures top { RunsTop numbered self.old.state event told.new self.new.state }
+        ensures nothing { FindsNothing numbered self.old.state event report.new self.new.state }
+        ensures taken { TakesRequest self.old.state event report.new self.new.state }
+        ensures top { RunsTop numbered self.old.state event report.new self.new.state }
     {
-        told.event = event;
-        self.step_told(told);
+        report.event = event;
+        self.step_recorded(report);
     }
 
     /// Plays the event that a record tells, and makes it tell what the event answers and did, whatever it told of that before.
-    pub fn step_told(&mut self, told: &mut Record)
+    pub fn step_recorded(&mut self, report: &mut Record)
         requires { self.old.steps < 4294967295 }
-        ensures step { (self.new.state, told.new) ≡ step numbered self.old.state told.old.event }
+        ensures step { (self.new.state, report.new) ≡ step numbered self.old.state report.old.event }
         ensures steps { self.new.steps ≡ self.old.steps + 1 }
 
         // As of `step`.
-        ensures nothing { FindsNothing numbered self.old.state told.old.event told.new self.new.state }
-        ensures taken { TakesRequest self.old.state told.old.event told.new self.new.state }
-        ensures top { RunsTop numbered self.old.state told.old.event told.new self.new.state }
+        ensures nothing { FindsNothing numbered self.old.state report.old.event report.new self.new.state }
+        ensures taken { TakesRequest self.old.state report.old.event report.new self.new.state }
+        ensures top { RunsTop numbered self.old.state report.old.event report.new self.new.state }
     {
         self.steps += 1;
-        step_told(&mut self.machine, told);
+        step_recorded(&mut self.machine, report);
     }
 
     /// Its state between two events.

@@ -35,9 +35,9 @@ stands_first : (a i m b j k : ℕ) → comes a i b j ≡ true → Stands a i m b
 unfolding Stands comes
 stands_first a i m b j k x = grind arith
 
-stands_behind : (a i m b j k : ℕ) → comes a i b j ≡ false → k ≤ m → Stands b j k a i m
+stands_after : (a i m b j k : ℕ) → comes a i b j ≡ false → k ≤ m → Stands b j k a i m
 unfolding Stands comes
-stands_behind a i m b j k x less = grind arith
+stands_after a i m b j k x less = grind arith
 
 stands_ahead : (a i m b j k : ℕ) → (comes a i b j || (not (comes b j a i) && ltb m k)) ≡ true → Stands a i m b j k
 unfolding Stands comes
@@ -94,9 +94,9 @@ module _ (rank : Task → ℕ) (ns : List ℕ) where
   unfolding Leads comes
   leads_first t u x = stands_first (rank t) (item 0 ns t.number) t.number (rank u) (item 0 ns u.number) u.number x
 
-  leads_behind : (t u : Task) → comes_before rank ns t u ≡ false → u.number ≤ t.number → Leads u t
+  leads_after : (t u : Task) → comes_before rank ns t u ≡ false → u.number ≤ t.number → Leads u t
   unfolding Leads comes
-  leads_behind t u x less = stands_behind (rank t) (item 0 ns t.number) t.number (rank u) (item 0 ns u.number) u.number x less
+  leads_after t u x less = stands_after (rank t) (item 0 ns t.number) t.number (rank u) (item 0 ns u.number) u.number x less
 
   -- one more task that does not qualify
   least_kept : (q : Task → Bool) (n : ℕ) (o : Option Task) (t : Task) → t.number ≡ n + 1 → q t ≡ false → IsLeast q n o → IsLeast q (n + 1) o
@@ -148,7 +148,7 @@ module _ (rank : Task → ℕ) (ns : List ℕ) where
             so_far.1.0,
             λ v most in_it.
                 elim (within n t v here most) [
-                  | inl e ↦ subst (λ (x : Task). Leads u x) (sym e) (leads_behind t u b (omega (arith, here, so_far.0)))
+                  | inl e ↦ subst (λ (x : Task). Leads u x) (sym e) (leads_after t u b (omega (arith, here, so_far.0)))
                   | inr less ↦ so_far.1.1 v less in_it
                 ],
           ),

@@ -12,9 +12,9 @@ best_of records ready None = record { task = None; priority = 0; number = 0 }
 best_of records ready (Some t) = record { task = Some t; priority = priority_in records t; number = item 0 ready t.number }
 
 -- a task of this priority and number comes before the best one
-abbrev pub is_behind : Best → ℕ → ℕ → Bool
-is_behind b priority number = not (is_some b.task) || (nat_lt priority b.priority || (priority == b.priority && nat_lt number b.number))
+abbrev pub is_after : Best → ℕ → ℕ → Bool
+is_after b priority number = not (is_some b.task) || (nat_lt priority b.priority || (priority == b.priority && nat_lt number b.number))
 
 -- the best one with one task more
 abbrev pub met : Best → Task → ℕ → ℕ → Best
-met b t priority number = if is_behind b priority number then record { task = Some t; priority = priority; number = number } else b
+met b t priority number = if is_after b priority number then record { task = Some t; priority = priority; number = number } else b

@@ -63,7 +63,7 @@ impl DataQueue {
         self.values.pop_front();
     }
 
-    /// Adds a value behind the others.
+    /// Adds a value after the others.
     pub(crate) fn add(&mut self, value: i64)
         requires { length self.old.values < self.old.setup.capacity }
         ensures { self.new ≡ record self.old { values = self.old.values ++ value ∷ [] } }

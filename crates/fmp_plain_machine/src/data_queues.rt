@@ -36,7 +36,7 @@ fn drop_at(queues: &mut Vec<DataQueue>, index: usize)
     }
 }
 
-/// Adds a value behind the others of the data queue at a place.
+/// Adds a value after the others of the data queue at a place.
 fn add_at(queues: &mut Vec<DataQueue>, index: usize, value: i64)
     requires { let q = slice_index_or queues.old.items index no_queue in length q.values < q.setup.capacity }
     ensures { let q = slice_index_or queues.old.items index no_queue in queues.new.items ≡ slice_set queues.old.items index (record q {
@@ -106,7 +106,7 @@ impl DataQueues {
         drop_at(&mut self.queues, d.index());
     }
 
-    /// Adds a value behind the others of one.
+    /// Adds a value after the others of one.
     #[tactic(auto, using(crate::proofs::DataQueues::changed, crate::proofs::DataQueues::values_at))]
     pub(crate) fn add_value(&mut self, d: Object, value: i64)
         requires { length (item [] self.old.contents d.number) < (item no_data_queue self.old.setups d.number).capacity }

@@ -36,7 +36,7 @@ impl Due {
         self.runners.as_slice()
     }
 
-    /// Adds a handler behind the others.
+    /// Adds a handler after the others.
     pub(crate) fn add(&mut self, handler: Runner)
         requires { length self.old < 64 }
         ensures { self.new ≡ self.old ++ handler ∷ [] }

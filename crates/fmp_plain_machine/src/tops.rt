@@ -5,7 +5,7 @@ ghost use Rattle.fmp_rules.specs.Arrivals.{comes_before, priority_in};
 ghost use Rattle.fmp_rules.specs.World.{item, with_item, no_task, processors_to, resting};
 ghost use Rattle.fmp_plain_machine.specs.Signs.{kind_of, place_of};
 ghost use Rattle.fmp_plain_machine.specs.Tops.{ahead, is_task, looked, raised, rank_of, top_among};
-ghost use Rattle.fmp_plain_machine.specs.Best.{is_behind, met};
+ghost use Rattle.fmp_plain_machine.specs.Best.{is_after, met};
 
 use crate::firsts::Firsts;
 use crate::kept::each;
@@ -106,8 +106,8 @@ pub(crate) struct Best {
 impl Best {
     /// Whether a task of this priority that became ready then comes before it.
     #[inline(always)]
-    fn is_behind(&self, priority: u8, number: u64) -> bool
-        ensures { result ≡ is_behind self.now priority number }
+    fn is_after(&self, priority: u8, number: u64) -> bool
+        ensures { result ≡ is_after self.now priority number }
     {
         self.task.is_none()
             || priority < self.priority
@@ -119,7 +119,7 @@ impl Best {
     fn meet(&mut self, task: Task, priority: u8, number: u64)
         ensures { self.new ≡ met self.old task priority number }
     {
-        if self.is_behind(priority, number) {
+        if self.is_after(priority, number) {
             self.task = Some(task);
             self.priority = priority;
             self.number = number;

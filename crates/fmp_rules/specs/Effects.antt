@@ -10,7 +10,7 @@ pub record Effect : Type 0 where
   pub releases : List Release
   pub lost : Option ℤ
 
--- an effect whose releases come behind these
+-- an effect whose releases come after these
 abbrev pub adding : List Release → Effect → Effect
 adding rs e = record e { releases = rs ++ e.releases }
 

@@ -124,10 +124,10 @@ module _ {Q : Type 0} (k : Ordering Q) (w : World Q) where
       }
 
   -- the order when t, which has this wait or none, comes last among its equals where it stands
-  abbrev pub behind : Task → TaskRecord → Option Wait → Q
-  behind t r None = arrive k (depart k w.order (task w t) t) r t
-  behind t r (Some x) = rejoin k w.order (order_of w x) r (item None w.waits_left t.number) t
+  abbrev pub put_last : Task → TaskRecord → Option Wait → Q
+  put_last t r None = arrive k (depart k w.order (task w t) t) r t
+  put_last t r (Some x) = rejoin k w.order (order_of w x) r (item None w.waits_left t.number) t
 
   -- The fields of t change. Where it is ready it goes last, and where it waits in a queue by priority its wait begins anew.
   abbrev pub requeue : Task → TaskRecord → World Q
-  requeue t r = record w { tasks = with_item w.tasks t.number r; order = behind t r (task w t).wait }
+  requeue t r = record w { tasks = with_item w.tasks t.number r; order = put_last t r (task w t).wait }

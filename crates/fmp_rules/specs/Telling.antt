@@ -11,12 +11,12 @@ use Rattle.fmp_rules.specs.declared.effect.Kind.{Kind}
 use Rattle.fmp_rules.specs.declared.effect.Kind.TheVariants as kind
 
 -- the effect that a record tells
-abbrev pub effect_told : Record → Effect
-effect_told r = record { answer = r.answer; releases = r.releases; lost = r.lost }
+abbrev pub effect_reported : Record → Effect
+effect_reported r = record { answer = r.answer; releases = r.releases; lost = r.lost }
 
 -- a record that tells an effect after the releases that it told before
-abbrev pub told_with : Record → Effect → Record
-told_with r e = record r { answer = e.answer; releases = r.releases ++ e.releases; lost = e.lost }
+abbrev pub report_with : Record → Effect → Record
+report_with r e = record r { answer = e.answer; releases = r.releases ++ e.releases; lost = e.lost }
 
 -- a value where it is marked that there is one
 abbrev pub given : Bool → ℤ → Option ℤ

@@ -1,7 +1,7 @@
 //! What a call does besides changing the state.
 ghost use Rattle.std.specs.Prelude.{◌≡◌, [], ◌∷◌, ◌++◌};
 ghost use Rattle.fmp_rules.specs.Effects.{TellsOnce};
-ghost use Rattle.fmp_rules.specs.Telling.{given, answer_of, told_with};
+ghost use Rattle.fmp_rules.specs.Telling.{given, answer_of, report_with};
 ghost use Rattle.fmp_rules.specs.Rows.{plain, done, with_value};
 
 use fmp_codes::{Answer, Code, Record, Release, Task};
@@ -131,19 +131,19 @@ impl Effect {
     /// Makes the record of an event tell it. The waits that the event ended are told by the record already or by this, and not
     /// by both.
     #[inline(always)]
-    pub fn tell(self, told: &mut Record)
-        requires { TellsOnce told.old.releases self }
-        ensures { told.new ≡ told_with told.old self }
+    pub fn tell(self, report: &mut Record)
+        requires { TellsOnce report.old.releases self }
+        ensures { report.new ≡ report_with report.old self }
     {
         if let Some(task) = self.ended {
-            told.releases.push(Release {
+            report.releases.push(Release {
                 task,
                 code: self.ended_code,
                 value: given(self.ended_has_value, self.ended_value),
             });
         }
-        told.answer = answer_of(self.kind, self.code, given(self.has_value, self.value));
-        told.lost = given(self.has_lost, self.lost);
+        report.answer = answer_of(self.kind, self.code, given(self.has_value, self.value));
+        report.lost = given(self.has_lost, self.lost);
     }
 }
 

@@ -6,7 +6,8 @@
 //! ([`ReadSource`], [`WriteSink`]) pass on what is known of their reader or writer: the bytes of a slice, a cursor or a vector are,
 //! and of a file no more is said than what its calls answer.
 //!
-//! What is written after a failed call is a beginning of what was to be: `BeginsWith` in `specs/Devices`.
+//! What is written after a failed call is a beginning of what was to be: `BeginsWith` in `specs/Devices`. What a contract of several calls
+//! sees of a device, before and after them, is in `specs/Ends`.
 #![tactic(auto)]
 
 mod memory;

@@ -61,7 +61,7 @@ impl<R: Read> Source for ReadSource<R> {
     }
 }
 
-/// A writer of std behind a buffer as a sink. What was written is known where the writer's bytes are: those, and what is held back.
+/// A writer of std after a buffer as a sink. What was written is known where the writer's bytes are: those, and what is held back.
 #[derive(Drop)]
 pub struct WriteSink<W: Write + Drop> {
     writer: BufWriter<W>,
@@ -86,7 +86,7 @@ impl<W: Write + Drop> WriteSink<W> {
         })
     }
 
-    /// Whether the last call that failed did so since nobody reads the pipe any more, as behind `head`.
+    /// Whether the last call that failed did so since nobody reads the pipe any more, as after `head`.
     pub fn is_closed(&self) -> bool
         ensures { result ≡ self.now.is_closed }
     {

@@ -13,18 +13,18 @@ use Rattle.fmp_text.specs.Lines.{line_event}
 abbrev IsFaulty : Reading → Type 0
 IsFaulty reading = reading.fault ≢ None
 
-event_faulty : (line count : ℕ) (event : Event) (behind : Reading) → IsFaulty behind → IsFaulty (with_event line count event behind)
-event_faulty line count event behind bad none =
+event_faulty : (line count : ℕ) (event : Event) (following : Reading) → IsFaulty following → IsFaulty (with_event line count event following)
+event_faulty line count event following bad none =
     elim (cases_Bool (ltb count most_events)) [
       | inl room ↦ bad (rw room at none)
       | inr full ↦ let e = rw full at none in absurd cc
     ]
 
-line_faulty : (line count : ℕ) (said : Result (Option Event) TextKind) (without behind : Reading) → IsFaulty without → IsFaulty behind
-    → IsFaulty (after_line line count said without behind)
-line_faulty line count (Ok None) without behind bad worse none = bad none
-line_faulty line count (Ok (Some event)) without behind bad worse none = event_faulty line count event behind worse none
-line_faulty line count (Err kind) without behind bad worse none = absurd cc
+line_faulty : (line count : ℕ) (said : Result (Option Event) TextKind) (without following : Reading) → IsFaulty without → IsFaulty following
+    → IsFaulty (after_line line count said without following)
+line_faulty line count (Ok None) without following bad worse none = bad none
+line_faulty line count (Ok (Some event)) without following bad worse none = event_faulty line count event following worse none
+line_faulty line count (Err kind) without following bad worse none = absurd cc
 
 -- a text that went on past its limit has a fault
 cut_faulty : (names : NameLists) (lines count : ℕ) (begun bytes : List ℕ) → IsFaulty (reading_from names true lines count begun bytes)
@@ -53,7 +53,7 @@ whole_by_line names text events e = whole names text events (ltb most_bytes (len
 by_line : (names : NameLists) (text : List ℕ) (events : List Event) (long : Bool) → ltb most_bytes (length text) ≡ long
     → reading_of names text ≡ faultless events → reading_from names long 0 0 [] (take most_bytes text) ≡ faultless events
 unfolding reading_of
-by_line names text events true is e = let told = ap (λ (r : Reading). r.fault) (rw is at e) in absurd cc
+by_line names text events true is e = let report = ap (λ (r : Reading). r.fault) (rw is at e) in absurd cc
 by_line names text events false is e =
     let all = take_all most_bytes text (ltb-false most_bytes (length text) is) in
     rw all (rw is at e)

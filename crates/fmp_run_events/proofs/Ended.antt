@@ -13,7 +13,7 @@ use Rattle.fmp_text.proofs.SpelledTexts.{reading_of-spelled, text_is_spelled}
 use Rattle.fmp_text.specs.TextGrammar.{SpellsText}
 use Rattle.fmp_text.specs.declared.fault.TextFault.{TextFault}
 use Rattle.fmp_text.specs.Events.{IsFirst, IsMemory, reading_by_line}
-use Rattle.fmp_text_feed.proofs.Told.{never_memory}
+use Rattle.fmp_text_feed.proofs.Report.{never_memory}
 use Rattle.fmp_run_texts.proofs.Grammars.{one_config, only_memory}
 use Rattle.fmp_run_events.proofs.ByLine.{line_by_line, whole_by_line}
 use Rattle.fmp_run_texts.specs.declared.fault.RunFault.{RunFault}
@@ -21,7 +21,7 @@ use Rattle.fmp_run_stream.specs.declared.stream.Detail.{Detail}
 use Rattle.fmp_run_texts.specs.declared.fault.RunFault.TheVariants as run
 use Rattle.fmp_run_texts.specs.Faults.{is_config, is_text, is_write}
 use Rattle.fmp_run_texts.specs.Texts.{FirstConfigFault, FlushFails, SaysConfig}
-use Rattle.fmp_run_stream.specs.Runs.{FirstEventFault, FirstTextFault, IsAnswered, IsNoFaultOfText, IsPrefix, IsPrefixOut, IsWantOfMemory, IsWritten, LeavesWritten, Writing, trace_of}
+use Rattle.fmp_run_stream.specs.Runs.{FirstEventFault, FirstTextFault, IsAnswered, IsNoFaultOfText, IsPrefix, IsPrefixOut, IsOutOfMemory, IsWritten, LeavesWritten, Writing, trace_of}
 use Rattle.fmp_run_stream.specs.Details.{detail_of}
 use Rattle.fmp_run_stream.specs.Streams.{IsAllOut, IsAmple, Leaves}
 
@@ -79,7 +79,7 @@ module _ (config_text event_text old : List ℕ) where
   no_text run.Start text = tt
   no_text run.Disagree text = tt
 
-  -- a fault behind a right configuration
+  -- a fault after a right configuration
   module _ (c : Setup) (says : SaysConfig config_text c) where
     pub leaves_out : (d : Detail) (writing : Writing) → ((es : List Event) → detail_of d c es ≡ writing c es) → (new : List ℕ) (fault : RunFault) → is_config fault ≡ false
         → Leaves d c event_text (reading_by_line c.names event_text) old new fault → LeavesWritten writing config_text event_text old new fault
@@ -122,7 +122,7 @@ module _ (config_text event_text old : List ℕ) where
     written_result d new (Ok done) valid all = written config_text event_text old new d (detail_of d) c (λ es. refl) says valid all
     written_result d new (Err fault) valid all = tt
 
--- a read of the events failed, and the flush behind it, or none did
+-- a read of the events failed, and the flush after it, or none did
 pub flush_result : {K L M : Type 0} (config_text event_text old : List ℕ) (c : Setup) → (K → SaysConfig config_text c) → (d : Detail) (new : List ℕ) (n m : ℕ)
     → FlushFails n m (L → M → IsPrefixOut (detail_of d) c (reading_by_line c.names event_text).events old new) → FlushFails n m (K → L → M → IsPrefix (detail_of d) config_text event_text old new)
 flush_result config_text event_text old c says d new n m (inl none) = inl none
@@ -130,7 +130,7 @@ flush_result config_text event_text old c says d new n m (inr (one, out)) = inr 
 
 -- where the room that was taken is enough, nothing is out after want of memory
 module _ (c : Setup) (event_text old : List ℕ) (valid : AreValid c.names) (d : Detail) (ample : IsAmple d event_text) where
-  early : (new : List ℕ) (fault : RunFault) → is_config fault ≡ false → Leaves d c event_text (reading_by_line c.names event_text) old new fault → IsWantOfMemory fault → new ≡ old
+  early : (new : List ℕ) (fault : RunFault) → is_config fault ≡ false → Leaves d c event_text (reading_by_line c.names event_text) old new fault → IsOutOfMemory fault → new ≡ old
   early new (run.Config fault) config left want = absurd (false≢true (sym config))
   early new (run.Text fault) config (inl before) want = absurd (never_memory c.names valid event_text fault before.first want.0)
   early new (run.Text fault) config (inr (memory, out)) want = absurd (out.1 ample)
@@ -142,7 +142,7 @@ module _ (c : Setup) (event_text old : List ℕ) (valid : AreValid c.names) (d :
   early new run.Disagree config left want = absurd want
 
   pub early_result : {T : Type 0} (new : List ℕ) (r : Result T RunFault) → IfErr r (λ fault. is_config fault ≡ false)
-      → IfErr r (Leaves d c event_text (reading_by_line c.names event_text) old new) → IfErr r (λ fault. IsWantOfMemory fault → new ≡ old)
+      → IfErr r (Leaves d c event_text (reading_by_line c.names event_text) old new) → IfErr r (λ fault. IsOutOfMemory fault → new ≡ old)
   early_result new (Ok done) config left = tt
   early_result new (Err fault) config left = early new fault config left
 
@@ -161,7 +161,7 @@ module _ (config_text event_text : List ℕ) (c : Setup) (events : List Event) (
   text_right names same valid fault (inl first) =
       let spelled = rw (← same) at spells in
       let read = line_by_line names event_text events (reading_of-spelled names event_text events valid spelled) in
-      absurd (let told = rw read at first in cc)
+      absurd (let report = rw read at first in cc)
   text_right names same valid fault (inr memory) = memory
 
   pub events_right : (names : NameLists) → names ≡ c.names → AreValid names → (fault : RunFault) → is_config fault ≡ false → FirstEventFault (reading_by_line names event_text) fault

@@ -6,7 +6,7 @@ use Rattle.fmp_setup.specs.Setup.{Setup}
 use Rattle.fmp_setup.specs.Valid.{IsValid}
 use Rattle.fmp_text.specs.Events.{reading_by_line}
 use Rattle.fmp_names.specs.Names.{NameLists}
-use Rattle.fmp_show_life.proofs.Changes.{first_told, things_again}
+use Rattle.fmp_show_life.proofs.Changes.{first_reported, things_again}
 use Rattle.fmp_show_life.specs.declared.things.Thing.{Thing}
 use Rattle.fmp_show_life.specs.Choosing.{IsChosen}
 use Rattle.fmp_show_life.specs.Lives.{Seen, unseen}
@@ -21,7 +21,7 @@ use Rattle.fmp_run_texts.proofs.Grammars.{one_config}
 use Rattle.fmp_run_events.specs.NameFaults.{IsNoFault, IsUnchosen}
 use Rattle.fmp_run_events.specs.declared.lives.LifeFault.{LifeFault}
 use Rattle.fmp_run_events.specs.declared.lives.LifeFault.TheVariants as life
-use Rattle.fmp_run_stream.specs.Lives.{IsLifeTold, chosen_life, life_from, life_of, life_since, named_life}
+use Rattle.fmp_run_stream.specs.Lives.{IsLifeReported, chosen_life, life_from, life_of, life_since, named_life}
 use Rattle.fmp_run_stream.specs.Runs.{IsPrefix, IsPrefixOut, LeavesWritten}
 use Rattle.fmp_run_stream.specs.Streams.{IsAllOut, Leaves}
 
@@ -29,7 +29,7 @@ use Rattle.fmp_run_stream.specs.Streams.{IsAllOut, Leaves}
 since_nothing : (xs : List Thing) (c : Setup) (es : List Event) → life_since (map unseen xs) c es ≡ life_of xs c es
 unfolding life_since life_of
 since_nothing xs c es =
-    ap₂ (λ (boot rest : List ℕ). boot ++ rest) (first_told c.names (booted c) xs) (ap (λ (ys : List Thing). life_from c.names ys 1 (booted c) es) (things_again xs))
+    ap₂ (λ (boot rest : List ℕ). boot ++ rest) (first_reported c.names (booted c) xs) (ap (λ (ys : List Thing). life_from c.names ys 1 (booted c) es) (things_again xs))
 
 module _ (names : List ℕ) (c : Setup) (lists : NameLists) (same : lists ≡ c.names) (seen : List Seen) (chosen : IsChosen lists names seen) where
   -- what is told of the chosen things is what is told of the named ones
@@ -40,24 +40,24 @@ module _ (names : List ℕ) (c : Setup) (lists : NameLists) (same : lists ≡ c.
 
   module _ (config_text event_text old : List ℕ) (says : SaysConfig config_text c) where
     -- without a fault all events are answered, and the text spells them
-    pub life_told : (new : List ℕ) → IsValid c → IsAllOut (detail.Life seen) c (reading_by_line c.names event_text) old new → IsLifeTold names config_text event_text old new
-    life_told new valid all =
+    pub life_reported : (new : List ℕ) → IsValid c → IsAllOut (detail.Life seen) c (reading_by_line c.names event_text) old new → IsLifeReported names config_text event_text old new
+    life_reported new valid all =
         let named : chosen_in c.names names ≡ Ok chosen.0 = subst (λ (l : NameLists). chosen_in l names ≡ Ok chosen.0) same chosen.1 in
-        let told = written config_text event_text old new (detail.Life seen) (life_of chosen.0) c (λ es. ap (λ (s : List Seen). life_since s c es) chosen.2 ∙ since_nothing chosen.0 c es) says valid all in (
-          told.0,
+        let report = written config_text event_text old new (detail.Life seen) (life_of chosen.0) c (λ es. ap (λ (s : List Seen). life_since s c es) chosen.2 ∙ since_nothing chosen.0 c es) says valid all in (
+          report.0,
           record {
             things = chosen.0;
-            written = told.1;
-            chosen = subst (λ (s : Setup). chosen_in s.names names ≡ Ok chosen.0) (one_config config_text c told.1.config says told.1.says) named;
+            written = report.1;
+            chosen = subst (λ (s : Setup). chosen_in s.names names ≡ Ok chosen.0) (one_config config_text c report.1.config says report.1.says) named;
           },
-          told.2,
+          report.2,
         )
 
     pub life_leaves : (new : List ℕ) (fault : RunFault) → is_config fault ≡ false → Leaves (detail.Life seen) c event_text (reading_by_line c.names event_text) old new fault
         → LeavesWritten (named_life names) config_text event_text old new fault
     life_leaves new fault config left = leaves_out config_text event_text old c says (detail.Life seen) (named_life names) life_named new fault config left
 
-  -- a read of the events failed, and the flush behind it, or none did
+  -- a read of the events failed, and the flush after it, or none did
   pub life_flush : {K L M : Type 0} (config_text event_text old : List ℕ) → (K → SaysConfig config_text c) → (new : List ℕ) (n m : ℕ)
       → FlushFails n m (L → M → IsPrefixOut (detail_of (detail.Life seen)) c (reading_by_line c.names event_text).events old new)
       → FlushFails n m (K → L → M → IsPrefix (named_life names) config_text event_text old new)

@@ -27,7 +27,7 @@ module _ (d : Detail) (c : Setup) (text : List ℕ) (whole : Reading) (old : Lis
   out_begun : (new : List ℕ) → IsPrefixOut (detail_of d) c whole.events old new → BeginsWith old (detail_of d c whole.events) new
   out_begun new (n, text) = prefix_begun d c whole.events n old new text
 
-  -- whatever is left behind a fault of the events is a beginning of what is written of them
+  -- whatever is left after a fault of the events is a beginning of what is written of them
   leaves_begun : (new : List ℕ) (fault : RunFault) → is_config fault ≡ false → Leaves d c text whole old new fault → BeginsWith old (detail_of d c whole.events) new
   leaves_begun new (run.Config fault) config left = absurd (false≢true (sym config))
   leaves_begun new (run.Text fault) config (inl before) = all_begun d c whole.events old new before.text
@@ -49,7 +49,7 @@ module _ (d : Detail) (c : Setup) (text : List ℕ) (whole : Reading) (old : Lis
   leaves_passed new ended result (inl is) all config left = rw is left
   leaves_passed new ended result (inr is) all config left = rw is (ended_begun new ended all config left)
 
--- where a read failed and the flush behind it failed too, this is so that is so where a read failed
+-- where a read failed and the flush after it failed too, this is so that is so where a read failed
 pub flush_fails : (Whole : Type 0) (n m : ℕ) (ended : Ended) → m ≡ n + cond (failed_read ended) 1 0 → (ended ≡ Err run.Read → Whole) → FlushFails n m Whole
 flush_fails Whole n m (Err run.Read) e whole = inr (e, whole refl)
 flush_fails Whole n m (Err (run.Config fault)) e whole = inl (omega (arith, e))

@@ -5,9 +5,9 @@ ghost use Rattle.fmp_codes.specs.declared.records.Record.{Record as AnyRecord};
 ghost use Rattle.fmp_rules.specs.Arrivals.{State};
 ghost use Rattle.fmp_rules.specs.Boot.{booted};
 ghost use Rattle.fmp_law_lists.specs.Stands.{Stands};
-ghost use Rattle.fmp_trace.specs.Heads.{event_of as event_told};
+ghost use Rattle.fmp_trace.specs.Heads.{event_of as event_reported};
 ghost use Rattle.fmp_trace.specs.Prints.{PrintsWithin};
-ghost use Rattle.fmp_trace_check.specs.Walking.{behind};
+ghost use Rattle.fmp_trace_check.specs.Walking.{following};
 ghost use Rattle.fmp_run_events.specs.Before as spec;
 
 use fmp_codes::{Answer, Event, Proc, Record};
@@ -19,30 +19,30 @@ use fmp_trace::{event_of, next_line};
 use std::alloc::AllocError;
 
 /// Plays the event that a line tells, if it tells any. What is answered is written over.
-fn play_line(kernel: &mut Kernel, told: &mut Record, names: &Names, line: &[u8])
+fn play_line(kernel: &mut Kernel, report: &mut Record, names: &Names, line: &[u8])
     requires { names.now.processors ≡ length kernel.old.processors }
-    ensures stands { (m : State) → Stands kernel.old m → Stands kernel.new (behind m (event_told names.now line.now)) }
+    ensures stands { (m : State) → Stands kernel.old m → Stands kernel.new (following m (event_reported names.now line.now)) }
     ensures processors { length kernel.new.processors ≡ length kernel.old.processors }
 {
     names.validity();
     if let Some(event) = event_of(names, line) {
-        kernel.step_into(event, told);
+        kernel.step_into(event, report);
     }
 }
 
-/// The kernel before line n of a text, the lines of which are counted from 1, or behind them all, if there are fewer.
+/// The kernel before line n of a text, the lines of which are counted from 1, or after them all, if there are fewer.
 fn kernel_before(config: &Config, text: &[u8], n: u32) -> Result<Kernel, AllocError>
-    ensures { IfOk result (λ k. Stands k (spec.behind_lines config.now.names (n - 1) (booted config.now) (pieces_of 10 text.now))) }
+    ensures { IfOk result (λ k. Stands k (spec.after_lines config.now.names (n - 1) (booted config.now) (pieces_of 10 text.now))) }
 {
     let names = config.names();
     let mut kernel = Kernel::boot(config)?;
-    let mut told = Record::answer(Event::Tick(Proc::new(1)), None, Answer::Nothing);
+    let mut report = Record::answer(Event::Tick(Proc::new(1)), None, Answer::Nothing);
     let mut rest = text;
     for _ in 1..n {
         let Some((line, after)) = next_line(rest) else {
             return Ok(kernel);
         };
-        play_line(&mut kernel, &mut told, names, line);
+        play_line(&mut kernel, &mut report, names, line);
         rest = after;
     }
     Ok(kernel)

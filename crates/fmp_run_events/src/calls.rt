@@ -1,18 +1,16 @@
 //! The runs that answer a list of events, each as it comes.
 ghost use Rattle.std.specs.Prelude.{◌≡◌, ◌≢◌, ◌+◌, ◌-◌, ◌^◌, ◌<◌, ◌≤◌, [], ℕ, List, true, false, length, OnOk, IfErr, Err, if◌then◌else◌};
 ghost use Rattle.fmp_setup.specs.Valid.{IsValid};
-ghost use Rattle.fmp_codes.specs.declared.records.Event.{Event as AnyEvent};
 ghost use Rattle.fmp_text_feed.specs.Feed.{IsWanting};
-ghost use Rattle.fmp_setup.specs.Setup.{Setup};
 ghost use Rattle.fmp_text.specs.Events.{Reading, reading_by_line};
-ghost use Rattle.fmp_text.specs.TextGrammar.{SpellsText};
 ghost use Rattle.fmp_text.specs.Limits.{most_bytes, most_events};
 ghost use Rattle.fmp_run_stream.specs.Details.{detail_of};
 ghost use Rattle.fmp_run_devices.specs.Devices.{IsKnown, bytes_of};
+ghost use Rattle.fmp_run_devices.specs.Ends.{sink_ends, source_ends};
 ghost use Rattle.fmp_run_texts.specs.Faults.{failed_read, failed_write, is_config, is_thread_fault};
-ghost use Rattle.fmp_run_texts.specs.Texts.{CountsReads, FirstConfigFault, FlushFails, SaysConfig};
-ghost use Rattle.fmp_run_stream.specs.Runs.{FirstEventFault, FirstTextFault, HasShortLines, IsAnswered, IsNoFaultOfText, IsPrefix, IsPrefixOut, IsWantOfMemory};
-ghost use Rattle.fmp_run_stream.specs.Runs.{IsWritten, LeavesOut, LeavesWritten, trace_of};
+ghost use Rattle.fmp_run_texts.specs.Texts.{FlushFails};
+ghost use Rattle.fmp_run_events.specs.Owed.{OwesEvents, WritesEvents};
+ghost use Rattle.fmp_run_stream.specs.Runs.{FirstEventFault, IsAnswered, IsPrefixOut, trace_of};
 ghost use Rattle.fmp_run_stream.specs.Streams.{IsAllOut, Leaves, Streams};
 
 use fmp_rules::Config;
@@ -140,51 +138,13 @@ pub fn run_events<R: Source, S: Source, W: Sink>(
     requires event_calls { S.failures events.old < 2 ^ 64 - 1 }
     requires trace_calls { W.failures trace.old < 2 ^ 64 - 1 }
 
-    // Both texts were read to their ends, and what is written is what is told of the machine over the events.
-    ensures answered { IsKnown (R.left config.old) → IsKnown (S.left events.old) → IsKnown (W.written trace.old)
-        → OnOk result (IsWritten (detail_of detail) (bytes_of (R.left config.old)) (bytes_of (S.left events.old)) (bytes_of (W.written trace.old))
-        (bytes_of (W.written trace.new))) }
-    ensures known { IsKnown (W.written trace.old) → IsKnown (W.written trace.new) }
-    ensures config_read { IsKnown (R.left config.old) → OnOk result (bytes_of (R.left config.new) ≡ []) }
-    ensures events_read { IsKnown (S.left events.old) → OnOk result (bytes_of (S.left events.new) ≡ []) }
+    // What it owes to both texts and to its devices, whatever it writes.
+    ensures owes { OwesEvents (source_ends R.left R.failures config.old config.new) (source_ends S.left S.failures events.old events.new)
+        (sink_ends W.written W.buffered W.failures trace.old trace.new) result }
 
-    // Texts that are right in all are answered, but for want of memory or a device that fails.
-    ensures right { IsKnown (R.left config.old) → IsKnown (S.left events.old) → (c : Setup) (es : List AnyEvent) → SaysConfig (bytes_of (R.left config.old)) c
-        → SpellsText c.names (bytes_of (S.left events.old)) es → IfErr result IsNoFaultOfText }
-
-    // A fault of a text is its first one.
-    ensures config_fault { IsKnown (R.left config.old) → IfErr result (FirstConfigFault (bytes_of (R.left config.old))) }
-    ensures text_fault { IsKnown (R.left config.old) → IsKnown (S.left events.old)
-        → IfErr result (FirstTextFault (bytes_of (R.left config.old)) (bytes_of (S.left events.old))) }
-
-    // After a fault of the configuration nothing is written. After one of the events what is told of those before it is out,
-    // after a failed read or want of memory what is told of some prefix of them, and after a failed write or flush a beginning
-    // of all.
-    ensures unwritten { IsKnown (W.written trace.old) → IfErr result (λ fault. is_config fault ≡ true → bytes_of (W.written trace.new) ≡ bytes_of (W.written trace.old)) }
-    ensures leaves { IsKnown (R.left config.old) → IsKnown (S.left events.old) → IsKnown (W.written trace.old)
-        → IfErr result (LeavesWritten (detail_of detail) (bytes_of (R.left config.old)) (bytes_of (S.left events.old)) (bytes_of (W.written trace.old))
-        (bytes_of (W.written trace.new))) }
-
-    // Where lines alone are told, and none of the events has more than 32 KiB, memory is wanting before the first line is written,
-    // or not at all.
-    ensures early { detail ≡ Detail.Line → IsKnown (S.left events.old) → IsKnown (W.written trace.old) → HasShortLines (bytes_of (S.left events.old))
-        → IfErr result (λ fault. IsWantOfMemory fault → bytes_of (W.written trace.new) ≡ bytes_of (W.written trace.old)) }
-
-    // However the run ends, nothing is held back, unless a write failed.
-    ensures passed { OnOk result (W.buffered trace.new ≡ []) }
-    ensures none_held { W.buffered trace.old ≡ [] → result ≢ Err RunFault.Write → W.buffered trace.new ≡ [] }
-
-    // No thread was started.
-    ensures no_thread_fault { IfErr result (λ fault. is_thread_fault fault ≡ false) }
-
-    // Which calls of the devices failed. Where a write or a flush did, no read failed; or one of the events did, and behind it the
-    // flush alone: then what is written of some prefix of the events is out, each line whole.
-    ensures reads { result ≢ Err RunFault.Write → CountsReads result (R.failures config.old) (R.failures config.new) (S.failures events.old) (S.failures events.new) }
-    ensures flush { result ≡ Err RunFault.Write → (R.failures config.new ≡ R.failures config.old) × FlushFails (S.failures events.old) (S.failures events.new)
-        (IsKnown (R.left config.old) → IsKnown (S.left events.old) → IsKnown (W.written trace.old)
-        → IsPrefix (detail_of detail) (bytes_of (R.left config.old)) (bytes_of (S.left events.old)) (bytes_of (W.written trace.old))
-        (bytes_of (W.written trace.new))) }
-    ensures writes { W.failures trace.new ≡ W.failures trace.old + (if failed_write result then 1 else 0) }
+    // What it writes: what is told of the machine at boot and of each event.
+    ensures writes { WritesEvents (detail ≡ Detail.Line) (detail_of detail) (source_ends R.left R.failures config.old config.new)
+        (source_ends S.left S.failures events.old events.new) (sink_ends W.written W.buffered W.failures trace.old trace.new) result }
 {
     let configuration = config_from(alloc, config)?;
     configuration.names().validity();
@@ -204,47 +164,17 @@ pub fn run_calls<R: Source, S: Source, W: Sink>(
     requires event_calls { S.failures events.old < 2 ^ 64 - 1 }
     requires trace_calls { W.failures trace.old < 2 ^ 64 - 1 }
 
-    // Both texts were read to their ends, and what is written is the trace of the answers to the events.
+    // What it owes to both texts and to its devices, whatever it writes.
+    ensures owes { OwesEvents (source_ends R.left R.failures config.old config.new) (source_ends S.left S.failures events.old events.new)
+        (sink_ends W.written W.buffered W.failures trace.old trace.new) result }
+
+    // Where it goes to its end, what is written is the trace of the answers to the events.
     ensures answered { IsKnown (R.left config.old) → IsKnown (S.left events.old) → IsKnown (W.written trace.old)
         → OnOk result (IsAnswered (bytes_of (R.left config.old)) (bytes_of (S.left events.old)) (bytes_of (W.written trace.old)) (bytes_of (W.written trace.new))) }
-    ensures known { IsKnown (W.written trace.old) → IsKnown (W.written trace.new) }
-    ensures config_read { IsKnown (R.left config.old) → OnOk result (bytes_of (R.left config.new) ≡ []) }
-    ensures events_read { IsKnown (S.left events.old) → OnOk result (bytes_of (S.left events.new) ≡ []) }
 
-    // Texts that are right in all are answered, but for want of memory or a device that fails.
-    ensures right { IsKnown (R.left config.old) → IsKnown (S.left events.old) → (c : Setup) (es : List AnyEvent) → SaysConfig (bytes_of (R.left config.old)) c
-        → SpellsText c.names (bytes_of (S.left events.old)) es → IfErr result IsNoFaultOfText }
-
-    // A fault of a text is its first one.
-    ensures config_fault { IsKnown (R.left config.old) → IfErr result (FirstConfigFault (bytes_of (R.left config.old))) }
-    ensures text_fault { IsKnown (R.left config.old) → IsKnown (S.left events.old)
-        → IfErr result (FirstTextFault (bytes_of (R.left config.old)) (bytes_of (S.left events.old))) }
-
-    // After a fault of the configuration nothing is written. After one of the events the trace of those before it is out, after
-    // a failed read or want of memory the trace of some prefix of them, and after a failed write or flush a beginning of the
-    // trace.
-    ensures unwritten { IsKnown (W.written trace.old) → IfErr result (λ fault. is_config fault ≡ true → bytes_of (W.written trace.new) ≡ bytes_of (W.written trace.old)) }
-    ensures leaves { IsKnown (R.left config.old) → IsKnown (S.left events.old) → IsKnown (W.written trace.old)
-        → IfErr result (LeavesOut (bytes_of (R.left config.old)) (bytes_of (S.left events.old)) (bytes_of (W.written trace.old)) (bytes_of (W.written trace.new))) }
-
-    // Memory is wanting before the first line is written, or not at all, where no line of the events has more than 32 KiB.
-    ensures early { IsKnown (S.left events.old) → IsKnown (W.written trace.old) → HasShortLines (bytes_of (S.left events.old))
-        → IfErr result (λ fault. IsWantOfMemory fault → bytes_of (W.written trace.new) ≡ bytes_of (W.written trace.old)) }
-
-    // However the run ends, nothing is held back, unless a write failed.
-    ensures passed { OnOk result (W.buffered trace.new ≡ []) }
-    ensures none_held { W.buffered trace.old ≡ [] → result ≢ Err RunFault.Write → W.buffered trace.new ≡ [] }
-
-    // No thread was started.
-    ensures no_thread_fault { IfErr result (λ fault. is_thread_fault fault ≡ false) }
-
-    // Which calls of the devices failed. Where a write or a flush did, no read failed; or one of the events did, and behind it the
-    // flush alone: then what is written of some prefix of the events is out, each line whole.
-    ensures reads { result ≢ Err RunFault.Write → CountsReads result (R.failures config.old) (R.failures config.new) (S.failures events.old) (S.failures events.new) }
-    ensures flush { result ≡ Err RunFault.Write → (R.failures config.new ≡ R.failures config.old) × FlushFails (S.failures events.old) (S.failures events.new)
-        (IsKnown (R.left config.old) → IsKnown (S.left events.old) → IsKnown (W.written trace.old)
-        → IsPrefix trace_of (bytes_of (R.left config.old)) (bytes_of (S.left events.old)) (bytes_of (W.written trace.old)) (bytes_of (W.written trace.new))) }
-    ensures writes { W.failures trace.new ≡ W.failures trace.old + (if failed_write result then 1 else 0) }
+    // What it writes.
+    ensures writes { WritesEvents (Unit {0}) trace_of (source_ends R.left R.failures config.old config.new)
+        (source_ends S.left S.failures events.old events.new) (sink_ends W.written W.buffered W.failures trace.old trace.new) result }
 {
     run_events(alloc, Detail::Line, config, events, trace)
 }

@@ -6,9 +6,9 @@
 //! that follow scripts are in `fmp_run_smp`. Devices are in `fmp_run_devices`; how texts are read and judged, and what a run's
 //! faults are, in `fmp_run_texts`.
 //!
-//! Each contract says what is written where all went well, which fault is told and that it is the first one, what is out after
-//! a fault, and which calls of the devices failed. Begin at `answered` of [`run_events`], which is the headline: `IsWritten` in
-//! `fmp_run_stream/specs/Runs`.
+//! The clause `owes` of a run says which fault is told and that it is the first one, and which calls of the devices failed; its
+//! clause `writes` what is written where all went well, and what is out after a fault. Begin at `WritesEvents` in `specs/Owed`, whose
+//! field `answered` is the headline for [`run_events`]: `IsWritten` in `fmp_run_stream/specs/Runs`.
 #![tactic(auto)]
 
 mod before;
@@ -23,7 +23,7 @@ pub use fmp_run_devices::{
     Failed, MemSink, MemSource, ReadFault, ReadSource, Sink, Source, WriteSink, read_up_to,
     write_all, write_out,
 };
-pub use fmp_run_stream::Detail;
+pub use fmp_run_stream::{Changes, Detail};
 pub use fmp_run_texts::{FaultLine, Judged, RunFault, Status, config_from, judged_texts};
 pub use lives::{LifeFault, run_life};
 pub use report::run_report;

@@ -9,7 +9,7 @@ ghost use Rattle.fmp_show_life.specs.Things.{chosen_in};
 ghost use Rattle.fmp_show_life.specs.declared.things.Thing.{Thing};
 ghost use Rattle.fmp_run_texts.specs.Faults.{failed_write, is_thread_fault};
 ghost use Rattle.fmp_run_texts.specs.Texts.{CountsReads, FirstConfigFault, FlushFails, SaysConfig};
-ghost use Rattle.fmp_run_stream.specs.Lives.{IsLifeTold, named_life};
+ghost use Rattle.fmp_run_stream.specs.Lives.{IsLifeReported, named_life};
 ghost use Rattle.fmp_run_events.specs.NameFaults as faults;
 ghost use Rattle.fmp_run_stream.specs.Runs.{FirstTextFault, IsPrefix, LeavesWritten};
 
@@ -60,7 +60,7 @@ pub fn run_life<R: Source, S: Source, W: Sink>(
 
     // Both texts were read to their ends, and what is written is what is told of the things at boot, and each event that changes it.
     ensures answered { IsKnown (R.left config.old) → IsKnown (S.left events.old) → IsKnown (W.written trace.old)
-        → OnOk result (IsLifeTold names.now (bytes_of (R.left config.old)) (bytes_of (S.left events.old)) (bytes_of (W.written trace.old))
+        → OnOk result (IsLifeReported names.now (bytes_of (R.left config.old)) (bytes_of (S.left events.old)) (bytes_of (W.written trace.old))
         (bytes_of (W.written trace.new))) }
     ensures known { IsKnown (W.written trace.old) → IsKnown (W.written trace.new) }
     ensures config_read { IsKnown (R.left config.old) → OnOk result (bytes_of (R.left config.new) ≡ []) }
@@ -93,7 +93,7 @@ pub fn run_life<R: Source, S: Source, W: Sink>(
     // No thread was started.
     ensures no_thread_fault { IfErr (faults.as_run result) (λ fault. is_thread_fault fault ≡ false) }
 
-    // Which calls of the devices failed. Where a write or a flush did, no read failed; or one of the events did, and behind it the
+    // Which calls of the devices failed. Where a write or a flush did, no read failed; or one of the events did, and after it the
     // flush alone: then what is written of some prefix of the events is out, each line whole.
     ensures reads { result ≢ Err (LifeFault.Run RunFault.Write)
         → CountsReads (faults.as_run result) (R.failures config.old) (R.failures config.new) (S.failures events.old) (S.failures events.new) }

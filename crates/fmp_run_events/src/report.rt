@@ -1,12 +1,14 @@
 //! The run that shows where a trace differs.
-ghost use Rattle.std.specs.Prelude.{◌≡◌, ◌≢◌, ◌+◌, ◌-◌, ◌^◌, ◌<◌, List, ◌++◌, [], OnOk, OnErr, IfOk, IfErr, Err, false, is_err, if◌then◌else◌};
+ghost use Rattle.std.specs.Prelude.{◌≡◌, ◌+◌, ◌-◌, ◌^◌, ◌<◌, List, ◌++◌, [], OnOk, OnErr, IfOk, IfErr, Err, false, is_err, if◌then◌else◌};
 ghost use Rattle.fmp_codes.specs.declared.records.Event.{Event as AnyEvent};
 ghost use Rattle.fmp_trace_check.specs.Checking.{Judges, PrintsAnswers};
 ghost use Rattle.fmp_trace_check.specs.Differences.{Contrasts};
 ghost use Rattle.fmp_run_texts.specs.Traces.{FirstTraceFault, IsFirstOfTrace, IsYes, JudgesTexts};
 ghost use Rattle.fmp_run_devices.specs.Devices.{BeginsWith, IsKnown, bytes_of};
+ghost use Rattle.fmp_run_devices.specs.Ends.{sink_ends, source_ends};
 ghost use Rattle.fmp_run_texts.specs.Faults.{failed_read, failed_write, is_config, is_write, is_thread_fault};
-ghost use Rattle.fmp_run_events.specs.Reports.{Compared, IsReported, IsReportBegun, Tells, head_text, verdict_in};
+ghost use Rattle.fmp_run_texts.specs.Owed.{OwesTrace};
+ghost use Rattle.fmp_run_events.specs.Reports.{Compared, WritesReport, Tells, head_text, verdict_in};
 ghost use Rattle.fmp_run_texts.specs.Texts.{CountsReads};
 
 use crate::before::put_state_before;
@@ -28,7 +30,7 @@ fn with_state(
 ) -> Result<Comparison, AllocError>
     requires { Contrasts Shown.First config.now trace.now found.verdict found.lines.items }
     ensures verdict { IfOk result (λ more. more.verdict ≡ found.verdict) }
-    ensures told { IfOk result (λ more. Tells Shown.First config.now trace.now more.verdict more.lines.items) }
+    ensures report { IfOk result (λ more. Tells Shown.First config.now trace.now more.verdict more.lines.items) }
 {
     let Verdict::No(n) = found.verdict else {
         return Ok(found);
@@ -50,7 +52,7 @@ fn comparison_from<S: Source>(
     shown: Shown,
 ) -> Result<Comparison, RunFault>
     requires { S.failures source.old < 2 ^ 64 - 1 }
-    ensures told { IsKnown (S.left source.old) → IfOk result (λ found. Tells shown config.now (bytes_of (S.left source.old)) found.verdict found.lines.items) }
+    ensures report { IsKnown (S.left source.old) → IfOk result (λ found. Tells shown config.now (bytes_of (S.left source.old)) found.verdict found.lines.items) }
     ensures verdict { IsKnown (S.left source.old) → IfOk result (λ found. Judges config.now (bytes_of (S.left source.old)) found.verdict) }
     ensures answers { IsKnown (S.left source.old) → (events : List AnyEvent) → PrintsAnswers config.now (bytes_of (S.left source.old)) events
         → IsYes (verdict_in result) }
@@ -142,30 +144,13 @@ pub fn run_report<R: Source, S: Source, W: Sink>(
     requires trace_calls { S.failures trace.old < 2 ^ 64 - 1 }
     requires report_calls { W.failures report.old < 2 ^ 64 - 1 }
 
-    // The report of what differs was written, all of it. None of it is held back.
-    ensures reported { IsKnown (R.left config.old) → IsKnown (S.left trace.old) → IsKnown (W.written report.old)
-        → IfOk result (IsReported shown (bytes_of (R.left config.old)) (bytes_of (S.left trace.old)) (bytes_of (W.written report.old))
-        (bytes_of (W.written report.new))) }
-    ensures known { IsKnown (W.written report.old) → IsKnown (W.written report.new) }
-    ensures passed { OnOk result (W.buffered report.new ≡ []) }
+    // What it owes to both texts and to its devices, whatever it writes.
+    ensures owes { OwesTrace FirstTraceFault (source_ends R.left R.failures config.old config.new) (source_ends S.left S.failures trace.old trace.new)
+        (sink_ends W.written W.buffered W.failures report.old report.new) result }
 
-    // No line is shown of a trace that is the machine's.
-    ensures same { IsKnown (R.left config.old) → IsKnown (S.left trace.old) → IsKnown (W.written report.old)
-        → IfOk result (λ verdict. verdict ≡ Verdict.Yes → bytes_of (W.written report.new) ≡ bytes_of (W.written report.old) ++ head_text shown Verdict.Yes) }
-
-    // What it owes to both texts: they were read to their ends, a trace that is the machine's own is judged with yes, a fault of a text is its
-    // first one, and no thread was started.
-    ensures texts { JudgesTexts FirstTraceFault (R.left config.old) (R.left config.new) (S.left trace.old) (S.left trace.new) result }
-
-    // After a failed write or flush a beginning of the report is out, and after any other fault nothing is.
-    ensures write { IsKnown (R.left config.old) → IsKnown (S.left trace.old) → IsKnown (W.written report.old) → (result ≡ Err RunFault.Write)
-        → IsReportBegun shown (bytes_of (R.left config.old)) (bytes_of (S.left trace.old)) (bytes_of (W.written report.old)) (bytes_of (W.written report.new)) }
-    ensures unwritten { IsKnown (W.written report.old)
-        → IfErr result (λ fault. fault ≢ RunFault.Write → bytes_of (W.written report.new) ≡ bytes_of (W.written report.old)) }
-
-    // Which calls of the devices failed.
-    ensures reads { CountsReads result (R.failures config.old) (R.failures config.new) (S.failures trace.old) (S.failures trace.new) }
-    ensures writes { W.failures report.new ≡ W.failures report.old + (if failed_write result then 1 else 0) }
+    // What it writes: the report of what differs.
+    ensures writes { WritesReport shown (source_ends R.left R.failures config.old config.new) (source_ends S.left S.failures trace.old trace.new)
+        (sink_ends W.written W.buffered W.failures report.old report.new) result }
 {
     let found = compared(alloc, config, trace, shown)?;
     write_report(report, shown, found.verdict, found.lines.as_slice())?;

@@ -11,7 +11,7 @@ use Rattle.fmp_run_explore.specs.Views.{Layer}
 pub says_made : (l : Layer) (turns : ℕ) (m : Met) → MadeAnswer l.config l.scripts l.rules → Meets after number_at (origin l.config l.scripts l.rules []) turns no_number m → SaysMade l turns m
 says_made l turns m answer meets = record {
   numbers = meets.as_many;
-  made = λ n is. answer.made_within turns n (meets.told n is);
-  within = λ n lt made. meets.within n lt (answer.told_within turns n made);
-  all = λ whole n lt made. meets.all whole n lt (answer.told n made);
+  made = λ n is. answer.made_within turns n (meets.report n is);
+  within = λ n lt made. meets.within n lt (answer.report_within turns n made);
+  all = λ whole n lt made. meets.all whole n lt (answer.report n made);
 }

@@ -37,25 +37,25 @@ made_within q n turns roots most few none all = go (eq-or-lt_of_le most)
     go (inr less) = made_none q roots (none less)
 
 -- where there are no steps there are no orders
-pub none_told : (q : Place) (roots : List (List ℕ)) → roots ≡ [] → map (records q) roots ≡ []
-none_told q roots none = ap (map (records q)) none
+pub none_reported : (q : Place) (roots : List (List ℕ)) → roots ≡ [] → map (records q) roots ≡ []
+none_reported q roots none = ap (map (records q)) none
 
 -- and the orders that are told along roots are those from which all go on
-pub told_within : (c : Setup) (scripts : List Steps) (rules : Rules) (question : List Step) (n turns : ℕ) (roots : List (List ℕ)) → RootsAnswer c scripts rules question →
+pub report_within : (c : Setup) (scripts : List Steps) (rules : Rules) (question : List Step) (n turns : ℕ) (roots : List (List ℕ)) → RootsAnswer c scripts rules question →
     (n < turns → roots ≡ []) → (n ≡ turns → AreRoots after is_seen (origin c scripts rules question) turns roots) →
     (n < turns → map (records (origin c scripts rules question)) roots ≡ [])
     × (n ≡ turns → IsLayer c scripts rules question turns (map (records (origin c scripts rules question)) roots))
-told_within c scripts rules question n turns roots law none all = (
-  λ less. none_told (origin c scripts rules question) roots (none less),
+report_within c scripts rules question n turns roots law none all = (
+  λ less. none_reported (origin c scripts rules question) roots (none less),
   λ is. law.layer turns roots (all is),
 )
 
 -- what is printed of what is told along the steps of a number is the trace of that number
-pub told_at : (c : Setup) (scripts : List Steps) (rules : Rules) (question : List Step) (roots : List (List ℕ)) (l : Layer) (k : ℕ) (root steps : List ℕ) →
+pub report_at : (c : Setup) (scripts : List Steps) (rules : Rules) (question : List Step) (roots : List (List ℕ)) (l : Layer) (k : ℕ) (root steps : List ℕ) →
     layer_of c scripts rules question roots ≡ l → slice_get roots k ≡ Some root → steps ≡ root →
     lines_from c.names 1 (records (origin c scripts rules question) steps) ≡ trace_of l k
-told_at c scripts rules question roots l k root steps is at same =
-    let told = records (origin c scripts rules question) in
-    let got : slice_get (map told roots) k ≡ Some (told root) = slice_get-map told roots k ∙ ap (option_map told) at in
-    let there = get_or_from_slice_get (map told roots) k (told root) [] got in
-    subst (λ (x : Layer). lines_from c.names 1 (told steps) ≡ trace_of x k) is (ap (λ (h : List Record). lines_from c.names 1 h) (ap told same ∙ sym there))
+report_at c scripts rules question roots l k root steps is at same =
+    let report = records (origin c scripts rules question) in
+    let got : slice_get (map report roots) k ≡ Some (report root) = slice_get-map report roots k ∙ ap (option_map report) at in
+    let there = get_or_from_slice_get (map report roots) k (report root) [] got in
+    subst (λ (x : Layer). lines_from c.names 1 (report steps) ≡ trace_of x k) is (ap (λ (h : List Record). lines_from c.names 1 h) (ap report same ∙ sym there))

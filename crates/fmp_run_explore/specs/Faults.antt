@@ -1,14 +1,18 @@
 -- The faults of a run through all orders.
-use Rattle.std.specs.Prelude.{◌≡◌, ℕ, Bool, true, false, List, ◌++◌, Result, Ok, Err, codes, decimal}
+use Rattle.std.specs.Prelude.{◌≡◌, ℕ, Bool, true, false, List, ◌++◌, Result, Ok, Err, IfErr, codes, decimal}
 use Rattle.fmp_names.specs.Names.{NameLists}
 use Rattle.fmp_setup.specs.Setup.{Setup}
 use Rattle.fmp_search_question.specs.declared.fault.QuestionFault.{QuestionFault}
 use Rattle.fmp_search_question.specs.declared.fault.QuestionFault.TheVariants as question
 use Rattle.fmp_search_question.specs.Reading.{question_in}
+use Rattle.fmp_run_devices.specs.Devices.{IsKnown, bytes_of}
+use Rattle.fmp_run_devices.specs.Ends.{Ends, SinkEnd, SourceEnd}
 use Rattle.fmp_run_texts.specs.declared.fault.RunFault.{RunFault}
 use Rattle.fmp_run_texts.specs.declared.fault.RunFault.TheVariants.{Memory}
 use Rattle.fmp_run_texts.specs.declared.status.Status.{Status}
 use Rattle.fmp_run_texts.specs.declared.status.Status.TheVariants.{Faulty}
+use Rattle.fmp_run_texts.specs.Faults.{is_thread_fault}
+use Rattle.fmp_run_texts.specs.Owed.{OwesTexts}
 use Rattle.fmp_run_texts.specs.Statuses as statuses
 use Rattle.fmp_run_texts.specs.Texts.{SaysConfig, FirstConfigFault, FirstScriptFault}
 use Rattle.fmp_run_explore.specs.declared.writing.WriteFault.{WriteFault}
@@ -40,6 +44,16 @@ abbrev pub IsQuestionFault : List ℕ → List ℕ → ExploreFault → Type 0
 IsQuestionFault config_text text (Run fault) = Unit {0}
 IsQuestionFault config_text text (Question fault place) =
     (config : Setup) × SaysConfig config_text config × (question_in config.names text ≡ Err (fault, place))
+
+-- What a run that is asked a question over a configuration and another text owes to these and to its devices, whatever it writes.
+pub record OwesSearch {T : Type 0} (IsTextFault : List ℕ → List ℕ → ExploreFault → Type 0) (IsAskedFault : List ℕ → ExploreFault → Type 0)
+    (config text : Ends SourceEnd) (output : Ends SinkEnd) (result : Result T ExploreFault) : Type 0 where
+  -- what it owes to both texts and to its devices
+  pub texts : OwesTexts IsConfigFault IsTextFault config text output (as_run result) result
+  -- a fault of the question is its first one, for the names of a right configuration
+  pub question_fault : IsKnown config.old.left → IfErr result (IsAskedFault (bytes_of config.old.left))
+  -- no thread was started, so that none could fail
+  pub no_thread_fault : IfErr (as_run result) (λ fault. is_thread_fault fault ≡ false)
 
 -- a question was not read: it has this first fault for these names, or memory ran out
 abbrev pub IsNoQuestion : NameLists → List ℕ → ExploreFault → Type 0

@@ -11,7 +11,7 @@ use Rattle.fmp_run_explore.specs.Views.{Layer}
 abbrev pub origin_of : Layer → Place
 origin_of l = origin l.config l.scripts l.rules l.question
 
--- Behind `never` every order leads to one of the places that were found, and behind `not within` every order of so many lines
+-- After `never` every order leads to one of the places that were found, and after `not within` every order of so many lines
 abbrev pub IsGone : Layer → Finding → Option Extent → Type 0
 IsGone l finding.Shown e = e ≡ None
 IsGone l finding.Never e = WentThrough after (origin_of l) e

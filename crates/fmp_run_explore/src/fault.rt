@@ -14,7 +14,7 @@ use std::fmt;
 pub enum ExploreFault {
     /// A text has a fault, a device failed, or memory ran out.
     Run(RunFault),
-    /// The first fault of the question, and the number of the byte, from 0, at which the word begins that has it, or of that behind the
+    /// The first fault of the question, and the number of the byte, from 0, at which the word begins that has it, or of that after the
     /// last one.
     Question(QuestionFault, usize),
 }

@@ -1,6 +1,6 @@
 //! Which calls of the scripts are made in orders.
-ghost use Rattle.std.specs.Prelude.{◌≡◌, ◌-◌, ◌≤◌, ◌<◌, ◌^◌, ◌↔◌, [], true, Some, IfOk, IfSome, IsTrue, slice_get};
-ghost use Rattle.fmp_search.specs.Meeting.{Meets};
+ghost use Rattle.std.specs.Prelude.{◌≡◌, ◌-◌, ◌≤◌, ◌<◌, ◌^◌, ◌↔◌, [], true, None, Some, IfOk, IfSome, IsTrue, slice_get};
+ghost use Rattle.fmp_search.specs.Meeting.{IsLeftOpen, Meets};
 ghost use Rattle.fmp_search_orders.specs.Made.{number_at, number_of_call};
 ghost use Rattle.fmp_search_orders.specs.Places as places;
 ghost use Rattle.fmp_run_explore.specs.Made as spec;
@@ -26,7 +26,8 @@ fn met<W: Space + Drop, P: Progress>(
 ) -> Result<Option<Met>, AllocError>
     requires origins { (W.origin walkers.1 ≡ W.origin walkers.0) × (W.origin others.0 ≡ W.origin walkers.0) × (W.origin others.1 ≡ W.origin walkers.0) }
     requires turns { turns < 2 ^ 31 }
-    ensures { IfOk result (λ o. IfSome o (Meets W.after W.passes (W.origin walkers.0) turns count)) }
+    ensures meets { IfOk result (λ o. IfSome o (Meets W.after W.passes (W.origin walkers.0) turns count)) }
+    ensures none { IfOk result (λ o. o ≡ None → IsLeftOpen W.after W.wanted (W.origin walkers.0) turns more (P.over progress.new)) }
 {
     let (mut walker, mut base) = walkers;
     let (mut other, mut trunk) = others;
@@ -71,7 +72,8 @@ fn numbers_met<P: Progress>(
 ) -> Result<Option<Met>, AllocError>
     requires turns { turns ≤ 1000000 }
     requires none { none.now ≡ [] }
-    ensures { IfOk result (λ o. IfSome o (Meets places.after number_at (places.origin config.now scripts.now rules []) turns 65536)) }
+    ensures meets { IfOk result (λ o. IfSome o (Meets places.after number_at (places.origin config.now scripts.now rules []) turns 65536)) }
+    ensures none { IfOk result (λ o. o ≡ None → spec.IsNotKnown config.now scripts.now rules turns more (P.over progress.new)) }
 {
     let walkers = two_callers(config, scripts, rules, none)?;
     let others = two_callers(config, scripts, rules, none)?;
@@ -95,8 +97,8 @@ pub fn is_made(met: &Met, function: u8, position: u32) -> bool
 }
 
 impl Layer {
-    /// Which calls of the scripts are made in orders of at most so many lines, whatever the question. None where there is no room for all of their places, or
-    /// the search is ended before. The error is want of memory.
+    /// Which calls of the scripts are made in orders of at most so many lines, whatever the question. None only where the room for places was used up, or
+    /// `progress` ended the search before. The error is want of memory.
     pub fn made<P: Progress>(
         &self,
         alloc: Global,
@@ -106,7 +108,8 @@ impl Layer {
     ) -> Result<Option<Met>, AllocError>
         requires turns { turns ≤ 1000000 }
         requires places { 1 ≤ places }
-        ensures { IfOk result (λ o. IfSome o (spec.SaysMade self.now turns)) }
+        ensures made { IfOk result (λ o. IfSome o (spec.SaysMade self.now turns)) }
+        ensures none { IfOk result (λ o. o ≡ None → spec.IsNotKnown self.now.config self.now.scripts self.now.rules turns (places - 1) (P.over progress.new)) }
     {
         made_answer();
         let asked = &self.asked;

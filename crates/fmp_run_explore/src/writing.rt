@@ -1,5 +1,5 @@
 //! The search for what was read, and what is written of it.
-ghost use Rattle.std.specs.Prelude.{◌≡◌, ◌+◌, ◌-◌, ◌≤◌, ◌<◌, ◌^◌, [], Err, OnOk, IfOk, if◌then◌else◌};
+ghost use Rattle.std.specs.Prelude.{◌≡◌, ◌≢◌, ◌+◌, ◌-◌, ◌≤◌, ◌<◌, ◌^◌, [], Err, OnOk, IfOk, if◌then◌else◌};
 ghost use Rattle.fmp_run_devices.specs.Devices.{IsKnown, bytes_of};
 ghost use Rattle.fmp_text_scripts.specs.Scripts.{AreInBits};
 ghost use Rattle.fmp_run_explore.specs.Explored.{IsEndedBy, IsPartWritten, IsWritten};
@@ -45,6 +45,7 @@ pub(crate) fn found_written<W: Sink, P: Progress>(
     ensures ended { IfOk result (λ o. IsEndedBy (P.over progress.new) o.finding) }
     ensures known { IsKnown (W.written output.old) → IsKnown (W.written output.new) }
     ensures passed { OnOk result (W.buffered output.new ≡ []) }
+    ensures none_held { W.buffered output.old ≡ [] → result ≢ Err WriteFault.Write → W.buffered output.new ≡ [] }
     ensures part { IsKnown (W.written output.old) → (result ≡ Err WriteFault.Write)
         → IsPartWritten asked.config asked.scripts rules asked.question turns more (bytes_of (W.written output.old)) (bytes_of (W.written output.new)) }
     ensures unwritten { IsKnown (W.written output.old) → (result ≡ Err WriteFault.Memory) → bytes_of (W.written output.new) ≡ bytes_of (W.written output.old) }

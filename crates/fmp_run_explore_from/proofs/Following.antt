@@ -41,32 +41,32 @@ module _ (c : Setup) (scripts : List Steps) (rules : Rules) (valid : IsValid c) 
   module _ (w : Place) (n : ℕ) (choices : List Choice) (rest : List ℕ) (far : IsSoFar c scripts rules text w n choices rest) where
     -- one line more
     module _ (next : Place) (after : List ℕ) (choice : Choice) (on : GoesOnBy c.names n w next rest after choice) where
-      abbrev told : Record
-      told = (step listed w.machine on.event).1
+      abbrev report : Record
+      report = (step listed w.machine on.event).1
 
-      lines_more : lines_from c.names 1 (far.records ++ told ∷ []) ++ after ≡ lines_from c.names 1 far.records ++ (line_text c.names n told ++ after)
+      lines_more : lines_from c.names 1 (far.records ++ report ∷ []) ++ after ≡ lines_from c.names 1 far.records ++ (line_text c.names n report ++ after)
       lines_more =
           let before = lines_from c.names 1 far.records in
           let at : 1 + length far.records ≡ n = let count = far.count in omega (arith, count) in
-          ap (λ (x : List ℕ). x ++ after) (lines-append c.names 1 far.records (told ∷ []) ∙ ap (λ (k : ℕ). before ++ lines_from c.names k (told ∷ [])) at)
-          ∙ append_assoc before (line_text c.names n told ++ []) after
-          ∙ ap (λ (x : List ℕ). before ++ x) (append_assoc (line_text c.names n told) [] after)
+          ap (λ (x : List ℕ). x ++ after) (lines-append c.names 1 far.records (report ∷ []) ∙ ap (λ (k : ℕ). before ++ lines_from c.names k (report ∷ [])) at)
+          ∙ append_assoc before (line_text c.names n report ++ []) after
+          ∙ ap (λ (x : List ℕ). before ++ x) (append_assoc (line_text c.names n report) [] after)
 
       pub so_more : IsSoFar c scripts rules text next (n + 1) (choices ++ choice ∷ []) after
       so_more =
           let there : (marks : List Bool) × LeadsTo c scripts rules [] w far.records marks = (far.marks, far.leads) in
           let more = on_more c scripts rules valid w far.records there on.step on.event on.here in
-          let event : told.event ≡ on.event = on_event c scripts rules valid w far.records there on.step on.event on.here in
+          let event : report.event ≡ on.event = on_event c scripts rules valid w far.records there on.step on.event on.here in
           let count = far.count in
           record {
-            records = far.records ++ told ∷ [];
+            records = far.records ++ report ∷ [];
             marks = more.0;
-            leads = subst (λ (x : Place). LeadsTo c scripts rules [] x (far.records ++ told ∷ []) more.0) (sym on.place) more.1;
-            count = omega (arith, count, length-append far.records (told ∷ []));
+            leads = subst (λ (x : Place). LeadsTo c scripts rules [] x (far.records ++ report ∷ []) more.0) (sym on.place) more.1;
+            count = omega (arith, count, length-append far.records (report ∷ []));
             parts = far.parts ∙ ap (λ (x : List ℕ). lines_from c.names 1 far.records ++ x) on.line ∙ sym lines_more;
             chosen =
                 ap (λ (cs : List Choice). cs ++ choice ∷ []) far.chosen ∙ ap (λ (x : Choice). choices_of far.records ++ x ∷ []) (on.chosen ∙ ap choice_of (sym event))
-                ∙ sym (ap (map choice_of) (events_more far.records told) ∙ map-append choice_of (events_of far.records) (told.event ∷ []));
+                ∙ sym (ap (map choice_of) (events_more far.records report) ∙ map-append choice_of (events_of far.records) (report.event ∷ []));
           }
 
     -- nothing is left of the text

@@ -13,7 +13,7 @@ use Rattle.fmp_trace.proofs.Headed.{guess-event}
 use Rattle.fmp_trace.proofs.ReadTexts.{lines-cons}
 use Rattle.fmp_trace.proofs.Unended.{line_is}
 
--- the lines of records behind those of others
+-- the lines of records after those of others
 pub lines-append : (names : NameLists) (n : ℕ) (a b : List Record) → lines_from names n (a ++ b) ≡ lines_from names n a ++ lines_from names (n + length a) b
 lines-append names n [] b = let same : n ≡ n + 0 = omega arith in ap (λ (k : ℕ). lines_from names k b) same
 lines-append names n (r ∷ a) b =
@@ -45,8 +45,8 @@ same_line names n r s rest other valid small fr fs e =
     let rest_some : ◌≡◌ {A = Option (List ℕ)} (Some rest) (Some other) = ap (λ (p : List ℕ × Option (List ℕ)). p.1) both in
     let found : ◌≡◌ {A = Option Record} (Some r) (Some s) = sym (line_guessed names r valid fr n small) ∙ ap (guess names) core ∙ line_guessed names s valid fs n small in
     let first : r ≡ s = cc in
-    let behind : rest ≡ other = cc in
-    (first, behind)
+    let following : rest ≡ other = cc in
+    (first, following)
 
 -- as many lines at the front of one text are of the same records
 pub same_lines : (names : NameLists) (n : ℕ) (a b : List Record) (rest other : List ℕ) → AreValid names → AllFit names a → AllFit names b → n + length a < 2 ^ 64

@@ -1,6 +1,10 @@
 -- The faults of a search through the orders that go on from a trace. Those of a search from boot are as in `fmp_run_explore`.
-use Rattle.std.specs.Prelude.{ℕ, List, Result, Ok, Err}
+use Rattle.std.specs.Prelude.{◌≡◌, ℕ, false, List, Result, Ok, Err, IfErr}
 use Rattle.fmp_search_orders.specs.declared.rules.Rules.{Rules}
+use Rattle.fmp_run_devices.specs.Devices.{IsKnown, bytes_of}
+use Rattle.fmp_run_devices.specs.Ends.{Ends, SinkEnd, SourceEnd}
+use Rattle.fmp_run_texts.specs.Faults.{is_thread_fault}
+use Rattle.fmp_run_texts.specs.Owed.{OwesTexts}
 use Rattle.fmp_run_texts.specs.declared.fault.RunFault.{RunFault}
 use Rattle.fmp_run_texts.specs.declared.status.Status.{Status}
 use Rattle.fmp_run_texts.specs.declared.status.Status.TheVariants.{Faulty}
@@ -43,3 +47,13 @@ abbrev pub IsStrayFault : List ℕ → List ℕ → Rules → List ℕ → FromF
 IsStrayFault config_text script_text rules begun_text (Explore fault) = Unit {0}
 IsStrayFault config_text script_text rules begun_text Long = Unit {0}
 IsStrayFault config_text script_text rules begun_text (Stray n) = IsStray config_text script_text rules begun_text n
+
+-- What such a run owes to both texts, to its question and to its devices, whatever it writes.
+pub record OwesSearchFrom {T : Type 0} (IsAskedFault : List ℕ → FromFault → Type 0) (config scripts : Ends SourceEnd) (output : Ends SinkEnd)
+    (result : Result T FromFault) : Type 0 where
+  -- what it owes to both texts and to its devices
+  pub texts : OwesTexts IsConfigFault IsScriptFault config scripts output (as_run result) result
+  -- a fault of the question is its first one, for the names of a right configuration
+  pub question_fault : IsKnown config.old.left → IfErr result (IsAskedFault (bytes_of config.old.left))
+  -- no thread was started, so that none could fail
+  pub no_thread_fault : IfErr (as_run result) (λ fault. is_thread_fault fault ≡ false)

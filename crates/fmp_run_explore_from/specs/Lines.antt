@@ -16,7 +16,7 @@ pub record HasHappened (w : Place) (now : Walked) (event : Event) : Type 0 where
   pub step : ℕ
   pub here : event_of w step ≡ Some event
   pub place : now.place ≡ went w false (machine.step listed w.machine event)
-  pub told : now.made ≡ (machine.step listed w.machine event).1
+  pub report : now.made ≡ (machine.step listed w.machine event).1
 
 -- the text begins with line n, which tells an event that may happen at a place, and what the machine answers there
 pub record GoesOnBy (names : NameLists) (n : ℕ) (w next : Place) (text rest : List ℕ) (choice : Choice) : Type 0 where

@@ -18,7 +18,7 @@ abbrev pub BeginsSo : Setup → List ℕ → List Record → Type 0
 BeginsSo c text h = (rest : List ℕ) × (text ≡ lines_from c.names 1 h ++ rest)
 
 -- line n of the text is the first that no order has there: the longest order whose trace the text begins with has the lines before it, and
--- the text goes on behind them
+-- the text goes on after them
 pub record FirstStray (c : Setup) (scripts : List Steps) (rules : Rules) (text : List ℕ) (n : ℕ) : Type 0 where
   pub records : List Record
   pub order : IsOrder c scripts rules records

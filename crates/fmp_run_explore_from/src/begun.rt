@@ -3,7 +3,7 @@ ghost use Rattle.std.specs.Prelude.{◌≡◌, ◌≤◌, ◌<◌, ◌+◌, leng
 ghost use Rattle.fmp_codes.specs.declared.records.Event.{Event as AnyEvent};
 ghost use Rattle.fmp_text_scripts.specs.Scripts.{AreInBits};
 ghost use Rattle.fmp_text.specs.Limits.{most_bytes};
-ghost use Rattle.fmp_trace.specs.Heads.{event_of as event_told};
+ghost use Rattle.fmp_trace.specs.Heads.{event_of as event_reported};
 ghost use Rattle.fmp_search_orders.specs.Begun.{choice_of as choice_for};
 ghost use Rattle.fmp_search_orders.specs.Places as places;
 ghost use Rattle.fmp_run_explore_from.specs.Lines.{HasHappened, GoesOnBy, GoesNoFurther};
@@ -50,12 +50,12 @@ impl<T: Drop> From<AllocFailed<T>> for BegunFault {
 fn happen<'a>(walker: &mut Walker<'a>, names: &Names, line: &[u8]) -> Option<Event>
     requires room { 0 < walker.old.left }
     ensures happened { IfSome result (HasHappened walker.old.place walker.new) }
-    ensures told { (event : AnyEvent) → event_told names.now line.now ≡ Some event → places.event_of walker.old.place (choice_for event).step ≡ Some event
+    ensures report { (event : AnyEvent) → event_reported names.now line.now ≡ Some event → places.event_of walker.old.place (choice_for event).step ≡ Some event
         → result ≡ Some event }
     ensures room { walker.old.left ≤ walker.new.left + 1 }
 {
-    let told = event_of(names, line)?;
-    walker.follow(choice_of(told).step)
+    let report = event_of(names, line)?;
+    walker.follow(choice_of(report).step)
 }
 
 /// Makes the event happen that the first line of a text tells, if it may happen here and that is line n of what is printed of it. Gives the steps

@@ -1,8 +1,8 @@
 //! The run through the orders that go on from a trace, from bytes to bytes.
-ghost use Rattle.std.specs.Prelude.{◌≡◌, ◌≢◌, ◌+◌, ◌-◌, ◌≤◌, ◌<◌, ◌^◌, ◌↔◌, [], Err, OnOk, IfOk, IfErr, false, length, if◌then◌else◌};
+ghost use Rattle.std.specs.Prelude.{◌≡◌, ◌-◌, ◌≤◌, ◌<◌, ◌^◌, ◌↔◌, Err, IfOk, IfErr, length};
 ghost use Rattle.fmp_run_devices.specs.Devices.{IsKnown, bytes_of};
-ghost use Rattle.fmp_run_texts.specs.Faults.{failed_write, is_thread_fault};
-ghost use Rattle.fmp_run_texts.specs.Texts.{CountsReads};
+ghost use Rattle.fmp_run_devices.specs.Ends.{sink_ends, source_ends};
+ghost use Rattle.fmp_run_texts.specs.Owed.{WritesOut};
 ghost use Rattle.fmp_text.specs.Limits.{most_bytes};
 ghost use Rattle.fmp_run_explore.specs.Explored.{IsEndedBy};
 ghost use Rattle.fmp_run_explore_from.specs.Explored.{IsBegunFrom, IsExploredFrom};
@@ -43,43 +43,26 @@ pub fn run_explore_from<R: Source, S: Source, W: Sink, P: Progress>(
     requires turns { turns ≤ 1000000 }
     requires places { 1 ≤ places }
 
-    // Both texts were read to their ends, and what is written says what is known of all orders that go on from the trace. None of it is held back.
-    ensures explored { IsKnown (R.left config.old) → IsKnown (S.left scripts.old) → IsKnown (W.written output.old)
-        → IfOk result (IsExploredFrom (bytes_of (R.left config.old)) (bytes_of (S.left scripts.old)) begun.now question.now rules turns (places - 1)
-        (bytes_of (W.written output.old)) (bytes_of (W.written output.new))) }
+    // What it owes to both texts, to its question and to its devices, whatever it writes.
+    ensures owes { faults.OwesSearchFrom (λ text. faults.IsQuestionFault text question.now)
+        (source_ends R.left R.failures config.old config.new) (source_ends S.left S.failures scripts.old scripts.new)
+        (sink_ends W.written W.buffered W.failures output.old output.new) result }
+
+    // What it writes: what is known of all orders that go on from the trace.
+    ensures writes { WritesOut (λ c s. IsExploredFrom c s begun.now question.now rules turns (places - 1))
+        (λ c s. IsBegunFrom c s begun.now question.now rules turns (places - 1)) (FromFault.Explore (ExploreFault.Run RunFault.Write))
+        (source_ends R.left R.failures config.old config.new) (source_ends S.left S.failures scripts.old scripts.new)
+        (sink_ends W.written W.buffered W.failures output.old output.new) result }
 
     // Less is known than was asked for, with room that is left, only where the search was ended.
     ensures ended { IfOk result (IsEndedBy (P.over progress.new)) }
-    ensures known { IsKnown (W.written output.old) → IsKnown (W.written output.new) }
-    ensures passed { OnOk result (W.buffered output.new ≡ []) }
-    ensures config_read { IsKnown (R.left config.old) → OnOk result (bytes_of (R.left config.new) ≡ []) }
-    ensures scripts_read { IsKnown (S.left scripts.old) → OnOk result (bytes_of (S.left scripts.new) ≡ []) }
 
-    // A fault of a text or of the question is its first one, and so is a line of the trace that no order has.
-    ensures config_fault { IsKnown (R.left config.old) → IfErr result (faults.IsConfigFault (bytes_of (R.left config.old))) }
-    ensures text_fault { IsKnown (R.left config.old) → IsKnown (S.left scripts.old)
-        → IfErr result (faults.IsScriptFault (bytes_of (R.left config.old)) (bytes_of (S.left scripts.old))) }
-    ensures question_fault { IsKnown (R.left config.old) → IfErr result (faults.IsQuestionFault (bytes_of (R.left config.old)) question.now) }
+    // A line of the trace that no order has is the first one.
     ensures stray { IsKnown (R.left config.old) → IsKnown (S.left scripts.old)
         → IfErr result (faults.IsStrayFault (bytes_of (R.left config.old)) (bytes_of (S.left scripts.old)) rules begun.now) }
 
     // A trace is too long whatever the texts are.
     ensures long { (result ≡ Err FromFault.Long) ↔ (most_bytes < length begun.now) }
-
-    // After a failed write or flush a beginning of what tells it is out, and after any other fault nothing is.
-    ensures write { IsKnown (R.left config.old) → IsKnown (S.left scripts.old) → IsKnown (W.written output.old)
-        → (result ≡ Err (FromFault.Explore (ExploreFault.Run RunFault.Write)))
-        → IsBegunFrom (bytes_of (R.left config.old)) (bytes_of (S.left scripts.old)) begun.now question.now rules turns (places - 1) (bytes_of (W.written output.old))
-        (bytes_of (W.written output.new)) }
-    ensures unwritten { IsKnown (W.written output.old)
-        → IfErr result (λ fault. fault ≢ FromFault.Explore (ExploreFault.Run RunFault.Write) → bytes_of (W.written output.new) ≡ bytes_of (W.written output.old)) }
-
-    // No thread was started.
-    ensures no_thread_fault { IfErr (faults.as_run result) (λ fault. is_thread_fault fault ≡ false) }
-
-    // Which calls of the devices failed.
-    ensures reads { CountsReads (faults.as_run result) (R.failures config.old) (R.failures config.new) (S.failures scripts.old) (S.failures scripts.new) }
-    ensures writes { W.failures output.new ≡ W.failures output.old + (if failed_write (faults.as_run result) then 1 else 0) }
 {
     if begun.len() > MOST_BYTES {
         return Err(FromFault::Long);

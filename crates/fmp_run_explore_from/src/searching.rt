@@ -68,7 +68,7 @@ fn answered_along<P: Progress>(
 
 /// What is known of all orders that go on from the one whose events have these choices, and the text that tells it. There is room for so
 /// many places besides the first. The error is want of memory.
-fn told_from<P: Progress>(
+fn report_from<P: Progress>(
     alloc: Global,
     config: &Config,
     scripts: &Scripts,
@@ -121,7 +121,7 @@ pub(crate) fn found_from<P: Progress>(
     ensures fault { IfErr result (IsBegunFault config.now scripts.now rules begun.now) }
 {
     let choices = begun_choices(alloc, config, scripts, rules, begun)?;
-    let told = told_from(
+    let report = report_from(
         alloc,
         config,
         scripts,
@@ -132,5 +132,5 @@ pub(crate) fn found_from<P: Progress>(
         turns,
         more,
     )?;
-    Ok(told)
+    Ok(report)
 }

@@ -40,11 +40,11 @@ module _ (c : Setup) (scripts : List Steps) (rules : Rules) (lasting : List Last
       }
 
   -- and as the shortest where no other is shorter
-  pub told : (turns : ℕ) (text : List ℕ) (shortest : Bool) (s : Staying) → IsStaying c scripts rules lasting number (length steps) text
+  pub report : (turns : ℕ) (text : List ℕ) (shortest : Bool) (s : Staying) → IsStaying c scripts rules lasting number (length steps) text
       → (shortest ≡ true → IsLeast c scripts rules lasting (length steps)) → s ≡ cond shortest (Shortest number (length steps)) (Found number (length steps))
       → Finds c scripts rules lasting turns text s
-  told turns text true s so least is = subst (λ (x : Staying). Finds c scripts rules lasting turns text x) (sym is) (so, least refl)
-  told turns text false s so least is = subst (λ (x : Staying). Finds c scripts rules lasting turns text x) (sym is) so
+  report turns text true s so least is = subst (λ (x : Staying). Finds c scripts rules lasting turns text x) (sym is) (so, least refl)
+  report turns text false s so least is = subst (λ (x : Staying). Finds c scripts rules lasting turns text x) (sym is) so
 
 -- where no run over places is shorter, no order is
 pub least_of : (c : Setup) (scripts : List Steps) (rules : Rules) (lasting : List Lasting) (n : ℕ) → WatchedAnswer c scripts rules lasting

@@ -20,7 +20,7 @@ use Rattle.fmp_run_forever.specs.declared.staying.Staying.TheVariants as staying
 abbrev pub begin_of : Setup → List Steps → Rules → List Lasting → Watched
 begin_of c scripts rules lasting = watched lasting (origin c scripts rules [])
 
--- behind `never` every order leads to one of the places
+-- after `never` every order leads to one of the places
 abbrev pub AreAll : Watched → Staying → List Node → Type 0
 AreAll q staying.Never nodes = AreNearest watched_after q nodes
 AreAll q (staying.Shortest number lines) nodes = Unit {0}

@@ -1,12 +1,13 @@
 //! The run through all orders for what stays, from bytes to bytes.
-ghost use Rattle.std.specs.Prelude.{◌≡◌, ◌≢◌, ◌+◌, ◌-◌, ◌≤◌, ◌<◌, ◌^◌, [], Err, OnOk, IfOk, IfErr, false, if◌then◌else◌};
+ghost use Rattle.std.specs.Prelude.{◌-◌, ◌≤◌, ◌<◌, ◌^◌, IfOk};
 ghost use Rattle.fmp_run_devices.specs.Devices.{IsKnown, bytes_of};
+ghost use Rattle.fmp_run_devices.specs.Ends.{sink_ends, source_ends};
+ghost use Rattle.fmp_run_texts.specs.Owed.{WritesOut};
+ghost use Rattle.fmp_run_explore.specs.Faults.{OwesSearch};
 ghost use Rattle.fmp_run_explore.specs.Faults as faults;
 ghost use Rattle.fmp_run_forever.specs.Asked as asked;
 ghost use Rattle.fmp_run_forever.specs.Gone.{HasGone};
 ghost use Rattle.fmp_run_forever.specs.Stayed.{IsBegun, IsExplored};
-ghost use Rattle.fmp_run_texts.specs.Faults.{failed_write, is_thread_fault};
-ghost use Rattle.fmp_run_texts.specs.Texts.{CountsReads};
 
 use crate::asking::asked_from;
 use crate::staying::Stayed;
@@ -39,38 +40,20 @@ pub fn run_forever<R: Source, S: Source, W: Sink, P: Progress>(
     requires turns { turns ≤ 1000000 }
     requires places { 1 ≤ places }
 
-    // Both texts were read to their ends, and what is written says what is known of all orders. None of it is held back.
-    ensures explored { IsKnown (R.left config.old) → IsKnown (S.left scripts.old) → IsKnown (W.written output.old)
-        → IfOk result (λ s. IsExplored (bytes_of (R.left config.old)) (bytes_of (S.left scripts.old)) question.now rules turns (bytes_of (W.written output.old))
-        (bytes_of (W.written output.new)) s.lasting.items s.staying) }
+    // What it owes to both texts, to its question and to its devices, whatever it writes.
+    ensures owes { OwesSearch faults.IsScriptFault (λ text. asked.IsQuestionFault text question.now)
+        (source_ends R.left R.failures config.old config.new) (source_ends S.left S.failures scripts.old scripts.new)
+        (sink_ends W.written W.buffered W.failures output.old output.new) result }
+
+    // What it writes: what is known of all orders.
+    ensures writes { WritesOut (λ c s old new found. IsExplored c s question.now rules turns old new found.lasting.items found.staying)
+        (λ c s. IsBegun c s question.now rules turns) (ExploreFault.Run RunFault.Write)
+        (source_ends R.left R.failures config.old config.new) (source_ends S.left S.failures scripts.old scripts.new)
+        (sink_ends W.written W.buffered W.failures output.old output.new) result }
 
     // It tells how far it went.
     ensures gone { IsKnown (R.left config.old) → IsKnown (S.left scripts.old)
         → IfOk result (λ s. HasGone (bytes_of (R.left config.old)) (bytes_of (S.left scripts.old)) question.now rules s.lasting.items s.staying s.extent) }
-    ensures known { IsKnown (W.written output.old) → IsKnown (W.written output.new) }
-    ensures passed { OnOk result (W.buffered output.new ≡ []) }
-    ensures config_read { IsKnown (R.left config.old) → OnOk result (bytes_of (R.left config.new) ≡ []) }
-    ensures scripts_read { IsKnown (S.left scripts.old) → OnOk result (bytes_of (S.left scripts.new) ≡ []) }
-
-    // A fault of a text or of the question is its first one.
-    ensures config_fault { IsKnown (R.left config.old) → IfErr result (faults.IsConfigFault (bytes_of (R.left config.old))) }
-    ensures text_fault { IsKnown (R.left config.old) → IsKnown (S.left scripts.old)
-        → IfErr result (faults.IsScriptFault (bytes_of (R.left config.old)) (bytes_of (S.left scripts.old))) }
-    ensures question_fault { IsKnown (R.left config.old) → IfErr result (asked.IsQuestionFault (bytes_of (R.left config.old)) question.now) }
-
-    // After a failed write or flush a beginning of what tells it is out, and after any other fault nothing is.
-    ensures write { IsKnown (R.left config.old) → IsKnown (S.left scripts.old) → IsKnown (W.written output.old) → (result ≡ Err (ExploreFault.Run RunFault.Write))
-        → IsBegun (bytes_of (R.left config.old)) (bytes_of (S.left scripts.old)) question.now rules turns (bytes_of (W.written output.old))
-        (bytes_of (W.written output.new)) }
-    ensures unwritten { IsKnown (W.written output.old)
-        → IfErr result (λ fault. fault ≢ ExploreFault.Run RunFault.Write → bytes_of (W.written output.new) ≡ bytes_of (W.written output.old)) }
-
-    // No thread was started.
-    ensures no_thread_fault { IfErr (faults.as_run result) (λ fault. is_thread_fault fault ≡ false) }
-
-    // Which calls of the devices failed.
-    ensures reads { CountsReads (faults.as_run result) (R.failures config.old) (R.failures config.new) (S.failures scripts.old) (S.failures scripts.new) }
-    ensures writes { W.failures output.new ≡ W.failures output.old + (if failed_write (faults.as_run result) then 1 else 0) }
 {
     let asked = match asked_from(alloc, config, scripts, question) {
         Ok(asked) => asked,

@@ -117,7 +117,7 @@ fn staying_of(number: u8, lines: u32, shortest: bool) -> Staying
 }
 
 /// What is told of steps that end so, the shortest or not. Where they are more than a trace may have, it is that nothing is known.
-fn told_along(
+fn report_along(
     alloc: Global,
     config: &Config,
     scripts: &Scripts,
@@ -181,10 +181,10 @@ pub(crate) fn found<P: Progress>(
         alloc, config, scripts, rules, &none, lasting, progress, turns, more,
     )?;
     match stay {
-        Stay::Shortest(test, steps) => told_along(
+        Stay::Shortest(test, steps) => report_along(
             alloc, config, scripts, rules, &none, lasting, turns, test, &steps, true, extent,
         ),
-        Stay::Found(test, steps) => told_along(
+        Stay::Found(test, steps) => report_along(
             alloc, config, scripts, rules, &none, lasting, turns, test, &steps, false, extent,
         ),
         Stay::Never => Ok(Report {

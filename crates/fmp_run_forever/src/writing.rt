@@ -1,5 +1,5 @@
 //! The search for what was read, and what is written of it.
-ghost use Rattle.std.specs.Prelude.{◌≡◌, ◌+◌, ◌-◌, ◌≤◌, ◌<◌, ◌^◌, [], Err, OnOk, IfOk, if◌then◌else◌, length};
+ghost use Rattle.std.specs.Prelude.{◌≡◌, ◌≢◌, ◌+◌, ◌-◌, ◌≤◌, ◌<◌, ◌^◌, [], Err, OnOk, IfOk, if◌then◌else◌, length};
 ghost use Rattle.fmp_run_devices.specs.Devices.{IsKnown, bytes_of};
 ghost use Rattle.fmp_run_forever.specs.Gone.{IsGone};
 ghost use Rattle.fmp_run_forever.specs.Stayed.{IsPartWritten, IsWritten, is_unwritten};
@@ -42,6 +42,7 @@ pub(crate) fn found_written<W: Sink, P: Progress>(
     ensures gone { IfOk result (λ r. IsGone asked.now.config asked.now.scripts rules asked.now.lasting.items r.0 r.1) }
     ensures known { IsKnown (W.written output.old) → IsKnown (W.written output.new) }
     ensures passed { OnOk result (W.buffered output.new ≡ []) }
+    ensures none_held { W.buffered output.old ≡ [] → result ≢ Err WriteFault.Write → W.buffered output.new ≡ [] }
     ensures part { IsKnown (W.written output.old) → (result ≡ Err WriteFault.Write)
         → IsPartWritten asked.now.config asked.now.scripts rules asked.now.lasting.items turns (bytes_of (W.written output.old)) (bytes_of (W.written output.new)) }
     ensures unwritten { IsKnown (W.written output.old) → (result ≡ Err WriteFault.Memory) → bytes_of (W.written output.new) ≡ bytes_of (W.written output.old) }

@@ -1,1 +1,1 @@
-mod Ended  -- A text that says a configuration has no fault.
+mod Whole  -- The listing of what was read of a text is that of the text.

@@ -1,18 +1,46 @@
 //! The run that lists a configuration.
-ghost use Rattle.std.specs.Prelude.{◌≡◌, ◌≢◌, ◌+◌, ◌-◌, ◌^◌, ◌<◌, [], OnOk, IfErr, Err, false, if◌then◌else◌};
-ghost use Rattle.fmp_setup.specs.Setup.{Setup};
+ghost use Rattle.std.specs.Prelude.{◌≡◌, ◌+◌, ◌-◌, ◌^◌, ◌<◌, [], OnOk, IfOk, IfErr, false, if◌then◌else◌};
 ghost use Rattle.fmp_run_devices.specs.Devices.{IsKnown, bytes_of};
-ghost use Rattle.fmp_run_texts.specs.Faults.{failed_read, failed_write, is_thread_fault};
-ghost use Rattle.fmp_run_texts.specs.Statuses.{status_of};
-ghost use Rattle.fmp_run_texts.specs.Texts.{FirstConfigFault, SaysConfig};
-ghost use Rattle.fmp_run_list.specs.Runs.{IsListed, LeavesListed};
+ghost use Rattle.fmp_run_devices.specs.Ends.{sink_ends, source_ends};
+ghost use Rattle.fmp_run_texts.specs.Faults.{failed_read, is_text, is_thread_fault, is_write};
+ghost use Rattle.fmp_run_texts.specs.Owed.{OwesConfig};
+ghost use Rattle.fmp_run_texts.specs.Texts.{FirstConfigFault};
+ghost use Rattle.fmp_run_list.specs.Runs.{ListsText, WritesListing, listing_in};
 
+use fmp_config::{Config, MOST_BYTES, read_config};
+use fmp_config_fields::put_field_lines;
 use fmp_config_listing::listing_text;
-use fmp_run_devices::{Sink, Source, write_out};
-use fmp_run_texts::{RunFault, Status, config_from};
-use std::alloc::Global;
+use fmp_run_devices::{Sink, Source, read_up_to, write_out};
+use fmp_run_texts::RunFault;
+use std::alloc::{AllocError, Global};
 
-/// Reads a configuration, and writes what was read of it, a line for each thing that it says.
+/// The listing of a configuration that was read of a text. The error is want of memory.
+fn listed(alloc: Global, configuration: &Config, text: &[u8]) -> Result<Vec<u8>, AllocError>
+    ensures { IfOk result (λ out. out.items ≡ listing_in configuration.now text.now) }
+{
+    let mut out = listing_text(alloc, configuration)?;
+    put_field_lines(alloc, &mut out, text)?;
+    Ok(out)
+}
+
+/// Reads a configuration to its end, and makes its listing.
+fn listing_from<R: Source>(alloc: Global, source: &mut R) -> Result<Vec<u8>, RunFault>
+    requires { R.failures source.old < 2 ^ 64 - 1 }
+    ensures ok { IsKnown (R.left source.old) → IfOk result (λ out. ListsText (bytes_of (R.left source.old)) out.items) }
+    ensures read { IsKnown (R.left source.old) → OnOk result (bytes_of (R.left source.new) ≡ []) }
+    ensures fault { IsKnown (R.left source.old) → IfErr result (FirstConfigFault (bytes_of (R.left source.old))) }
+    ensures kinds { IfErr result (λ fault. (is_text fault ≡ false) × (is_write fault ≡ false)) }
+    ensures no_thread_fault { IfErr result (λ fault. is_thread_fault fault ≡ false) }
+    ensures count { R.failures source.new ≡ R.failures source.old + (if failed_read result then 1 else 0) }
+{
+    let text = read_up_to(alloc, source, MOST_BYTES)?;
+    match read_config(alloc, text.as_slice()) {
+        Ok(configuration) => Ok(listed(alloc, &configuration, text.as_slice())?),
+        Err(fault) => Err(RunFault::Config(fault)),
+    }
+}
+
+/// Reads a configuration, and writes what was read of it, a line for each thing that it says, and its fields without effect as they stand in its text.
 ///
 /// docs/FORMATS.md has the form of a listing.
 #[inline(never)]
@@ -24,35 +52,13 @@ pub fn run_list<R: Source, W: Sink>(
     requires config_calls { R.failures config.old < 2 ^ 64 - 1 }
     requires listing_calls { W.failures listing.old < 2 ^ 64 - 1 }
 
-    // The text was read to its end, and the listing of the configuration that it says was written, all of it. None of it is held back.
-    ensures known { IsKnown (W.written listing.old) → IsKnown (W.written listing.new) }
-    ensures listed { IsKnown (R.left config.old) → IsKnown (W.written listing.old)
-        → OnOk result (IsListed (bytes_of (R.left config.old)) (bytes_of (W.written listing.old)) (bytes_of (W.written listing.new))) }
-    ensures passed { OnOk result (W.buffered listing.new ≡ []) }
-    ensures config_read { IsKnown (R.left config.old) → OnOk result (bytes_of (R.left config.new) ≡ []) }
+    // What it owes to the text and to its devices, whatever it writes.
+    ensures owes { OwesConfig (source_ends R.left R.failures config.old config.new) (sink_ends W.written W.buffered W.failures listing.old listing.new) result }
 
-    // A text that says a configuration is listed, but for want of memory or a device that fails.
-    ensures right { IsKnown (R.left config.old) → (c : Setup) → SaysConfig (bytes_of (R.left config.old)) c → IfErr result (λ fault. status_of fault ≢ Status.Faulty) }
-
-    // A fault of the text is its first one.
-    ensures config_fault { IsKnown (R.left config.old) → IfErr result (FirstConfigFault (bytes_of (R.left config.old))) }
-
-    // After a failed write or flush a beginning of the listing is out, and after any other fault nothing is.
-    ensures leaves { IsKnown (R.left config.old) → IsKnown (W.written listing.old)
-        → IfErr result (LeavesListed (bytes_of (R.left config.old)) (bytes_of (W.written listing.old)) (bytes_of (W.written listing.new))) }
-
-    // However the run ends, nothing is held back, unless a write failed.
-    ensures none_held { W.buffered listing.old ≡ [] → result ≢ Err RunFault.Write → W.buffered listing.new ≡ [] }
-
-    // No thread was started.
-    ensures no_thread_fault { IfErr result (λ fault. is_thread_fault fault ≡ false) }
-
-    // Which calls of the devices failed.
-    ensures reads { R.failures config.new ≡ R.failures config.old + (if failed_read result then 1 else 0) }
-    ensures writes { W.failures listing.new ≡ W.failures listing.old + (if failed_write result then 1 else 0) }
+    // What it writes: the listing of the configuration that the text says.
+    ensures writes { WritesListing (source_ends R.left R.failures config.old config.new) (sink_ends W.written W.buffered W.failures listing.old listing.new) result }
 {
-    let configuration = config_from(alloc, config)?;
-    let text = listing_text(alloc, &configuration)?;
+    let text = listing_from(alloc, config)?;
     write_out(listing, text.as_slice())?;
     Ok(())
 }

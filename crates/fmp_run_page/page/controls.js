@@ -126,7 +126,7 @@ function start() {
   $('list').focus();
   document.documentElement.dataset.shown = N; document.documentElement.dataset.differs = differs.length;
   view.load = performance.now() - begin;
-  // what the first drawing does not ask for is made behind it
+  // what the first drawing does not ask for is made after it
   setTimeout(() => { eventsOf(1); countWaiters(); }, 500);
 }
 try { start(); } catch (e) { $('sum').textContent = 'This page cannot be shown: ' + e.message; console.error(e); }

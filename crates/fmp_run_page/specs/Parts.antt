@@ -32,7 +32,7 @@ tail = script_begin ++ picture ++ answers ++ script_end
 unfoldable pub name_begin : List ℕ
 name_begin = codes "<pre hidden id='"
 
--- HTML drops the line feed behind the tag
+-- HTML drops the line feed after the tag
 unfoldable pub name_end : List ℕ
 name_end = codes "'>\n"
 

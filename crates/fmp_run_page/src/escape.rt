@@ -2,6 +2,7 @@
 ghost use Rattle.std.specs.Prelude.{◌≡◌, ◌++◌, OnOk};
 ghost use Rattle.fmp_run_page.specs.Escapes as spec;
 
+use memchr::memchr2;
 use std::alloc::AllocError;
 
 /// Adds a byte.
@@ -22,9 +23,13 @@ fn put_byte(out: &mut Vec<u8>, byte: u8) -> Result<(), AllocError>
 pub fn put_escaped(out: &mut Vec<u8>, bytes: &[u8]) -> Result<(), AllocError>
     ensures { OnOk result (out.new.items ≡ out.old.items ++ spec.escaped bytes.now) }
 {
-    for byte in bytes {
-        put_byte(out, *byte)?;
+    let mut rest = bytes;
+    while let Some(at) = memchr2(b'<', b'&', rest) {
+        out.extend_from_slice(&rest[..at])?;
+        put_byte(out, rest[at])?;
+        rest = &rest[at + 1..];
     }
+    out.extend_from_slice(rest)?;
     Ok(())
 }
 

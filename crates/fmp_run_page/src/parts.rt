@@ -94,7 +94,7 @@ pub fn put_text_begin(out: &mut Vec<u8>, name: &[u8]) -> Result<(), AllocError>
     put_name_end(out)
 }
 
-/// Adds what stands behind a text.
+/// Adds what stands after a text.
 #[tactic(auto, unfolding(crate::specs::Parts::text_end))]
 pub fn put_text_end(out: &mut Vec<u8>) -> Result<(), AllocError>
     ensures { OnOk result (out.new.items ≡ out.old.items ++ spec.text_end) }

@@ -14,13 +14,13 @@ use Rattle.fmp_text.specs.Events.{IsMemory}
 use Rattle.fmp_text.specs.Limits.{most_bytes}
 use Rattle.fmp_text.specs.declared.fault.TextFault.{TextFault}
 use Rattle.fmp_trace_check_partial.specs.Verdicts.{PartlyPrintsAnswers}
-use Rattle.fmp_trace_partial.specs.Partly.{FaultBehind, FirstFault}
+use Rattle.fmp_trace_partial.specs.Partly.{FaultAfter, FirstFault}
 use Rattle.fmp_run_partial.specs.Partials.{FirstPartialFault, IsFirstOfPartial, IsPartlyOwn}
 
 -- the first fault of what was read of a partial trace is that of the trace
 first_of_trace : (names : NameLists) (all text rest : List ℕ) (fault : TextFault) → ReadUpTo most_bytes all text rest → FirstFault names text fault → FirstFault names all fault
 first_of_trace names all text rest fault read (inl (long, is)) = let short = read_length all text rest read in inl (omega (arith, long, short), is)
-first_of_trace names all text rest fault read (inr behind) = inr (subst (λ (t : List ℕ). FaultBehind names t fault) (read_whole all text rest read behind.short) behind)
+first_of_trace names all text rest fault read (inr following) = inr (subst (λ (t : List ℕ). FaultAfter names t fault) (read_whole all text rest read following.short) following)
 
 pub first_or_memory : (names : NameLists) (all text rest : List ℕ) (fault : TextFault) → ReadUpTo most_bytes all text rest →
     FirstFault names text fault ⊎ IsMemory fault → FirstFault names all fault ⊎ IsMemory fault

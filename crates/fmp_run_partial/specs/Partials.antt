@@ -2,11 +2,9 @@
 use Rattle.std.specs.Prelude.{◌⊎◌, ℕ, List}
 use Rattle.fmp_trace_check.specs.declared.checking.Verdict.{Verdict}
 use Rattle.fmp_codes.specs.declared.records.Event.{Event}
-use Rattle.fmp_run_devices.specs.Devices.{BeginsWith}
 use Rattle.fmp_run_texts.specs.Texts.{SaysConfig}
 use Rattle.fmp_run_texts.specs.declared.fault.RunFault.{RunFault}
 use Rattle.fmp_run_texts.specs.declared.fault.RunFault.TheVariants as run
-use Rattle.fmp_run_texts.specs.Verdicts.{verdict_text}
 use Rattle.fmp_names.specs.Names.{NameLists}
 use Rattle.fmp_setup.specs.Setup.{Setup}
 use Rattle.fmp_text.specs.Events.{IsMemory}
@@ -37,7 +35,3 @@ abbrev pub FirstPartialFault : List ℕ → List ℕ → RunFault → Type 0
 FirstPartialFault config_text trace_text (run.Text fault) =
     (config : Setup) × SaysConfig config_text config × IsFirstOfPartial config.names trace_text (run.Text fault)
 FirstPartialFault config_text trace_text other = Unit {0}
-
--- a prefix of the verdict was written after old
-abbrev pub IsPartialBegun : List ℕ → List ℕ → List ℕ → List ℕ → Type 0
-IsPartialBegun config_text trace_text old new = (verdict : Verdict) × CheckedPartly config_text trace_text verdict × BeginsWith old (verdict_text verdict) new

@@ -73,10 +73,10 @@ pub(crate) fn events_of(alloc: Global, history: &History<'_>) -> Result<Vec<Even
     ensures { IfOk result (λ v. v.items ≡ histories.events_of history.now.records) }
 {
     let mut replay = history.replay(alloc)?;
-    let mut told = Record::answer(Event::Tick(Proc::new(1)), None, Answer::Nothing);
+    let mut report = Record::answer(Event::Tick(Proc::new(1)), None, Answer::Nothing);
     let mut events = Vec::new(alloc);
-    while replay.next(&mut told) {
-        events.push(told.event)?;
+    while replay.next(&mut report) {
+        events.push(report.event)?;
     }
     Ok(events)
 }

@@ -1,9 +1,8 @@
 //! The runs of seeds, from bytes to bytes.
-ghost use Rattle.std.specs.Prelude.{◌≡◌, ◌≢◌, ◌+◌, ◌-◌, ◌≤◌, ◌<◌, ◌^◌, [], Err, OnOk, IfOk, IfErr, false, option_map, if◌then◌else◌};
-ghost use Rattle.fmp_names.specs.Names.{NameLists};
-ghost use Rattle.fmp_run_devices.specs.Devices.{IsKnown, bytes_of};
-ghost use Rattle.fmp_run_texts.specs.Faults.{failed_write, is_thread_fault};
-ghost use Rattle.fmp_run_texts.specs.Texts.{CountsReads};
+ghost use Rattle.std.specs.Prelude.{◌-◌, ◌≤◌, ◌<◌, ◌^◌, IfOk, IfErr, option_map};
+ghost use Rattle.fmp_run_devices.specs.Ends.{sink_ends, source_ends};
+ghost use Rattle.fmp_run_texts.specs.Owed.{WritesOut};
+ghost use Rattle.fmp_run_explore.specs.Faults.{OwesSearch};
 ghost use Rattle.fmp_run_explore.specs.Faults as faults;
 ghost use Rattle.fmp_run_seeds.specs.Found as spec;
 ghost use Rattle.fmp_run_seeds.specs.Found.{IsBegun, IsEndedBy, IsSought};
@@ -57,38 +56,20 @@ pub fn run_seeds<R: Source, S: Source, W: Sink, P: SeedProgress>(
     requires least { 1 ≤ runs.turns }
     requires most { runs.turns ≤ 1000000 }
 
-    // Both texts were read to their ends, and what is told is the first of these seeds whose run is looked for, with the line where it is, and
-    // what is written its trace up to there; or there is none such, and nothing is written. None of it is held back.
-    ensures sought { IsKnown (R.left config.old) → IsKnown (S.left scripts.old) → IsKnown (W.written trace.old)
-        → IfOk result (IsSought (bytes_of (R.left config.old)) (bytes_of (S.left scripts.old)) (option_map (λ q. q.now) question.entry) runs first last
-        (bytes_of (W.written trace.old)) (bytes_of (W.written trace.new))) }
+    // What it owes to both texts, to its question and to its devices, whatever it writes.
+    ensures owes { OwesSearch faults.IsScriptFault (λ text. spec.IsQuestionFault text (option_map (λ q. q.now) question.entry))
+        (source_ends R.left R.failures config.old config.new) (source_ends S.left S.failures scripts.old scripts.new)
+        (sink_ends W.written W.buffered W.failures trace.old trace.new) result }
+
+    // What it tells, the first of these seeds whose run is looked for, with the line where it is; and what it writes, its trace up to there. Or there
+    // is none such, and nothing is written.
+    ensures writes { WritesOut (λ c s. IsSought c s (option_map (λ q. q.now) question.entry) runs first last)
+        (λ c s. IsBegun c s (option_map (λ q. q.now) question.entry) runs first last) (ExploreFault.Run RunFault.Write)
+        (source_ends R.left R.failures config.old config.new) (source_ends S.left S.failures scripts.old scripts.new)
+        (sink_ends W.written W.buffered W.failures trace.old trace.new) result }
 
     // Seeds are left only where the search was ended.
     ensures ended { IfOk result (IsEndedBy (P.over progress.new)) }
-    ensures known { IsKnown (W.written trace.old) → IsKnown (W.written trace.new) }
-    ensures passed { OnOk result (W.buffered trace.new ≡ []) }
-    ensures config_read { IsKnown (R.left config.old) → OnOk result (bytes_of (R.left config.new) ≡ []) }
-    ensures scripts_read { IsKnown (S.left scripts.old) → OnOk result (bytes_of (S.left scripts.new) ≡ []) }
-
-    // A fault of a text or of the question is its first one.
-    ensures config_fault { IsKnown (R.left config.old) → IfErr result (faults.IsConfigFault (bytes_of (R.left config.old))) }
-    ensures text_fault { IsKnown (R.left config.old) → IsKnown (S.left scripts.old)
-        → IfErr result (faults.IsScriptFault (bytes_of (R.left config.old)) (bytes_of (S.left scripts.old))) }
-    ensures question_fault { IsKnown (R.left config.old) → IfErr result (spec.IsQuestionFault (bytes_of (R.left config.old)) (option_map (λ q. q.now) question.entry)) }
-
-    // After a failed write or flush a beginning of the trace is out, and after any other fault nothing is.
-    ensures write { IsKnown (R.left config.old) → IsKnown (S.left scripts.old) → IsKnown (W.written trace.old) → (result ≡ Err (ExploreFault.Run RunFault.Write))
-        → IsBegun (bytes_of (R.left config.old)) (bytes_of (S.left scripts.old)) (option_map (λ q. q.now) question.entry) runs first last
-        (bytes_of (W.written trace.old)) (bytes_of (W.written trace.new)) }
-    ensures unwritten { IsKnown (W.written trace.old)
-        → IfErr result (λ fault. fault ≢ ExploreFault.Run RunFault.Write → bytes_of (W.written trace.new) ≡ bytes_of (W.written trace.old)) }
-
-    // No thread was started.
-    ensures no_thread_fault { IfErr (faults.as_run result) (λ fault. is_thread_fault fault ≡ false) }
-
-    // Which calls of the devices failed.
-    ensures reads { CountsReads (faults.as_run result) (R.failures config.old) (R.failures config.new) (S.failures scripts.old) (S.failures scripts.new) }
-    ensures writes { W.failures trace.new ≡ W.failures trace.old + (if failed_write (faults.as_run result) then 1 else 0) }
 {
     let (machine, list) = match texts_from(alloc, config, scripts) {
         Ok(texts) => texts,

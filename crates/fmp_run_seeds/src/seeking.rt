@@ -68,9 +68,9 @@ fn waiting_after(alloc: Global, config: &Config, events: &[Event]) -> Result<Vec
     ensures { IfOk result (λ v. v.items ≡ spec.waiting_after config.now events.now) }
 {
     let mut kernel = Kernel::boot(config)?;
-    let mut told = Record::answer(Event::Tick(Proc::new(1)), None, Answer::Nothing);
+    let mut report = Record::answer(Event::Tick(Proc::new(1)), None, Answer::Nothing);
     for event in events {
-        kernel.step_into(*event, &mut told);
+        kernel.step_into(*event, &mut report);
     }
     let mut waiting = Vec::new(alloc);
     put_waiting(&mut waiting, config.names(), &kernel)?;
@@ -165,13 +165,13 @@ fn traced(alloc: Global, config: &Config, events: &[Event]) -> Result<Vec<u8>, A
 {
     let names = config.names();
     let mut kernel = Kernel::boot(config)?;
-    let mut told = Record::answer(Event::Tick(Proc::new(1)), None, Answer::Nothing);
+    let mut report = Record::answer(Event::Tick(Proc::new(1)), None, Answer::Nothing);
     let mut text = Vec::new(alloc);
     let mut n: u32 = 0;
     for event in events {
-        kernel.step_into(*event, &mut told);
+        kernel.step_into(*event, &mut report);
         n += 1;
-        put_line(&mut text, names, n, &told)?;
+        put_line(&mut text, names, n, &report)?;
     }
     Ok(text)
 }

@@ -1,10 +1,10 @@
 //! The run that leaves events out, from bytes to bytes.
-ghost use Rattle.std.specs.Prelude.{◌≡◌, ◌≢◌, ◌+◌, ◌-◌, ◌≤◌, ◌<◌, ◌^◌, [], Err, OnOk, IfOk, IfErr, length, vec_len, false, All, if◌then◌else◌};
+ghost use Rattle.std.specs.Prelude.{◌-◌, ◌≤◌, ◌<◌, ◌^◌, IfOk, length, vec_len, All};
+ghost use Rattle.fmp_run_devices.specs.Ends.{sink_ends, source_ends};
+ghost use Rattle.fmp_run_texts.specs.Owed.{WritesOut};
+ghost use Rattle.fmp_run_explore.specs.Faults.{OwesSearch};
 ghost use Rattle.fmp_calls.specs.Arguments.{EventInBits};
 ghost use Rattle.fmp_codes.specs.Records.{AreOn};
-ghost use Rattle.fmp_run_devices.specs.Devices.{IsKnown, bytes_of};
-ghost use Rattle.fmp_run_texts.specs.Faults.{failed_write, is_thread_fault};
-ghost use Rattle.fmp_run_texts.specs.Texts.{CountsReads};
 ghost use Rattle.fmp_run_explore.specs.Faults as faults;
 ghost use Rattle.fmp_text.specs.Limits.{most_events};
 ghost use Rattle.fmp_run_shrink.specs.Faults.{IsEventFault};
@@ -60,34 +60,16 @@ pub fn run_shrink<R: Source, S: Source, W: Sink>(
     requires event_calls { S.failures events.old < 2 ^ 64 - 1 }
     requires output_calls { W.failures output.old < 2 ^ 64 - 1 }
 
-    // Both texts were read to their ends, and what is written are the events that are left, as whoever reads it gets them. None of it is held
-    // back.
-    ensures shrunk { IsKnown (R.left config.old) → IsKnown (S.left events.old) → IsKnown (W.written output.old)
-        → IfOk result (IsShrunkOut (bytes_of (R.left config.old)) (bytes_of (S.left events.old)) question.now runs (bytes_of (W.written output.old))
-        (bytes_of (W.written output.new))) }
-    ensures known { IsKnown (W.written output.old) → IsKnown (W.written output.new) }
-    ensures passed { OnOk result (W.buffered output.new ≡ []) }
-    ensures config_read { IsKnown (R.left config.old) → OnOk result (bytes_of (R.left config.new) ≡ []) }
-    ensures events_read { IsKnown (S.left events.old) → OnOk result (bytes_of (S.left events.new) ≡ []) }
+    // What it owes to both texts, to its question and to its devices, whatever it writes.
+    ensures owes { OwesSearch IsEventFault (λ text. faults.IsQuestionFault text question.now)
+        (source_ends R.left R.failures config.old config.new) (source_ends S.left S.failures events.old events.new)
+        (sink_ends W.written W.buffered W.failures output.old output.new) result }
 
-    // A fault of a text or of the question is its first one.
-    ensures config_fault { IsKnown (R.left config.old) → IfErr result (faults.IsConfigFault (bytes_of (R.left config.old))) }
-    ensures text_fault { IsKnown (R.left config.old) → IsKnown (S.left events.old)
-        → IfErr result (IsEventFault (bytes_of (R.left config.old)) (bytes_of (S.left events.old))) }
-    ensures question_fault { IsKnown (R.left config.old) → IfErr result (faults.IsQuestionFault (bytes_of (R.left config.old)) question.now) }
-
-    // After a failed write or flush a beginning of what is left is out, and after any other fault nothing is.
-    ensures write { IsKnown (R.left config.old) → IsKnown (S.left events.old) → IsKnown (W.written output.old) → (result ≡ Err (ExploreFault.Run RunFault.Write))
-        → IsBegun (bytes_of (R.left config.old)) (bytes_of (S.left events.old)) question.now runs (bytes_of (W.written output.old)) (bytes_of (W.written output.new)) }
-    ensures unwritten { IsKnown (W.written output.old)
-        → IfErr result (λ fault. fault ≢ ExploreFault.Run RunFault.Write → bytes_of (W.written output.new) ≡ bytes_of (W.written output.old)) }
-
-    // No thread was started.
-    ensures no_thread_fault { IfErr (faults.as_run result) (λ fault. is_thread_fault fault ≡ false) }
-
-    // Which calls of the devices failed.
-    ensures reads { CountsReads (faults.as_run result) (R.failures config.old) (R.failures config.new) (S.failures events.old) (S.failures events.new) }
-    ensures writes { W.failures output.new ≡ W.failures output.old + (if failed_write (faults.as_run result) then 1 else 0) }
+    // What it writes: the events that are left, as whoever reads it gets them.
+    ensures writes { WritesOut (λ c es. IsShrunkOut c es question.now runs) (λ c es. IsBegun c es question.now runs)
+        (ExploreFault.Run RunFault.Write)
+        (source_ends R.left R.failures config.old config.new) (source_ends S.left S.failures events.old events.new)
+        (sink_ends W.written W.buffered W.failures output.old output.new) result }
 {
     let (machine, list) = match texts_from(alloc, config, events) {
         Ok(texts) => texts,

@@ -48,7 +48,7 @@ abbrev pub InOrder : Option ℕ → Setup → List Steps → ℕ → List Record
 InOrder None c scripts ticks h = Unit {0}
 InOrder (Some seed) c scripts ticks h = IsInOrderOf seed c scripts ticks h
 
--- the lines of the tasks that wait behind these records
+-- the lines of the tasks that wait after these records
 abbrev pub waiting_after : Setup → List Record → List ℕ
 waiting_after c h = waiting_lines c.names (state_after c h)
 

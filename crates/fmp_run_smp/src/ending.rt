@@ -79,12 +79,12 @@ fn history_text(alloc: Global, history: &History<'_>, names: &Names) -> Result<V
     ensures { IfOk result (λ v. v.items ≡ lines_from names.now 1 history.now.records) }
 {
     let mut replay = history.replay(alloc)?;
-    let mut told = Record::answer(Event::Tick(Proc::new(1)), None, Answer::Nothing);
+    let mut report = Record::answer(Event::Tick(Proc::new(1)), None, Answer::Nothing);
     let mut out = Vec::new(alloc);
     let mut n: u32 = 0;
-    while replay.next(&mut told) {
+    while replay.next(&mut report) {
         n += 1;
-        put_line(&mut out, names, n, &told)?;
+        put_line(&mut out, names, n, &report)?;
     }
     Ok(out)
 }
@@ -104,6 +104,7 @@ pub(crate) fn write_history<W: Sink>(
     ensures waiting { IfOk result (λ v. v.items ≡ waiting_lines names.now (state_after history.now.config history.now.records)) }
     ensures known { IsKnown (W.written trace.old) → IsKnown (W.written trace.new) }
     ensures passed { OnOk result (W.buffered trace.new ≡ []) }
+    ensures none_held { W.buffered trace.old ≡ [] → result ≢ Err RunFault.Write → W.buffered trace.new ≡ [] }
     ensures write { IsKnown (W.written trace.old) → (result ≡ Err RunFault.Write)
         → BeginsWith (bytes_of (W.written trace.old)) (lines_from names.now 1 history.now.records) (bytes_of (W.written trace.new)) }
     ensures unwritten { IsKnown (W.written trace.old) → IfErr result (λ fault. fault ≢ RunFault.Write → bytes_of (W.written trace.new) ≡ bytes_of (W.written trace.old)) }

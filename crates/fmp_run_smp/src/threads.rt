@@ -1,10 +1,11 @@
 //! The run of processors that follow scripts: each in a thread of its own, or all in an order that a seed determines.
-ghost use Rattle.std.specs.Prelude.{◌≡◌, ◌≢◌, ◌+◌, ◌-◌, ◌≤◌, ◌^◌, ◌<◌, [], map, OnOk, IfOk, IfErr, IfSome, Err, false, if◌then◌else◌};
-ghost use Rattle.fmp_run_devices.specs.Devices.{IsKnown, bytes_of};
+ghost use Rattle.std.specs.Prelude.{◌≡◌, ◌+◌, ◌-◌, ◌≤◌, ◌^◌, ◌<◌, map, IfOk, IfErr, IfSome, false};
+ghost use Rattle.fmp_run_devices.specs.Ends.{sink_ends, source_ends};
+ghost use Rattle.fmp_run_texts.specs.Owed.{OwesTexts, WritesOut};
 ghost use Rattle.fmp_smp.specs.Rounds.{TicksInTurn};
 ghost use Rattle.fmp_world.specs.Ends.{IsSmpRun};
-ghost use Rattle.fmp_run_texts.specs.Faults.{failed_write, is_config, is_read, is_thread_fault, is_text, is_write};
-ghost use Rattle.fmp_run_texts.specs.Texts.{CountsReads, FirstConfigFault, FirstScriptFault};
+ghost use Rattle.fmp_run_texts.specs.Faults.{is_config, is_read, is_thread_fault, is_text, is_write};
+ghost use Rattle.fmp_run_texts.specs.Texts.{FirstConfigFault, FirstScriptFault};
 ghost use Rattle.fmp_run_smp.specs.Scripted as spec;
 ghost use Rattle.fmp_run_smp.specs.Scripted.{InOrder, IsPlayBegun, IsPlayed, IsPlayedToEnd};
 
@@ -108,33 +109,20 @@ pub fn run_scripts<T: Threads + Wait + Sync, R: Source, S: Source, W: Sink, G: G
     requires least { 1 ≤ turns }
     requires most { turns ≤ 1000000 }
 
-    // Both texts were read to their ends, and what is written is the trace of a run of the one text's machine by the other's
-    // scripts, in the order of the seed where one is given. None of it is held back. The lines that are told are those of the tasks that
-    // wait at the end of this run.
-    ensures answered { IsKnown (R.left config.old) → IsKnown (S.left scripts.old) → IsKnown (W.written trace.old)
-        → IfOk result (λ end. IsPlayedToEnd seed (bytes_of (R.left config.old)) (bytes_of (S.left scripts.old)) ticks turns (bytes_of (W.written trace.old))
-        (bytes_of (W.written trace.new)) end.ended end.waiting.items) }
-    ensures known { IsKnown (W.written trace.old) → IsKnown (W.written trace.new) }
-    ensures passed { OnOk result (W.buffered trace.new ≡ []) }
-    ensures config_read { IsKnown (R.left config.old) → OnOk result (bytes_of (R.left config.new) ≡ []) }
-    ensures scripts_read { IsKnown (S.left scripts.old) → OnOk result (bytes_of (S.left scripts.new) ≡ []) }
+    // What it owes to both texts and to its devices, whatever it writes.
+    ensures owes { OwesTexts FirstConfigFault FirstScriptFault
+        (source_ends R.left R.failures config.old config.new) (source_ends S.left S.failures scripts.old scripts.new)
+        (sink_ends W.written W.buffered W.failures trace.old trace.new) result result }
 
-    // A fault of a text is its first one.
-    ensures config_fault { IsKnown (R.left config.old) → IfErr result (FirstConfigFault (bytes_of (R.left config.old))) }
-    ensures text_fault { IsKnown (R.left config.old) → IsKnown (S.left scripts.old)
-        → IfErr result (FirstScriptFault (bytes_of (R.left config.old)) (bytes_of (S.left scripts.old))) }
-
-    // After a failed write or flush a beginning of the trace is out, and after any other fault nothing is.
-    ensures write { IsKnown (R.left config.old) → IsKnown (S.left scripts.old) → IsKnown (W.written trace.old) → (result ≡ Err RunFault.Write)
-        → IsPlayBegun (bytes_of (R.left config.old)) (bytes_of (S.left scripts.old)) ticks turns (bytes_of (W.written trace.old)) (bytes_of (W.written trace.new)) }
-    ensures unwritten { IsKnown (W.written trace.old) → IfErr result (λ fault. fault ≢ RunFault.Write → bytes_of (W.written trace.new) ≡ bytes_of (W.written trace.old)) }
+    // What it writes: the trace of a run of the one text's machine by the other's scripts, in the order of the seed where one is given. The lines that
+    // are told are those of the tasks that wait at the end of this run.
+    ensures writes { WritesOut (λ c s old new end. IsPlayedToEnd seed c s ticks turns old new end.ended end.waiting.items)
+        (λ c s. IsPlayBegun c s ticks turns) RunFault.Write
+        (source_ends R.left R.failures config.old config.new) (source_ends S.left S.failures scripts.old scripts.new)
+        (sink_ends W.written W.buffered W.failures trace.old trace.new) result }
 
     // With a seed no thread was started.
     ensures no_thread_fault { IfSome seed (λ number. IfErr result (λ fault. is_thread_fault fault ≡ false)) }
-
-    // Which calls of the devices failed.
-    ensures reads { CountsReads result (R.failures config.old) (R.failures config.new) (S.failures scripts.old) (S.failures scripts.new) }
-    ensures writes { W.failures trace.new ≡ W.failures trace.old + (if failed_write result then 1 else 0) }
 {
     let (machine, list) = texts_from(alloc, config, scripts)?;
     let run = run_in_order(rt, alloc, &machine, &list, ticks, turns, seed, gate)?;
@@ -166,29 +154,15 @@ pub fn run_threads<T: Threads + Wait + Sync, R: Source, S: Source, W: Sink, G: G
     requires least { 1 ≤ turns }
     requires most { turns ≤ 1000000 }
 
-    // Both texts were read to their ends, and what is written is the trace of a run of the one text's machine by the other's
-    // scripts. None of it is held back.
-    ensures answered { IsKnown (R.left config.old) → IsKnown (S.left scripts.old) → IsKnown (W.written trace.old)
-        → IfOk result (IsPlayed (bytes_of (R.left config.old)) (bytes_of (S.left scripts.old)) ticks turns (bytes_of (W.written trace.old))
-        (bytes_of (W.written trace.new))) }
-    ensures known { IsKnown (W.written trace.old) → IsKnown (W.written trace.new) }
-    ensures passed { OnOk result (W.buffered trace.new ≡ []) }
-    ensures config_read { IsKnown (R.left config.old) → OnOk result (bytes_of (R.left config.new) ≡ []) }
-    ensures scripts_read { IsKnown (S.left scripts.old) → OnOk result (bytes_of (S.left scripts.new) ≡ []) }
+    // What it owes to both texts and to its devices, whatever it writes.
+    ensures owes { OwesTexts FirstConfigFault FirstScriptFault
+        (source_ends R.left R.failures config.old config.new) (source_ends S.left S.failures scripts.old scripts.new)
+        (sink_ends W.written W.buffered W.failures trace.old trace.new) result result }
 
-    // A fault of a text is its first one.
-    ensures config_fault { IsKnown (R.left config.old) → IfErr result (FirstConfigFault (bytes_of (R.left config.old))) }
-    ensures text_fault { IsKnown (R.left config.old) → IsKnown (S.left scripts.old)
-        → IfErr result (FirstScriptFault (bytes_of (R.left config.old)) (bytes_of (S.left scripts.old))) }
-
-    // After a failed write or flush a beginning of the trace is out, and after any other fault nothing is.
-    ensures write { IsKnown (R.left config.old) → IsKnown (S.left scripts.old) → IsKnown (W.written trace.old) → (result ≡ Err RunFault.Write)
-        → IsPlayBegun (bytes_of (R.left config.old)) (bytes_of (S.left scripts.old)) ticks turns (bytes_of (W.written trace.old)) (bytes_of (W.written trace.new)) }
-    ensures unwritten { IsKnown (W.written trace.old) → IfErr result (λ fault. fault ≢ RunFault.Write → bytes_of (W.written trace.new) ≡ bytes_of (W.written trace.old)) }
-
-    // Which calls of the devices failed.
-    ensures reads { CountsReads result (R.failures config.old) (R.failures config.new) (S.failures scripts.old) (S.failures scripts.new) }
-    ensures writes { W.failures trace.new ≡ W.failures trace.old + (if failed_write result then 1 else 0) }
+    // What it writes: the trace of a run of the one text's machine by the other's scripts.
+    ensures writes { WritesOut (λ c s. IsPlayed c s ticks turns) (λ c s. IsPlayBegun c s ticks turns) RunFault.Write
+        (source_ends R.left R.failures config.old config.new) (source_ends S.left S.failures scripts.old scripts.new)
+        (sink_ends W.written W.buffered W.failures trace.old trace.new) result }
 {
     match run_scripts(rt, alloc, config, scripts, trace, ticks, turns, None, gate) {
         Ok(end) => Ok(end.ended),

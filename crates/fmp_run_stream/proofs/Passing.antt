@@ -9,12 +9,12 @@ use Rattle.fmp_run_texts.specs.declared.fault.RunFault.{RunFault}
 use Rattle.fmp_run_texts.specs.declared.fault.RunFault.TheVariants as run
 
 -- a beginning of some bytes is one of these and more
-pub begins_with_more : (old line behind new : List ℕ) → BeginsWith old line new → BeginsWith old (line ++ behind) new
-begins_with_more old line behind new begins = begins_on old [] line behind new (rw (← append-nil old) at begins)
+pub begins_with_more : (old line following new : List ℕ) → BeginsWith old line new → BeginsWith old (line ++ following) new
+begins_with_more old line following new begins = begins_on old [] line following new (rw (← append-nil old) at begins)
 
--- behind bytes that are out a beginning of others is out
-pub begins_behind : (old prefix line after new : List ℕ) → after ≡ old ++ prefix → BeginsWith after line new → BeginsWith old (prefix ++ line) new
-begins_behind old prefix line after new split begins =
+-- after bytes that are out a beginning of others is out
+pub begins_after : (old prefix line after new : List ℕ) → after ≡ old ++ prefix → BeginsWith after line new → BeginsWith old (prefix ++ line) new
+begins_after old prefix line after new split begins =
     subst (λ (xs : List ℕ). BeginsWith old xs new) (append-nil (prefix ++ line)) (begins_on old prefix line [] new (subst (λ (xs : List ℕ). BeginsWith xs line new) split begins))
 
 -- more and more is out

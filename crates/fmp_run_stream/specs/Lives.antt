@@ -9,7 +9,7 @@ use Rattle.fmp_rules.specs.Arrivals.{State, numbered}
 use Rattle.fmp_rules.specs.Step.{step}
 use Rattle.fmp_trace.specs.Lines.{line_text}
 use Rattle.fmp_show_life.specs.declared.things.Thing.{Thing}
-use Rattle.fmp_show_life.specs.Lives.{Seen, changes_of, lines_of, told_since}
+use Rattle.fmp_show_life.specs.Lives.{Seen, changes_of, lines_of, report_since}
 use Rattle.fmp_show_life.specs.Things.{chosen_in}
 use Rattle.fmp_run_stream.specs.Runs.{Written}
 
@@ -31,7 +31,7 @@ life_of xs config events = lines_of config.names (booted config) xs ++ life_from
 -- the same where something was told of them before
 unfoldable pub life_since : List Seen → Setup → List Event → List ℕ
 life_since seen config events =
-    flat_map (told_since config.names (booted config)) seen ++ life_from config.names (map (λ s. s.thing) seen) 1 (booted config) events
+    flat_map (report_since config.names (booted config)) seen ++ life_from config.names (map (λ s. s.thing) seen) 1 (booted config) events
 
 -- the same of the things that a text names, and nothing where a name names nothing
 abbrev pub chosen_life : Result (List Thing) ℕ → Setup → List Event → List ℕ
@@ -41,13 +41,13 @@ chosen_life (Err i) config events = []
 abbrev pub named_life : List ℕ → Setup → List Event → List ℕ
 named_life names config events = chosen_life (chosen_in config.names names) config events
 
--- The output is what is told, of the machine of one text, of the things that the names name there: at boot, and behind each of the
+-- The output is what is told, of the machine of one text, of the things that the names name there: at boot, and after each of the
 -- other text's events that changes it.
-pub record ToldLife (names config_text event_text output : List ℕ) : Type 0 where
+pub record ReportLife (names config_text event_text output : List ℕ) : Type 0 where
   pub things : List Thing
   pub written : Written (life_of things) config_text event_text output
   pub chosen : chosen_in written.config.names names ≡ Ok things
 
 -- the output was written after old, all of it
-abbrev pub IsLifeTold : List ℕ → List ℕ → List ℕ → List ℕ → List ℕ → Type 0
-IsLifeTold names config_text event_text old new = (output : List ℕ) × ToldLife names config_text event_text output × (new ≡ old ++ output)
+abbrev pub IsLifeReported : List ℕ → List ℕ → List ℕ → List ℕ → List ℕ → Type 0
+IsLifeReported names config_text event_text old new = (output : List ℕ) × ReportLife names config_text event_text output × (new ≡ old ++ output)

@@ -92,11 +92,11 @@ abbrev pub HasShortLines : List ℕ → Type 0
 HasShortLines text = HasLinesWithin 32768 text
 
 -- a run ended for want of memory
-abbrev pub IsWantOfMemory : RunFault → Type 0
-IsWantOfMemory (run.Config fault) = fault.kind ≡ config_kind.Memory
-IsWantOfMemory (run.Text fault) = IsMemory fault
-IsWantOfMemory run.Memory = Unit {0}
-IsWantOfMemory other = ⊥
+abbrev pub IsOutOfMemory : RunFault → Type 0
+IsOutOfMemory (run.Config fault) = fault.kind ≡ config_kind.Memory
+IsOutOfMemory (run.Text fault) = IsMemory fault
+IsOutOfMemory run.Memory = Unit {0}
+IsOutOfMemory other = ⊥
 
 -- a fault of the events is the first one of their reading, or want of memory
 abbrev pub FirstEventFault : Reading → RunFault → Type 0

@@ -13,14 +13,21 @@ use Rattle.fmp_run_texts.specs.declared.fault.RunFault.TheVariants as run
 use Rattle.fmp_run_stream.specs.declared.stream.Answering.{Answering}
 use Rattle.fmp_run_stream.specs.declared.stream.Detail.{Detail}
 use Rattle.fmp_run_stream.specs.declared.stream.Detail.TheVariants as detail
+use Rattle.fmp_run_stream.specs.declared.stream.Unanswered.{Unanswered}
+use Rattle.fmp_run_stream.specs.declared.stream.Unanswered.TheVariants as unanswered
 use Rattle.fmp_run_devices.specs.Devices.{BeginsWith, IsKnown, bytes_of}
 use Rattle.fmp_run_stream.specs.Runs.{FirstEventFault, HasShortLines, IsOutBefore, IsPrefixOut}
-use Rattle.fmp_run_stream.specs.Details.{detail_of, told_in}
+use Rattle.fmp_run_stream.specs.Details.{detail_of, report_in}
 
 -- The room that a run takes before it reads an event is enough for all that it tells: no states, and no line of the text is long.
 pub record IsAmple (d : Detail) (text : List ℕ) : Type 0 where
   pub lines : d ≡ detail.Line
   pub short : HasShortLines text
+
+-- the fault of a run whose next event is not answered
+abbrev pub fault_of : Unanswered → RunFault
+fault_of (unanswered.Text fault) = run.Text fault
+fault_of unanswered.Memory = run.Memory
 
 -- what is told and not passed on yet
 abbrev pub pending : Answering → List ℕ
@@ -31,7 +38,7 @@ pending a = a.entries.items ++ a.lines
 pub record Answers (d : Detail) (tells : Bool) (config : Setup) (event_text : List ℕ) (whole : Reading) (old : List ℕ) (a : Answering)
     (out remaining : List ℕ) : Type 0 where
   pub given : List Event
-  pub detail : a.detail ≡ told_in d config.names (replay numbered (booted config) given)
+  pub detail : a.detail ≡ report_in d config.names (replay numbered (booted config) given)
   pub reading : whole ≡ with_events given (ahead config.names a.feed remaining)
   pub short : a.feed.dropped ≡ false → HasShortLines event_text → HasShortLines (a.feed.rest ++ remaining)
   pub stands : Stands a.kernel (replay numbered (booted config) given)
@@ -41,10 +48,10 @@ pub record Answers (d : Detail) (tells : Bool) (config : Setup) (event_text : Li
 -- the same, where all that is told was passed on: what is out is what was written
 pub record Streams (d : Detail) (tells : Bool) (config : Setup) (event_text : List ℕ) (whole : Reading) (old : List ℕ) (a : Answering)
     (written remaining : List ℕ) : Type 0 where
-  pub told : Answers d tells config event_text whole old a written remaining
+  pub report : Answers d tells config event_text whole old a written remaining
   pub passed : pending a ≡ []
 
--- want of memory behind what is written of a prefix of the events, which is only where the room that was taken is not enough
+-- want of memory after what is written of a prefix of the events, which is only where the room that was taken is not enough
 abbrev pub IsOutOfRoom : Detail → Setup → List ℕ → Reading → List ℕ → List ℕ → Type 0
 IsOutOfRoom d config text whole old new = IsPrefixOut (detail_of d) config whole.events old new × ¬ (IsAmple d text)
 
@@ -56,7 +63,7 @@ Leaves d config text whole old new run.Write = BeginsWith old (detail_of d confi
 Leaves d config text whole old new run.Memory = (new ≡ old) ⊎ IsOutOfRoom d config text whole old new
 Leaves d config text whole old new other = IsPrefixOut (detail_of d) config whole.events old new
 
--- whatever a run has done before, it has done so behind a call that answered events: before and after are what was written
+-- whatever a run has done before, it has done so after a call that answered events: before and after are what was written
 abbrev pub StreamsOn : Setup → Answering → Answering → Option (List ℕ) → Option (List ℕ) → Type 0
 StreamsOn config a b before after =
     (d : Detail) (tells : Bool) (text : List ℕ) (whole : Reading) (old remaining : List ℕ) → (IsTrue tells → IsKnown before)

@@ -6,4 +6,5 @@
 
 mod stream;
 
+pub use fmp_show_changes::Changes;
 pub use stream::{Answering, Detail};

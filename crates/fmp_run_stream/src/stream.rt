@@ -10,16 +10,19 @@ ghost use Rattle.fmp_setup.specs.Setup.{Setup};
 ghost use Rattle.fmp_rules.specs.Step.{step as step_of};
 ghost use Rattle.fmp_setup.specs.Valid.{IsValid};
 ghost use Rattle.fmp_text.specs.Events.{Reading};
+ghost use Rattle.fmp_text.specs.Fronts.{IsEcho};
 ghost use Rattle.fmp_text.specs.Limits.{most_bytes, most_events};
-ghost use Rattle.fmp_run_stream.specs.Details.{boot_text, entry_text, finished, told_in};
+ghost use Rattle.fmp_run_stream.specs.Details.{boot_text, entry_text, finished, report_in};
 ghost use Rattle.fmp_run_stream.specs.Lives.{with_changes};
 ghost use Rattle.std.specs.List.{flat_map};
-ghost use Rattle.fmp_show_life.specs.Lives.{renewed, told_since};
+ghost use Rattle.fmp_show_life.specs.Lives.{renewed, report_since};
 ghost use Rattle.fmp_run_devices.specs.Devices.{BeginsWith, IsKnown, bytes_of};
 ghost use Rattle.fmp_run_texts.specs.Faults.{failed_read, failed_write, is_config, is_read, is_write, is_thread_fault};
 ghost use Rattle.fmp_run_stream.specs.Runs.{FirstEventFault};
-ghost use Rattle.fmp_trace.specs.Lines.{line_text};
-ghost use Rattle.fmp_run_stream.specs.Streams.{Answers, AnswersOn, BeginsFrom, FirstFrom, GathersOn, Leaves, LeavesFrom, PassesSome, Streams, StreamsOn, pending};
+ghost use Rattle.fmp_trace.specs.Lines.{event_text, line_text};
+ghost use Rattle.fmp_run_stream.specs.declared.stream.Unanswered.TheVariants.{Memory};
+ghost use Rattle.fmp_run_stream.specs.Streams.{Answers, AnswersOn, BeginsFrom, FirstFrom, GathersOn, Leaves, LeavesFrom, PassesSome, Streams, StreamsOn};
+ghost use Rattle.fmp_run_stream.specs.Streams.{fault_of, pending};
 ghost use Rattle.fmp_trace_buffer.specs.Filled.{full_bytes};
 
 use fmp_codes::{Answer, Event, Proc, Record};
@@ -27,9 +30,10 @@ use fmp_kernel::Kernel;
 use fmp_rules::Config;
 use fmp_run_devices::{Failed, Sink, Source, write_all};
 use fmp_run_texts::RunFault;
+use fmp_show_changes::Changes;
 use fmp_show_life::Life;
 use fmp_show_state::put_state;
-use fmp_text::Names;
+use fmp_text::{Echo, Names, TextFault};
 use fmp_text_feed::EventFeed;
 use fmp_trace::trace_line;
 use fmp_trace_buffer::{Count, LineBuffer, line_is_short};
@@ -40,8 +44,10 @@ use std::alloc::{AllocError, Global};
 pub enum Detail {
     /// Its line of the trace.
     Line,
-    /// That, and the state behind it, as also at boot. docs/FORMATS.md has the form of the state.
+    /// That, and the state after it, as also at boot. docs/FORMATS.md has the form of the state.
     State,
+    /// Its line, and what of the state changed by it. At boot the state is told.
+    Changes(Changes),
     /// Both its line and those of some things, where what is told of one of these is not what was told before.
     Life(Life),
 }
@@ -54,12 +60,13 @@ fn put_boot(
     line: &mut Vec<u8>,
 ) -> Result<(), AllocError>
     ensures ok { (m : State) → Stands kernel.now m → OnOk result (line.new.items ≡ line.old.items ++ boot_text detail.old names.now m) }
-    ensures told { (m : State) → Stands kernel.now m → OnOk result (detail.new ≡ told_in detail.old names.now m) }
+    ensures report { (m : State) → Stands kernel.now m → OnOk result (detail.new ≡ report_in detail.old names.now m) }
     ensures nothing { detail.old ≡ Detail.Line → (result ≡ Ok tt) × (line.new ≡ line.old) }
 {
     match detail {
         Detail::Line => Ok(()),
         Detail::State => put_state(line, names, kernel),
+        Detail::Changes(changes) => changes.put_state(line, names, kernel),
         Detail::Life(life) => life.put_changes(line, names, kernel),
     }
 }
@@ -71,8 +78,8 @@ fn put_life(
     kernel: &Kernel,
     line: &mut Vec<u8>,
 ) -> Result<(), AllocError>
-    ensures ok { (m : State) → Stands kernel.now m → OnOk result (line.new.items ≡ with_changes line.old.items (flat_map (told_since names.now m) life.old)) }
-    ensures told { (m : State) → Stands kernel.now m → OnOk result (life.new ≡ map (renewed names.now m) life.old) }
+    ensures ok { (m : State) → Stands kernel.now m → OnOk result (line.new.items ≡ with_changes line.old.items (flat_map (report_since names.now m) life.old)) }
+    ensures report { (m : State) → Stands kernel.now m → OnOk result (life.new ≡ map (renewed names.now m) life.old) }
 {
     let bytes = line.len();
     life.put_changes(line, names, kernel)?;
@@ -83,20 +90,49 @@ fn put_life(
 }
 
 /// Makes of the line of an event all that is told of it, and keeps in mind what is.
-fn put_behind(
+fn put_after(
     detail: &mut Detail,
     names: &Names,
     kernel: &Kernel,
     line: &mut Vec<u8>,
 ) -> Result<(), AllocError>
     ensures ok { (m : State) → Stands kernel.now m → OnOk result (line.new.items ≡ finished detail.old names.now line.old.items m) }
-    ensures told { (m : State) → Stands kernel.now m → OnOk result (detail.new ≡ told_in detail.old names.now m) }
+    ensures report { (m : State) → Stands kernel.now m → OnOk result (detail.new ≡ report_in detail.old names.now m) }
     ensures nothing { detail.old ≡ Detail.Line → (result ≡ Ok tt) × (line.new ≡ line.old) }
 {
     match detail {
         Detail::Line => Ok(()),
         Detail::State => put_state(line, names, kernel),
+        Detail::Changes(changes) => changes.put_changes(line, names, kernel),
         Detail::Life(life) => put_life(life, names, kernel, line),
+    }
+}
+
+/// Why the next event is not answered. Each event's result has room for it, so it is less than a run's fault.
+#[derive(Drop)]
+enum Unanswered {
+    /// The fault of the text.
+    Text(TextFault),
+    /// Memory ran out.
+    Memory,
+}
+
+impl From<AllocError> for Unanswered {
+    ghost from_gives = { λ _ reason. reason ≡ Memory };
+
+    fn from(_error: AllocError) -> Unanswered {
+        Unanswered::Memory
+    }
+}
+
+impl From<Unanswered> for RunFault {
+    ghost from_gives = { λ reason fault. fault ≡ fault_of reason };
+
+    fn from(reason: Unanswered) -> RunFault {
+        match reason {
+            Unanswered::Text(fault) => RunFault::Text(fault),
+            Unanswered::Memory => RunFault::Memory,
+        }
     }
 }
 
@@ -118,7 +154,9 @@ pub struct Answering {
     feed: EventFeed,
     kernel: Kernel,
     count: Count,
-    told: Record,
+    report: Record,
+    /// The text of the last event, where it is printed as it was written.
+    echo: Echo,
     /// What is told of one event, where that is more than its line.
     entry: Vec<u8>,
     /// What is told of events and not passed on yet, where that is more than their lines.
@@ -143,7 +181,8 @@ impl Answering {
             feed: EventFeed::new(alloc)?,
             kernel: Kernel::boot(config)?,
             count: Count::new(),
-            told: Record::answer(Event::Tick(Proc::new(1)), None, Answer::Nothing),
+            report: Record::answer(Event::Tick(Proc::new(1)), None, Answer::Nothing),
+            echo: Echo::new(),
             entry: Vec::new(alloc),
             entries: Vec::new(alloc),
             lines: LineBuffer::new(alloc)?,
@@ -160,7 +199,7 @@ impl Answering {
     /// Writes what is told before the first event: the state at boot, or the lines of things, where these are told.
     pub fn begin<W: Sink>(&mut self, names: &Names, trace: &mut W) -> Result<(), RunFault>
         requires calls { W.failures trace.old < 2 ^ 64 - 1 }
-        ensures detail { (m : State) → Stands self.old.kernel m → OnOk result (self.new.detail ≡ told_in self.old.detail names.now m) }
+        ensures detail { (m : State) → Stands self.old.kernel m → OnOk result (self.new.detail ≡ report_in self.old.detail names.now m) }
         ensures same { (self.new.feed ≡ self.old.feed) × (self.new.kernel ≡ self.old.kernel) × (self.new.count ≡ self.old.count) }
         ensures passed { pending self.new ≡ pending self.old }
         ensures known { IsKnown (W.written trace.old) → IsKnown (W.written trace.new) }
@@ -179,42 +218,47 @@ impl Answering {
     }
 
     /// Adds what is told of the last event, where that is more than its line.
+    #[inline(never)]
     fn put_entry(&mut self, names: &Names) -> Result<(), AllocError>
-        ensures detail { (m : State) → Stands self.old.kernel m → OnOk result (self.new.detail ≡ told_in self.old.detail names.now m) }
+        ensures detail { (m : State) → Stands self.old.kernel m → OnOk result (self.new.detail ≡ report_in self.old.detail names.now m) }
         ensures same { (self.new.feed ≡ self.old.feed) × (self.new.kernel ≡ self.old.kernel) × (self.new.count ≡ self.old.count) }
         ensures ok { (m : State) → Stands self.old.kernel m
-            → OnOk result (pending self.new ≡ pending self.old ++ finished self.old.detail names.now (line_text names.now self.old.count self.old.told) m) }
+            → OnOk result (pending self.new ≡ pending self.old ++ finished self.old.detail names.now (line_text names.now self.old.count self.old.report) m) }
         ensures err { OnErr result (pending self.new ≡ pending self.old) }
     {
         self.entries.extend_from_slice(self.lines.as_slice())?;
         self.lines.clear();
-        trace_line(self.count.number(), &self.told, names, &mut self.entry)?;
-        put_behind(&mut self.detail, names, &self.kernel, &mut self.entry)?;
+        trace_line(self.count.number(), &self.report, names, &mut self.entry)?;
+        put_after(&mut self.detail, names, &self.kernel, &mut self.entry)?;
         self.entries.extend_from_slice(self.entry.as_slice())
     }
 
     /// Answers the event that the last record tells, and keeps what is told of it.
+    #[inline(always)]
     fn answer(&mut self, names: &Names) -> Result<(), AllocError>
+        requires echo { IsEcho self.old.echo (event_text names.now self.old.report.event) }
         requires counts { self.old.count < 2 ^ 32 - 1 }
-        requires on { (processor_of self.old.told.event).number ≤ length self.old.kernel.processors }
+        requires on { (processor_of self.old.report.event).number ≤ length self.old.kernel.processors }
         requires room { length self.old.lines < full_bytes }
         ensures detail { (m : State) → Stands self.old.kernel m
-            → OnOk result (self.new.detail ≡ told_in self.old.detail names.now (step_of numbered m self.old.told.event).0) }
+            → OnOk result (self.new.detail ≡ report_in self.old.detail names.now (step_of numbered m self.old.report.event).0) }
         ensures feed { self.new.feed ≡ self.old.feed }
-        ensures stands { (m : State) → Stands self.old.kernel m → Stands self.new.kernel (step_of numbered m self.old.told.event).0 }
+        ensures stands { (m : State) → Stands self.old.kernel m → Stands self.new.kernel (step_of numbered m self.old.report.event).0 }
         ensures processors { length self.new.kernel.processors ≡ length self.old.kernel.processors }
         ensures count { self.new.count ≡ self.old.count + 1 }
         ensures ok { (m : State) → Stands self.old.kernel m
-            → OnOk result (pending self.new ≡ pending self.old ++ entry_text self.old.detail names.now (self.old.count + 1) (step_of numbered m self.old.told.event)) }
+            → OnOk result (pending self.new ≡ pending self.old ++ entry_text self.old.detail names.now (self.old.count + 1) (step_of numbered m self.old.report.event)) }
         ensures err { OnErr result (pending self.new ≡ pending self.old) }
         ensures lines { self.old.detail ≡ Detail.Line → result ≡ Ok tt }
     {
-        self.kernel.step_told(&mut self.told);
+        // The digits are changed long before they are copied, so that the copy does not have to wait for them.
         self.count.increase();
+        self.kernel.step_recorded(&mut self.report);
         match self.detail {
             Detail::Line => {
-                line_is_short(names, &self.told);
-                self.lines.put_line(names, &self.count, &self.told);
+                line_is_short(names, &self.report);
+                self.lines
+                    .put_kept_line(names, &self.count, &self.report, &self.echo);
                 Ok(())
             }
             _ => self.put_entry(names),
@@ -222,6 +266,7 @@ impl Answering {
     }
 
     /// Passes on what is told.
+    #[inline(never)]
     fn pass<W: Sink>(&mut self, trace: &mut W) -> Result<(), Failed>
         requires calls { W.failures trace.old < 2 ^ 64 - 1 }
         ensures same { (self.new.feed ≡ self.old.feed) × (self.new.kernel ≡ self.old.kernel) × (self.new.count ≡ self.old.count) × (self.new.detail ≡ self.old.detail) }
@@ -258,16 +303,17 @@ impl Answering {
     }
 
     /// Answers the next event whose line is whole, and says whether there was one.
-    fn answer_next(&mut self, config: &Config) -> Result<bool, RunFault>
+    #[inline(always)]
+    fn answer_next(&mut self, config: &Config) -> Result<bool, Unanswered>
         requires counted { self.old.count ≡ self.old.feed.events }
         requires few { self.old.feed.events ≤ most_events }
         requires processors { length self.old.kernel.processors ≡ config.now.processors }
         requires room { length self.old.lines < full_bytes }
         ensures answers { OnOk result (AnswersOn config.now self.old self.new) }
-        ensures first { IfErr result (λ fault. (d : Detail) (text : List ℕ) (whole : Reading) (old out remaining : List ℕ)
-            → Answers d false config.now text whole old self.old out remaining → FirstEventFault whole fault) }
-        ensures leaves { IfErr result (λ fault. (d : Detail) (text : List ℕ) (whole : Reading) (old out remaining : List ℕ)
-            → Answers d true config.now text whole old self.old out remaining → Leaves d config.now text whole old out fault) }
+        ensures first { IfErr result (λ reason. (d : Detail) (text : List ℕ) (whole : Reading) (old out remaining : List ℕ)
+            → Answers d false config.now text whole old self.old out remaining → FirstEventFault whole (fault_of reason)) }
+        ensures leaves { IfErr result (λ reason. (d : Detail) (text : List ℕ) (whole : Reading) (old out remaining : List ℕ)
+            → Answers d true config.now text whole old self.old out remaining → Leaves d config.now text whole old out (fault_of reason)) }
         ensures kept { OnErr result (pending self.new ≡ pending self.old) }
         ensures counted { OnOk result (self.new.count ≡ self.new.feed.events) }
         ensures moves { IfOk result (λ more. self.new.feed.events ≡ self.old.feed.events + (if more then 1 else 0)) }
@@ -276,17 +322,20 @@ impl Answering {
         ensures wanting { IfOk result (λ more. more ≡ false → IsWanting self.new.feed) }
         ensures done { IfOk result (λ more. more ≡ false → self.new.feed.ended ≡ true → IsDone config.now.names self.new.feed) }
         ensures same { (self.new.feed.ended ≡ self.old.feed.ended) × (self.new.feed.taken ≡ self.old.feed.taken) × (self.new.feed.dropped ≡ self.old.feed.dropped) }
-        ensures kinds { IfErr result (λ fault. (is_read fault ≡ false) × (is_config fault ≡ false) × (is_write fault ≡ false)) }
-        ensures no_thread_fault { IfErr result (λ fault. is_thread_fault fault ≡ false) }
+        ensures kinds { IfErr result (λ reason. (is_read (fault_of reason) ≡ false) × (is_config (fault_of reason) ≡ false) × (is_write (fault_of reason) ≡ false)) }
+        ensures no_thread_fault { IfErr result (λ reason. is_thread_fault (fault_of reason) ≡ false) }
     {
         let names = config.names();
-        match self.feed.next_into(names, &mut self.told.event) {
+        match self
+            .feed
+            .next_into(names, &mut self.report.event, &mut self.echo)
+        {
             Ok(true) => {
                 self.answer(names)?;
                 Ok(true)
             }
             Ok(false) => Ok(false),
-            Err(fault) => Err(RunFault::Text(fault)),
+            Err(fault) => Err(Unanswered::Text(fault)),
         }
     }
 

@@ -8,7 +8,7 @@ use Rattle.fmp_text.specs.Limits.{most_bytes}
 use Rattle.fmp_text.specs.declared.fault.TextFault.{TextFault}
 use Rattle.fmp_trace_check.specs.declared.checking.Verdict.{Verdict}
 use Rattle.fmp_trace_check.specs.Checking.{Judges}
-use Rattle.fmp_trace.specs.Prints.{FaultBehind, FirstFault}
+use Rattle.fmp_trace.specs.Prints.{FaultAfter, FirstFault}
 use Rattle.fmp_run_texts.specs.Traces.{Checked}
 use Rattle.fmp_run_devices.specs.Devices.{ReadUpTo}
 use Rattle.fmp_run_texts.specs.Texts.{SaysConfig}
@@ -28,7 +28,7 @@ read_length all text rest read = rw (read.prefix, length-append) (omega arith)
 -- the first fault of what was read of a trace is that of the trace
 pub first_of_trace : (names : NameLists) (all text rest : List ℕ) (fault : TextFault) → ReadUpTo most_bytes all text rest → FirstFault names text fault → FirstFault names all fault
 first_of_trace names all text rest fault read (inl (long, is)) = let short = read_length all text rest read in inl (omega (arith, long, short), is)
-first_of_trace names all text rest fault read (inr behind) = inr (subst (λ (t : List ℕ). FaultBehind names t fault) (read_whole all text rest read behind.short) behind)
+first_of_trace names all text rest fault read (inr following) = inr (subst (λ (t : List ℕ). FaultAfter names t fault) (read_whole all text rest read following.short) following)
 
 pub first_or_memory : (names : NameLists) (all text rest : List ℕ) (fault : TextFault) → ReadUpTo most_bytes all text rest →
     FirstFault names text fault ⊎ IsMemory fault → FirstFault names all fault ⊎ IsMemory fault

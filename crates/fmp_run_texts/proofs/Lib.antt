@@ -3,3 +3,4 @@ pub mod Grammars  -- A configuration that is read of a text is one that the text
 pub mod Yes  -- The trace that answers some events is checked with yes.
 pub mod JudgedTexts  -- The verdict on a trace that was read up to its limit is the verdict on its text.
 pub mod Owed  -- What a run owes to both texts, by how far it came.
+pub mod RightConfig  -- A text that says a configuration has no fault.

@@ -82,7 +82,7 @@ module _ (IsFirst : List ℕ → List ℕ → RunFault → Type 0) (config_old c
     no_thread_fault = threads;
   }
 
-  -- behind the verdict, a fault that neither text has
+  -- after the verdict, a fault that neither text has
   pub failed_late : (fault : RunFault) → is_config fault ≡ false → is_text fault ≡ false → is_thread_fault fault ≡ false → IsFirst (bytes_of config_old) (bytes_of trace_old) fault
       → JudgesTexts IsFirst config_old config_new trace_old trace_new (Err fault)
   failed_late fault no_config no_text threads none = record {

@@ -58,6 +58,6 @@ pub record CountsReads {T : Type 0} (result : Result T RunFault) (first_old firs
   pub first : first_old ≤ first_new
   pub second : second_old ≤ second_new
 
--- Where a run ended with a failed write or flush: no read failed, or one did, and behind it only the flush, so that this is so.
+-- Where a run ended with a failed write or flush: no read failed, or one did, and after it only the flush, so that this is so.
 abbrev pub FlushFails : ℕ → ℕ → Type 0 → Type 0
 FlushFails old new Whole = (new ≡ old) ⊎ ((new ≡ old + 1) × Whole)

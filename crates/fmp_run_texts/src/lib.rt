@@ -6,7 +6,8 @@
 //! with a [`Status`]. However a run ended, [`pass_on`] passes on what its sink holds back.
 //!
 //! What a text says, and that a fault is its first one, is stated in `specs/Texts` by grammars that know no reader; what a
-//! verdict says in `specs/Traces`, and there, in `JudgesTexts`, what each run that judges a trace owes to both texts.
+//! verdict says in `specs/Traces`, and there, in `JudgesTexts`, what each run that judges a trace owes to both texts. What runs owe to
+//! their texts and devices, whatever they write, is in `specs/Owed`.
 #![tactic(auto)]
 
 mod fault;

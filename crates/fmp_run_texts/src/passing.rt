@@ -6,7 +6,7 @@ ghost use Rattle.fmp_run_texts.specs.Faults.{failed_write};
 use crate::fault::RunFault;
 use fmp_run_devices::Sink;
 
-/// Passes on what the sink holds back behind a run that ended so, and answers how the run ended, or that the flush failed. Behind
+/// Passes on what the sink holds back after a run that ended so, and answers how the run ended, or that the flush failed. After
 /// a failed write nothing more is asked of the sink.
 pub fn pass_on<W: Sink>(ended: Result<(), RunFault>, sink: &mut W) -> Result<(), RunFault>
     requires { failed_write ended ≡ false → W.failures sink.old < 2 ^ 64 - 1 }

@@ -19,7 +19,7 @@ grown f n line old between new more before here =
 nothing : (f : ℕ → List ℕ) (old : List ℕ) → f 0 ≡ [] → old ≡ old ++ f 0
 nothing f old none = sym (ap (λ (xs : List ℕ). old ++ xs) none ∙ append-nil old)
 
--- the lines of two lists of changes, one behind the other
+-- the lines of two lists of changes, one after the other
 pub lines_append : (xs ys : List Change) → lines_of (xs ++ ys) ≡ lines_of xs ++ lines_of ys
 lines_append [] ys = refl
 lines_append (x ∷ xs) ys =

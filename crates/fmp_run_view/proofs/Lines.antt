@@ -31,7 +31,7 @@ module _ (names : NameLists) (valid : AreValid names) (n : ℕ) (rest : List ℕ
         let small : n < 2 ^ 64 = omega (arith, few) in
         ap (event_of names) (core_is r rs text) ∙ guess-event names (core_text names n r) r (line_guessed names r valid fit.0 n small)
 
-    -- the others are left behind it
+    -- the others are left after it
     pub after_is : (r : Record) (rs : List Record) → rest ≡ lines_from names n (r ∷ rs) → after ≡ lines_from names (n + 1) rs
     after_is r rs text =
         let same : Some after ≡ Some (lines_from names (n + 1) rs) = sym cut ∙ ap (λ (p : List ℕ × Option (List ℕ)). p.1) (first_line names n rest r rs valid text) in
@@ -45,9 +45,9 @@ module _ (names : NameLists) (valid : AreValid names) (n : ℕ) (rest : List ℕ
         omega (arith, less, none)
 
     -- a line that was printed tells an event
-    pub is_told : (left : List Record) → rest ≡ lines_from names n left → AllFit names left → n + length left ≤ most_events + 1 → event_of names line ≡ None → ⊥
-    is_told [] text fit few none = not_over text
-    is_told (first ∷ others) text fit few none = let one : None ≡ Some first.event = sym none ∙ event_is first others text fit few in absurd cc
+    pub is_reported : (left : List Record) → rest ≡ lines_from names n left → AllFit names left → n + length left ≤ most_events + 1 → event_of names line ≡ None → ⊥
+    is_reported [] text fit few none = not_over text
+    is_reported (first ∷ others) text fit few none = let one : None ≡ Some first.event = sym none ∙ event_is first others text fit few in absurd cc
 
   -- where no line is left, no record is
   pub none_left : (left : List Record) → rest ≡ lines_from names n left → (cut_at 10 rest).1 ≡ None → left ≡ []

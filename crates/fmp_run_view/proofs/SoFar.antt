@@ -16,9 +16,9 @@ use Rattle.fmp_run_devices.proofs.Begun.{begun_first, begun_second}
 use Rattle.fmp_run_page.specs.Escapes.{escaped, escaped_byte}
 use Rattle.fmp_run_page.specs.Parts.{part}
 use Rattle.fmp_run_view.specs.Changes.{event_text, events_text, values_text}
-use Rattle.fmp_run_view.specs.Moments.{Moment, at_boot, behind}
+use Rattle.fmp_run_view.specs.Moments.{Moment, at_boot, following}
 use Rattle.fmp_run_view.specs.Pages.{end_text, page_of, start_of, start_text}
-use Rattle.fmp_run_view.proofs.Lines.{after_is, event_is, is_told as told_is, none_left, not_over}
+use Rattle.fmp_run_view.proofs.Lines.{after_is, event_is, is_reported as report_is, none_left, not_over}
 
 -- what is written whole was begun
 pub all_begun : (old page new : List ℕ) → new ≡ old ++ page → BeginsWith old page new
@@ -37,15 +37,15 @@ pub escaped-append : (xs ys : List ℕ) → escaped (xs ++ ys) ≡ escaped xs ++
 escaped-append [] ys = refl
 escaped-append (x ∷ xs) ys = ap (λ (zs : List ℕ). escaped_byte x ++ zs) (escaped-append xs ys) ∙ sym (append_assoc (escaped_byte x) (escaped xs) (escaped ys))
 
--- what stands behind a moment, where these are the events from there on
+-- what stands after a moment, where these are the events from there on
 unfoldable pub rest_of : Setup → Moment → List Event → List ℕ
 rest_of c m es = escaped (events_text c m es) ++ end_text
 
-rest-cons : (c : Setup) (m : Moment) (e : Event) (es : List Event) → rest_of c m (e ∷ es) ≡ escaped (event_text c m (behind m e)) ++ rest_of c (behind m e) es
+rest-cons : (c : Setup) (m : Moment) (e : Event) (es : List Event) → rest_of c m (e ∷ es) ≡ escaped (event_text c m (following m e)) ++ rest_of c (following m e) es
 unfolding rest_of events_text
 rest-cons c m e es =
-    ap (λ (xs : List ℕ). xs ++ end_text) (escaped-append (event_text c m (behind m e)) (events_text c (behind m e) es))
-    ∙ append_assoc (escaped (event_text c m (behind m e))) (escaped (events_text c (behind m e) es)) end_text
+    ap (λ (xs : List ℕ). xs ++ end_text) (escaped-append (event_text c m (following m e)) (events_text c (following m e) es))
+    ∙ append_assoc (escaped (event_text c m (following m e))) (escaped (events_text c (following m e) es)) end_text
 
 rest-nil : (c : Setup) (m : Moment) → rest_of c m [] ≡ end_text
 unfolding rest_of events_text
@@ -78,23 +78,23 @@ begins c tells text trace given old written records prints out = record {
   out = out;
 }
 
--- The same behind the next record, with this event, which is shown as well.
+-- The same after the next record, with this event, which is shown as well.
 record Next (c : Setup) (names : NameLists) (n : ℕ) (m : Moment) (after shown whole : List ℕ) (e : Event) : Type 0 where
   pub others : List Record
   pub text : after ≡ lines_from names (n + 1) others
   pub fit : AllFit names others
   pub few : (n + 1) + length others ≤ most_events + 1
-  pub ends : (shown ++ escaped (event_text c m (behind m e))) ++ rest_of c (behind m e) (events_of others) ≡ whole
+  pub ends : (shown ++ escaped (event_text c m (following m e))) ++ rest_of c (following m e) (events_of others) ≡ whole
 
 module _ (c : Setup) (names : NameLists) (valid : AreValid names) (n : ℕ) (m : Moment) (rest line after : List ℕ) (is_line : (cut_at 10 rest).0 ≡ line) (cut : (cut_at 10 rest).1 ≡ Some after) where
   next_of : (left : List Record) (shown whole : List ℕ) (e : Event) → rest ≡ lines_from names n left → AllFit names left → n + length left ≤ most_events + 1
       → shown ++ rest_of c m (events_of left) ≡ whole → event_of names line ≡ Some e → Next c names n m after shown whole e
-  next_of [] shown whole e text fit few ends told = absurd (not_over names valid n rest line after is_line cut text)
-  next_of (first ∷ others) shown whole e text fit few ends told =
-      let one : Some first.event ≡ Some e = sym (event_is names valid n rest line after is_line cut first others text fit few) ∙ told in
+  next_of [] shown whole e text fit few ends report = absurd (not_over names valid n rest line after is_line cut text)
+  next_of (first ∷ others) shown whole e text fit few ends report =
+      let one : Some first.event ≡ Some e = sym (event_is names valid n rest line after is_line cut first others text fit few) ∙ report in
       let same : first.event ≡ e = cc in
-      let change = escaped (event_text c m (behind m first.event)) in
-      let events = rest_of c (behind m first.event) (events_of others) in
+      let change = escaped (event_text c m (following m first.event)) in
+      let events = rest_of c (following m first.event) (events_of others) in
       let next : Next c names n m after shown whole first.event = record {
         others = others;
         text = after_is names valid n rest line after is_line cut first others text;
@@ -106,13 +106,13 @@ module _ (c : Setup) (names : NameLists) (valid : AreValid names) (n : ℕ) (m :
 
   module _ (tells : Bool) (old written whole : List ℕ) (s : SoFar c names tells n m rest old written whole) where
     -- a line that was printed tells an event
-    pub is_told : event_of names line ≡ None → ⊥
-    is_told none = told_is names valid n rest line after is_line cut s.left s.text s.fit s.few none
+    pub is_reported : event_of names line ≡ None → ⊥
+    is_reported none = report_is names valid n rest line after is_line cut s.left s.text s.fit s.few none
 
-    pub goes_on : (e : Event) (next : Moment) (new : List ℕ) → event_of names line ≡ Some e → next ≡ behind m e
+    pub goes_on : (e : Event) (next : Moment) (new : List ℕ) → event_of names line ≡ Some e → next ≡ following m e
         → (IsTrue tells → new ≡ written ++ escaped (event_text c m next)) → SoFar c names tells (n + 1) next after old new whole
-    goes_on e next new told next_is more =
-        let step_on = next_of s.left s.shown whole e s.text s.fit s.few s.ends told in
+    goes_on e next new report next_is more =
+        let step_on = next_of s.left s.shown whole e s.text s.fit s.few s.ends report in
         record {
           left = step_on.others;
           shown = s.shown ++ escaped (event_text c m next);
@@ -124,10 +124,10 @@ module _ (c : Setup) (names : NameLists) (valid : AreValid names) (n : ℕ) (m :
         }
 
     -- a write that failed
-    pub is_cut : (e : Event) (next : Moment) (new : List ℕ) → event_of names line ≡ Some e → next ≡ behind m e → IsTrue tells
+    pub is_cut : (e : Event) (next : Moment) (new : List ℕ) → event_of names line ≡ Some e → next ≡ following m e → IsTrue tells
         → BeginsWith written (escaped (event_text c m next)) new → BeginsWith old whole new
-    is_cut e next new told next_is tell begun =
-        let step_on = next_of s.left s.shown whole e s.text s.fit s.few s.ends told in
+    is_cut e next new report next_is tell begun =
+        let step_on = next_of s.left s.shown whole e s.text s.fit s.few s.ends report in
         let change = escaped (event_text c m next) in
         let events = rest_of c next (events_of step_on.others) in
         let ends : (s.shown ++ change) ++ events ≡ whole = rw next_is step_on.ends in

@@ -6,7 +6,7 @@ use Rattle.std.proofs.lemmas.List.{append-nil}
 use Rattle.fmp_bytes.specs.Bytes.{cut_at}
 use Rattle.fmp_codes.specs.declared.records.Event.{Event}
 use Rattle.fmp_codes.specs.declared.records.Record.{Record}
-use Rattle.fmp_trace_check.proofs.CheckedTexts.{told}
+use Rattle.fmp_trace_check.proofs.CheckedTexts.{report}
 use Rattle.fmp_trace_check.proofs.Compared.{differing}
 use Rattle.fmp_rules.specs.Arrivals.{State, numbered}
 use Rattle.fmp_rules.specs.Step.{step}
@@ -16,7 +16,7 @@ use Rattle.fmp_trace.specs.Fits.{AllFit}
 use Rattle.fmp_trace.specs.Heads.{event_of}
 use Rattle.fmp_trace.specs.Lines.{core_text, line_text, lines_from}
 use Rattle.fmp_run_view.specs.Given.{given_beside, given_text}
-use Rattle.fmp_run_view.proofs.Lines.{after_is, core_is, event_is, is_told, none_left, not_over}
+use Rattle.fmp_run_view.proofs.Lines.{after_is, core_is, event_is, is_reported, none_left, not_over}
 
 -- one record more
 given-cons : (names : NameLists) (w : State) (n : ℕ) (r : Record) (rs : List Record)
@@ -34,17 +34,17 @@ pub record SoFarBeside (names : NameLists) (n : ℕ) (w : State) (rest own given
   pub text : rest ≡ lines_from names n left
   pub fit : AllFit names left
   pub few : n + length left ≤ most_events + 1
-  pub owns : own ++ lines_from names n (told w left) ≡ own_whole
+  pub owns : own ++ lines_from names n (report w left) ≡ own_whole
   pub gives : given ++ given_text (differing names w n left) ≡ given_whole
 
 module _ (names : NameLists) (valid : AreValid names) (n : ℕ) (w : State) (rest own given own_whole given_whole : List ℕ) (s : SoFarBeside names n w rest own given own_whole given_whole) where
   module _ (line after : List ℕ) (is_line : (cut_at 10 rest).0 ≡ line) (cut : (cut_at 10 rest).1 ≡ Some after) where
     -- a line that was printed tells an event
-    pub is_told_beside : event_of names line ≡ None → ⊥
-    is_told_beside none = is_told names valid n rest line after is_line cut s.left s.text s.fit s.few none
+    pub is_reported_beside : event_of names line ≡ None → ⊥
+    is_reported_beside none = is_reported names valid n rest line after is_line cut s.left s.text s.fit s.few none
 
     next_beside : (left : List Record) (e : Event) → rest ≡ lines_from names n left → AllFit names left → n + length left ≤ most_events + 1
-        → own ++ lines_from names n (told w left) ≡ own_whole → given ++ given_text (differing names w n left) ≡ given_whole → event_of names line ≡ Some e
+        → own ++ lines_from names n (report w left) ≡ own_whole → given ++ given_text (differing names w n left) ≡ given_whole → event_of names line ≡ Some e
         → SoFarBeside names (n + 1) (step numbered w e).0 after (own ++ line_text names n (step numbered w e).1) (given ++ given_beside names n (step numbered w e).1 line) own_whole given_whole
     next_beside [] e text fit few owns gives is_event = absurd (not_over names valid n rest line after is_line cut text)
     next_beside (first ∷ others) e text fit few owns gives is_event =
@@ -59,7 +59,7 @@ module _ (names : NameLists) (valid : AreValid names) (n : ℕ) (w : State) (res
           text = after_is names valid n rest line after is_line cut first others text;
           fit = fit.1;
           few = omega (arith, few);
-          owns = append_assoc own (line_text names n answer) (lines_from names (n + 1) (told state others)) ∙ owns;
+          owns = append_assoc own (line_text names n answer) (lines_from names (n + 1) (report state others)) ∙ owns;
           gives = append_assoc given beside (given_text (differing names state (n + 1) others))
               ∙ ap (λ (xs : List ℕ). given ++ xs) (sym (given-cons names w n first others)) ∙ gives;
         } in
@@ -74,7 +74,7 @@ module _ (names : NameLists) (valid : AreValid names) (n : ℕ) (w : State) (res
         rw (own_is, given_is, state_is, answer_is) (next_beside s.left e s.text s.fit s.few s.owns s.gives is_event)
 
   module _ (none : (cut_at 10 rest).1 ≡ None) where
-    over : (left : List Record) → left ≡ [] → own ++ lines_from names n (told w left) ≡ own_whole → given ++ given_text (differing names w n left) ≡ given_whole → (own ≡ own_whole) × (given ≡ given_whole)
+    over : (left : List Record) → left ≡ [] → own ++ lines_from names n (report w left) ≡ own_whole → given ++ given_text (differing names w n left) ≡ given_whole → (own ≡ own_whole) × (given ≡ given_whole)
     over [] is owns gives = (sym (append-nil own) ∙ owns, sym (append-nil given) ∙ gives)
     over (r ∷ rs) is owns gives = absurd cc
 

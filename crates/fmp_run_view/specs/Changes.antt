@@ -5,7 +5,7 @@ use Rattle.fmp_codes.specs.declared.records.Event.{Event}
 use Rattle.fmp_setup.specs.Setup.{Setup}
 use Rattle.fmp_run_view.specs.declared.signal.Signal.{Signal}
 use Rattle.fmp_run_view.specs.declared.signal.TheConstants.{SIGNALS}
-use Rattle.fmp_run_view.specs.Moments.{Moment, at_boot, behind}
+use Rattle.fmp_run_view.specs.Moments.{Moment, at_boot, following}
 use Rattle.fmp_run_view.specs.Signals.{count, identifier}
 use Rattle.fmp_run_view.specs.Values.{value_text}
 
@@ -53,7 +53,7 @@ unfoldable pub number_line : ℕ → List ℕ
 number_line n = codes "#" ++ decimal n ++ codes "\n"
 
 module _ (c : Setup) where
-  -- an event with the values that it changed, by the moments before and behind it
+  -- an event with the values that it changed, by the moments before and after it
   unfoldable pub event_text : Moment → Moment → List ℕ
   event_text before after = number_line after.events ++ lines_of (changes_between c false before after)
 
@@ -64,7 +64,7 @@ module _ (c : Setup) where
   -- the events from a moment on
   unfoldable pub events_text : Moment → List Event → List ℕ
   events_text m [] = []
-  events_text m (e ∷ es) = event_text m (behind m e) ++ events_text (behind m e) es
+  events_text m (e ∷ es) = event_text m (following m e) ++ events_text (following m e) es
 
   -- what stands at boot, and what the events change
   abbrev pub changes_of : List Event → List ℕ

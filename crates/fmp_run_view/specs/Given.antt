@@ -6,7 +6,7 @@ use Rattle.fmp_trace_check.specs.Differences.{Difference}
 use Rattle.fmp_names.specs.Names.{NameLists}
 use Rattle.fmp_trace.specs.Lines.{core_text}
 
--- a line that was given, behind its number
+-- a line that was given, after its number
 unfoldable pub given_line : ℕ → List ℕ → List ℕ
 given_line n line = decimal n ++ codes " " ++ line ++ codes "\n"
 

@@ -21,14 +21,14 @@ pub record Moment : Type 0 where
 abbrev pub at_boot : Setup → Moment
 at_boot c = record { state = booted c; events = 0; ticks = replicate 8 0 }
 
--- the ticks behind an event that was answered so
+-- the ticks after an event that was answered so
 abbrev pub ticked : List ℕ → Event → Answer → List ℕ
 ticked ticks (events.Tick p) answers.Taken = with_item ticks p.number (item 0 ticks p.number + 1)
 ticked ticks e answer = ticks
 
--- the moment behind an event
-abbrev pub behind : Moment → Event → Moment
-behind m e = let did = step numbered m.state e in record { state = did.0; events = m.events + 1; ticks = ticked m.ticks e did.1.answer }
+-- the moment after an event
+abbrev pub following : Moment → Event → Moment
+following m e = let did = step numbered m.state e in record { state = did.0; events = m.events + 1; ticks = ticked m.ticks e did.1.answer }
 
 -- the processor whose ticks count for what is assigned to this one
 abbrev pub clock_of : Timer → Proc → Proc

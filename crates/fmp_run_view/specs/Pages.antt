@@ -34,6 +34,6 @@ start_text setup trace given values =
 abbrev pub start_of : Setup → List ℕ → List ℕ → List ℕ
 start_of c trace given = start_text (setup_text c) trace given (values_text c (at_boot c))
 
--- what stands behind the last event
+-- what stands after the last event
 unfoldable pub end_text : List ℕ
 end_text = text_end ++ tail

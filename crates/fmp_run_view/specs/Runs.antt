@@ -1,5 +1,5 @@
 -- What a run that shows a trace does.
-use Rattle.std.specs.Prelude.{◌≡◌, ◌⊎◌, ℕ, List, [], ◌++◌, map}
+use Rattle.std.specs.Prelude.{◌≡◌, ◌⊎◌, ℕ, List, [], ◌++◌, map, Result, OnOk, IfOk, IfErr}
 use Rattle.fmp_codes.specs.declared.records.Record.{Record}
 use Rattle.fmp_setup.specs.Setup.{Setup}
 use Rattle.fmp_trace_check.specs.declared.checking.Verdict.{Verdict}
@@ -9,7 +9,8 @@ use Rattle.fmp_trace_check.specs.Differences.{differences}
 use Rattle.fmp_trace.specs.Prints.{PrintsWithin}
 use Rattle.fmp_run_texts.specs.declared.fault.RunFault.{RunFault}
 use Rattle.fmp_run_texts.specs.declared.fault.RunFault.TheVariants as run
-use Rattle.fmp_run_devices.specs.Devices.{BeginsWith}
+use Rattle.fmp_run_devices.specs.Devices.{BeginsWith, IsKnown, bytes_of}
+use Rattle.fmp_run_devices.specs.Ends.{Ends, SinkEnd, SourceEnd}
 use Rattle.fmp_run_texts.specs.Texts.{SaysConfig}
 use Rattle.fmp_run_view.specs.declared.run.PageKind.{PageKind}
 use Rattle.fmp_run_view.specs.declared.run.PageKind.TheVariants.{Own, Differences}
@@ -68,6 +69,22 @@ Leaves IsPage old new other = new ≡ old
 -- of the page of a trace
 abbrev pub LeavesShown : PageKind → List ℕ → List ℕ → List ℕ → List ℕ → RunFault → Type 0
 LeavesShown kind config_text trace_text = Leaves (IsPageOf kind config_text trace_text)
+
+-- what a run that shows a trace gives and writes
+pub record WritesPage (kind : PageKind) (config trace : Ends SourceEnd) (page : Ends SinkEnd) (result : Result Verdict RunFault) : Type 0 where
+  -- the verdict is right, and the page was written, all of it, if there is one
+  pub shown : IsKnown config.old.left → IsKnown trace.old.left → IsKnown page.old.written
+      → IfOk result (Shown kind (bytes_of config.old.left) (bytes_of trace.old.left) (bytes_of page.old.written) (bytes_of page.new.written))
+  -- of which nothing is held back
+  pub passed : IfOk result (λ verdict. verdict ≡ Yes → page.new.buffered ≡ [])
+  pub all_passed : kind ≡ Differences → OnOk result (page.new.buffered ≡ [])
+  -- of a trace that is the machine's own both kinds are the same page, on which no line differs
+  pub same : IsKnown config.old.left → IsKnown trace.old.left → IsKnown page.old.written
+      → IfOk result (λ verdict. verdict ≡ Yes
+      → Shown Own (bytes_of config.old.left) (bytes_of trace.old.left) (bytes_of page.old.written) (bytes_of page.new.written) Yes)
+  -- after a failed write or flush a beginning of the page is out, after want of memory such a beginning or nothing, and after any other fault nothing
+  pub leaves : IsKnown config.old.left → IsKnown trace.old.left → IsKnown page.old.written
+      → IfErr result (LeavesShown kind (bytes_of config.old.left) (bytes_of trace.old.left) (bytes_of page.old.written) (bytes_of page.new.written))
 
 -- memory ran out, or a write failed
 abbrev pub IsLate : RunFault → Type 0

@@ -5,7 +5,7 @@ use Rattle.fmp_setup.specs.Setup.{Setup}
 use Rattle.fmp_run_view.specs.declared.signal.Signal.{Signal}
 use Rattle.fmp_run_view.specs.declared.signal.Signal.TheVariants.{Running, Flags, Due, State, Place, Rest, Semaphore, Eventflag, DataQueue, Pool, Cyclic, Alarm, SpinLock}
 use Rattle.fmp_run_view.specs.Changes.{Change, changes_between}
-use Rattle.fmp_run_view.specs.Moments.{Moment, at_boot, behind}
+use Rattle.fmp_run_view.specs.Moments.{Moment, at_boot, following}
 use Rattle.fmp_run_view.specs.Signals.{count}
 use Rattle.fmp_run_view.specs.Values.{value_text}
 
@@ -41,21 +41,21 @@ abbrev pub put : List Change → Table → Table
 put [] t = t
 put (x ∷ xs) t = put xs (with_change x t)
 
--- the moment behind these events
-abbrev pub behind_all : Moment → List Event → Moment
-behind_all m [] = m
-behind_all m (e ∷ es) = behind_all (behind m e) es
+-- the moment after these events
+abbrev pub after_all : Moment → List Event → Moment
+after_all m [] = m
+after_all m (e ∷ es) = after_all (following m e) es
 
 module _ (c : Setup) where
   -- those of these events, from a moment on
-  abbrev pub told : Moment → List Event → Table → Table
-  told m [] t = t
-  told m (e ∷ es) t = told (behind m e) es (put (changes_between c false m (behind m e)) t)
+  abbrev pub report : Moment → List Event → Table → Table
+  report m [] t = t
+  report m (e ∷ es) t = report (following m e) es (put (changes_between c false m (following m e)) t)
 
-  -- what stands in each place behind these events, where nothing stood there before
-  unfoldable pub told_since_boot : List Event → Table
-  told_since_boot es = told (at_boot c) es (put (changes_between c true (at_boot c) (at_boot c)) (λ signal i. []))
+  -- what stands in each place after these events, where nothing stood there before
+  unfoldable pub report_since_boot : List Event → Table
+  report_since_boot es = report (at_boot c) es (put (changes_between c true (at_boot c) (at_boot c)) (λ signal i. []))
 
   -- it is the value that the model's state has then
-  abbrev pub AreTold : List Event → Type 0
-  AreTold es = (signal : Signal) (i : ℕ) → i < count c signal → told_since_boot es signal i ≡ value_text (behind_all (at_boot c) es) signal i
+  abbrev pub AreReported : List Event → Type 0
+  AreReported es = (signal : Signal) (i : ℕ) → i < count c signal → report_since_boot es signal i ≡ value_text (after_all (at_boot c) es) signal i

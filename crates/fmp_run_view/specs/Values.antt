@@ -42,14 +42,14 @@ handler_text (runners.Task t) = codes "T" ++ decimal t.number
 handler_text (runners.Alarm a) = codes "A" ++ decimal a.number
 handler_text (runners.Cyclic c) = codes "C" ++ decimal c.number
 
-abbrev pub handlers_behind : List Runner → List ℕ
-handlers_behind [] = []
-handlers_behind (r ∷ rs) = codes "," ++ handler_text r ++ handlers_behind rs
+abbrev pub handlers_after : List Runner → List ℕ
+handlers_after [] = []
+handlers_after (r ∷ rs) = codes "," ++ handler_text r ++ handlers_after rs
 
 -- the due handlers, the running one first
 abbrev pub due_text : List Runner → List ℕ
 due_text [] = codes "-"
-due_text (r ∷ rs) = handler_text r ++ handlers_behind rs
+due_text (r ∷ rs) = handler_text r ++ handlers_after rs
 
 abbrev pub state_letter : TaskState → List ℕ
 state_letter Dormant = codes "-"

@@ -2,11 +2,17 @@
 ghost use Rattle.std.specs.Prelude.{◌≡◌, ◌≢◌, ◌++◌, ◌<◌, not, IfOk, IsTrue, OnOk, true, false};
 ghost use Rattle.std.specs.Str.{bytes_eq};
 ghost use Rattle.fmp_run_view.specs.Changes as spec;
-ghost use Rattle.fmp_run_view.specs.Signals.{count as told_count, most};
+ghost use Rattle.fmp_run_view.specs.Leaving.{Leaves, may_change};
+ghost use Rattle.fmp_run_view.specs.Signals.{count as report_count, most};
 ghost use Rattle.fmp_run_view.specs.Values.{value_text};
 
 use crate::player::Player;
 use crate::signal::{SIGNALS, Signal, count, put_identifier};
+use fmp_codes::Record;
+use fmp_law_frames::{
+    moves_buffers, moves_due, moves_locks, moves_order, moves_sync, moves_tasks, moves_time,
+    moves_waits,
+};
 use fmp_rules::Config;
 use fmp_trace::put_number;
 use std::alloc::{AllocError, Global};
@@ -92,7 +98,7 @@ fn put_changes_of(
     after: &Player,
     signal: Signal,
 ) -> Result<(), AllocError>
-    ensures { OnOk result (out.new.items ≡ out.old.items ++ spec.lines_of (spec.changes_to config.now all before.now after.now signal (told_count config.now signal))) }
+    ensures { OnOk result (out.new.items ≡ out.old.items ++ spec.lines_of (spec.changes_to config.now all before.now after.now signal (report_count config.now signal))) }
 {
     for index in 0..count(config, signal) {
         put_change(out, texts, all, before, after, signal, index)?;
@@ -100,36 +106,80 @@ fn put_changes_of(
     Ok(())
 }
 
+/// Whether some value of a signal may be another after an event of which this is told.
+fn may_change(report: &Record, signal: Signal) -> bool
+    ensures { result ≡ may_change report.now signal }
+{
+    match signal {
+        Signal::Running => moves_tasks(report) || report.run_change.is_some(),
+        Signal::Flags => true,
+        Signal::Due => moves_due(report),
+        Signal::State => moves_waits(report) || report.run_change.is_some(),
+        Signal::Place => moves_order(report),
+        Signal::Rest => moves_tasks(report),
+        Signal::Semaphore | Signal::Eventflag => moves_sync(report),
+        Signal::DataQueue | Signal::Pool => moves_buffers(report),
+        Signal::Cyclic | Signal::Alarm => moves_time(report),
+        Signal::SpinLock => moves_locks(report),
+    }
+}
+
+/// Adds those lines of a signal. Where changes are told it is looked at only if the event, of which this is told, may have changed it.
+#[tactic(auto, using(crate::proofs::Left::no_line))]
+fn put_signal(
+    out: &mut Vec<u8>,
+    texts: &mut Texts,
+    config: &Config,
+    report: &Record,
+    all: bool,
+    before: &Player,
+    after: &Player,
+    signal: Signal,
+) -> Result<(), AllocError>
+    requires { all ≡ false → Leaves report.now before.now after.now }
+    ensures { OnOk result (out.new.items ≡ out.old.items ++ spec.lines_of (spec.changes_to config.now all before.now after.now signal (report_count config.now signal))) }
+{
+    if !all && !may_change(report, signal) {
+        return Ok(());
+    }
+    put_changes_of(out, texts, config, all, before, after, signal)
+}
+
 /// Adds those lines of some signals.
 fn put_changes_over(
     out: &mut Vec<u8>,
     texts: &mut Texts,
     config: &Config,
+    report: &Record,
     all: bool,
     before: &Player,
     after: &Player,
     signals: &[Signal],
 ) -> Result<(), AllocError>
+    requires { all ≡ false → Leaves report.now before.now after.now }
     ensures { OnOk result (out.new.items ≡ out.old.items ++ spec.lines_over config.now all before.now after.now signals.now) }
 {
     for signal in signals {
-        put_changes_of(out, texts, config, all, before, after, *signal)?;
+        put_signal(out, texts, config, report, all, before, after, *signal)?;
     }
     Ok(())
 }
 
-/// Adds those lines of all signals: all where they are told for the first time, else those of the values that changed.
+/// Adds those lines of all signals: all where they are told for the first time, else those of the values that the event changed of which
+/// this is told.
 pub(crate) fn put_changes(
     out: &mut Vec<u8>,
     texts: &mut Texts,
     config: &Config,
+    report: &Record,
     all: bool,
     before: &Player,
     after: &Player,
 ) -> Result<(), AllocError>
+    requires { all ≡ false → Leaves report.now before.now after.now }
     ensures { OnOk result (out.new.items ≡ out.old.items ++ spec.lines_of (spec.changes_between config.now all before.now after.now)) }
 {
-    put_changes_over(out, texts, config, all, before, after, SIGNALS)
+    put_changes_over(out, texts, config, report, all, before, after, SIGNALS)
 }
 
 /// Adds the number of the last event.

@@ -21,13 +21,13 @@ use std::alloc::{AllocError, Global};
 pub(crate) struct Contrast {
     /// The machine's own lines to the events of the trace, each ended by a line feed.
     pub(crate) own: Vec<u8>,
-    /// The lines that were given where these differ, each behind its number and a blank, and ended by a line feed.
+    /// The lines that were given where these differ, each after its number and a blank, and ended by a line feed.
     pub(crate) given: Vec<u8>,
     /// The machine's own line that was added last, without its line feed.
     line: Vec<u8>,
 }
 
-/// Adds a line that was given, behind its number.
+/// Adds a line that was given, after its number.
 #[tactic(auto, unfolding(crate::specs::Given::given_line))]
 fn put_given(out: &mut Vec<u8>, number: u32, line: &[u8]) -> Result<(), AllocError>
     ensures { OnOk result (out.new.items ≡ out.old.items ++ spec.given_line number line.now) }
@@ -57,14 +57,14 @@ impl Contrast {
         &mut self,
         names: &Names,
         number: u32,
-        told: &Record,
+        report: &Record,
         line: &[u8],
     ) -> Result<(), AllocError>
-        ensures own { OnOk result (self.new.own.items ≡ self.old.own.items ++ line_text names.now number told.now) }
-        ensures given { OnOk result (self.new.given.items ≡ self.old.given.items ++ spec.given_beside names.now number told.now line.now) }
+        ensures own { OnOk result (self.new.own.items ≡ self.old.own.items ++ line_text names.now number report.now) }
+        ensures given { OnOk result (self.new.given.items ≡ self.old.given.items ++ spec.given_beside names.now number report.now line.now) }
     {
         self.line.clear();
-        put_core(&mut self.line, names, number, told)?;
+        put_core(&mut self.line, names, number, report)?;
         if !is_same(self.line.as_slice(), line) {
             put_given(&mut self.given, number, line)?;
         }
@@ -92,7 +92,7 @@ pub(crate) fn contrast_of(
     let names = config.names();
     names.validity();
     let mut plain = Plain::boot(config)?;
-    let mut told = Record::answer(Event::Tick(Proc::new(1)), None, Answer::Nothing);
+    let mut report = Record::answer(Event::Tick(Proc::new(1)), None, Answer::Nothing);
     let mut found = Contrast::new(alloc);
     let mut number: u32 = 1;
     let mut rest = text;
@@ -100,8 +100,8 @@ pub(crate) fn contrast_of(
         let Some(event) = event_of(names, line) else {
             return Ok(found);
         };
-        plain.step_into(event, &mut told);
-        found.add(names, number, &told, line)?;
+        plain.step_into(event, &mut report);
+        found.add(names, number, &report, line)?;
         number += 1;
         rest = after;
     }

@@ -22,5 +22,5 @@ mod states;
 mod value;
 mod values;
 
-pub use laws::states_are_told;
+pub use laws::states_are_reported;
 pub use run::{PageKind, run_view};

@@ -3,6 +3,8 @@ ghost use Rattle.std.specs.Prelude.{◌≡◌, ◌+◌, ◌-◌, ◌<◌, ◌≤
 ghost use Rattle.fmp_rules.specs.World.{item};
 ghost use Rattle.fmp_law_safety.specs.Runs.{processor_of};
 ghost use Rattle.fmp_setup.specs.Valid.{IsValid};
+ghost use Rattle.fmp_rules.specs.Arrivals.{numbered};
+ghost use Rattle.fmp_rules.specs.Step.{step};
 ghost use Rattle.fmp_run_view.specs.Moments as spec;
 
 use fmp_codes::{Answer, Event, Object, Proc, Record, Task};
@@ -23,11 +25,10 @@ fn count_tick(ticks: &mut [u32; 8], event: Event, answer: Answer)
     }
 }
 
-/// The plain machine with what it answered last, and how many ticks each processor took so far.
+/// The plain machine, and how many ticks each processor took so far.
 #[derive(Drop)]
 pub(crate) struct Player {
     plain: Plain,
-    told: Record,
     ticks: [u32; 8],
 }
 
@@ -61,20 +62,20 @@ impl Player {
     {
         Ok(Player {
             plain: Plain::boot(config)?,
-            told: Record::answer(Event::Tick(Proc::new(1)), None, Answer::Nothing),
             ticks: [0; 8],
         })
     }
 
-    /// Plays an event.
-    pub(crate) fn play(&mut self, event: Event)
+    /// Plays an event, and makes a record tell what it answered and did.
+    pub(crate) fn play(&mut self, event: Event, report: &mut Record)
         requires on { (processor_of event).number ≤ length self.old.state.processors }
         requires room { self.old.events < 2 ^ 32 - 1 }
-        ensures moment { self.new ≡ spec.behind self.old event }
+        ensures moment { self.new ≡ spec.following self.old event }
+        ensures report { report.new ≡ (step numbered self.old.state event).1 }
         ensures processors { length self.new.state.processors ≡ length self.old.state.processors }
     {
-        self.plain.step_into(event, &mut self.told);
-        count_tick(&mut self.ticks, event, self.told.answer);
+        self.plain.step_into(event, report);
+        count_tick(&mut self.ticks, event, report.answer);
     }
 
     /// The machine in its state now.

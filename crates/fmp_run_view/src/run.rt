@@ -1,14 +1,15 @@
 //! The run that shows a trace.
-ghost use Rattle.std.specs.Prelude.{◌≡◌, ◌≢◌, ◌+◌, ◌-◌, ◌^◌, ◌<◌, ◌≤◌, List, ◌++◌, [], length, map, OnOk, OnErr, IfOk, IfErr, Ok, Err, false, if◌then◌else◌};
+ghost use Rattle.std.specs.Prelude.{◌≡◌, ◌≢◌, ◌+◌, ◌-◌, ◌^◌, ◌<◌, ◌≤◌, List, ◌++◌, [], length, map, OnOk, OnErr, IfErr, Ok, Err, false, if◌then◌else◌};
 ghost use Rattle.fmp_codes.specs.declared.records.Record.{Record as AnyRecord};
 ghost use Rattle.fmp_text.specs.Limits.{most_bytes as MOST_BYTES};
 ghost use Rattle.fmp_trace_check.specs.Checking.{Judges};
 ghost use Rattle.fmp_trace.specs.Prints.{PrintsWithin};
-ghost use Rattle.fmp_run_texts.specs.Traces.{FirstTraceFault, JudgesTexts};
+ghost use Rattle.fmp_run_texts.specs.Traces.{FirstTraceFault};
 ghost use Rattle.fmp_run_devices.specs.Devices.{BeginsWith, IsKnown, bytes_of};
+ghost use Rattle.fmp_run_devices.specs.Ends.{sink_ends, source_ends};
 ghost use Rattle.fmp_run_texts.specs.Faults.{failed_write, is_thread_fault};
-ghost use Rattle.fmp_run_texts.specs.Texts.{CountsReads};
-ghost use Rattle.fmp_run_view.specs.Runs.{IsLate, IsPageOut, IsShownBy, Leaves, LeavesShown, Shown, Shows};
+ghost use Rattle.fmp_run_texts.specs.Owed.{OwesTrace};
+ghost use Rattle.fmp_run_view.specs.Runs.{IsLate, IsPageOut, IsShownBy, Leaves, Shows, WritesPage};
 ghost use Rattle.fmp_run_view.specs.Pages.{page_of};
 
 use crate::contrast::contrast_of;
@@ -131,34 +132,13 @@ pub fn run_view<R: Source, S: Source, W: Sink>(
     requires trace_calls { S.failures trace.old < 2 ^ 64 - 1 }
     requires page_calls { W.failures page.old < 2 ^ 64 - 1 }
 
-    // The verdict is right, and the page was written, all of it. None of it is held back.
-    ensures known { IsKnown (W.written page.old) → IsKnown (W.written page.new) }
-    ensures shown { IsKnown (R.left config.old) → IsKnown (S.left trace.old) → IsKnown (W.written page.old)
-        → IfOk result (Shown kind (bytes_of (R.left config.old)) (bytes_of (S.left trace.old)) (bytes_of (W.written page.old)) (bytes_of (W.written page.new))) }
-    ensures passed { IfOk result (λ verdict. verdict ≡ Verdict.Yes → W.buffered page.new ≡ []) }
-    ensures all_passed { kind ≡ PageKind.Differences → OnOk result (W.buffered page.new ≡ []) }
+    // What it owes to both texts and to its devices, whatever it writes.
+    ensures owes { OwesTrace FirstTraceFault (source_ends R.left R.failures config.old config.new) (source_ends S.left S.failures trace.old trace.new)
+        (sink_ends W.written W.buffered W.failures page.old page.new) result }
 
-    // Of a trace that is the machine's own both kinds are the same page, on which no line differs.
-    ensures same { IsKnown (R.left config.old) → IsKnown (S.left trace.old) → IsKnown (W.written page.old)
-        → IfOk result (λ verdict. verdict ≡ Verdict.Yes
-        → Shown PageKind.Own (bytes_of (R.left config.old)) (bytes_of (S.left trace.old)) (bytes_of (W.written page.old))
-        (bytes_of (W.written page.new)) Verdict.Yes) }
-
-    // What it owes to both texts: they were read to their ends, a trace that is the machine's own has the verdict yes, a fault of a text is its
-    // first one, and no thread was started.
-    ensures texts { JudgesTexts FirstTraceFault (R.left config.old) (R.left config.new) (S.left trace.old) (S.left trace.new) result }
-
-    // After a failed write or flush a beginning of the page is out, after want of memory such a beginning or nothing, and
-    // after any other fault nothing is.
-    ensures leaves { IsKnown (R.left config.old) → IsKnown (S.left trace.old) → IsKnown (W.written page.old)
-        → IfErr result (LeavesShown kind (bytes_of (R.left config.old)) (bytes_of (S.left trace.old)) (bytes_of (W.written page.old)) (bytes_of (W.written page.new))) }
-
-    // However the run ends, nothing is held back, unless a write failed.
-    ensures none_held { W.buffered page.old ≡ [] → result ≢ Err RunFault.Write → W.buffered page.new ≡ [] }
-
-    // Which calls of the devices failed.
-    ensures reads { CountsReads result (R.failures config.old) (R.failures config.new) (S.failures trace.old) (S.failures trace.new) }
-    ensures writes { W.failures page.new ≡ W.failures page.old + (if failed_write result then 1 else 0) }
+    // What it writes: the page of this kind.
+    ensures writes { WritesPage kind (source_ends R.left R.failures config.old config.new) (source_ends S.left S.failures trace.old trace.new)
+        (sink_ends W.written W.buffered W.failures page.old page.new) result }
 {
     let judged = judged_texts(alloc, config, trace)?;
     show_judged(alloc, &judged, kind, page)?;

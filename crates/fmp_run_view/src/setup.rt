@@ -24,7 +24,7 @@ fn limit(config: &Config, kind: ObjectKind, index: usize) -> Option<u64>
     }
 }
 
-/// Adds this limit of an object behind a blank, if there is one.
+/// Adds this limit of an object after a blank, if there is one.
 fn put_limit(out: &mut Vec<u8>, limit: Option<u64>) -> Result<(), AllocError>
     ensures { OnOk result (out.new.items ≡ out.old.items ++ spec.limit_text limit) }
 {

@@ -5,13 +5,14 @@ ghost use Rattle.fmp_run_page.specs.Parts.{part};
 ghost use Rattle.fmp_law_safety.specs.Runs.{processor_of};
 ghost use Rattle.fmp_setup.specs.Valid.{IsValid};
 ghost use Rattle.fmp_run_view.specs.Changes.{event_text, values_text};
-ghost use Rattle.fmp_run_view.specs.Moments.{at_boot, behind};
+ghost use Rattle.fmp_run_view.specs.Moments.{at_boot, following};
+ghost use Rattle.fmp_run_view.specs.Leaving.{Leaves};
 ghost use Rattle.fmp_run_view.specs.Pages as spec;
 
 use crate::changes::{Texts, put_changes, put_number_line};
 use crate::player::Player;
 use crate::setup::put_setup;
-use fmp_codes::Event;
+use fmp_codes::{Answer, Event, Proc, Record};
 use fmp_rules::Config;
 use fmp_run_page::{put_escaped, put_head, put_tail, put_text_begin, put_text_end};
 use std::alloc::{AllocError, Global};
@@ -45,7 +46,7 @@ fn put_start(
     put_escaped(out, values)
 }
 
-/// Adds what stands behind the last event.
+/// Adds what stands after the last event.
 #[tactic(auto, unfolding(crate::specs::Pages::end_text))]
 fn put_end(out: &mut Vec<u8>) -> Result<(), AllocError>
     ensures { OnOk result (out.new.items ≡ out.old.items ++ spec.end_text) }
@@ -54,40 +55,45 @@ fn put_end(out: &mut Vec<u8>) -> Result<(), AllocError>
     put_tail(out)
 }
 
-/// Adds all values at a moment.
+/// Adds all values at a moment, whatever is told of the last event.
 #[tactic(auto, unfolding(crate::specs::Changes::values_text))]
 fn put_values(
     out: &mut Vec<u8>,
     texts: &mut Texts,
     config: &Config,
+    report: &Record,
     player: &Player,
 ) -> Result<(), AllocError>
     ensures { OnOk result (out.new.items ≡ out.old.items ++ values_text config.now player.now) }
 {
     put_number_line(out, player.events())?;
-    put_changes(out, texts, config, true, player, player)
+    put_changes(out, texts, config, report, true, player, player)
 }
 
-/// Adds an event with the values that it changed.
+/// Adds an event with the values that it changed, where this is told of it.
 #[tactic(auto, unfolding(crate::specs::Changes::event_text))]
 fn put_event(
     out: &mut Vec<u8>,
     texts: &mut Texts,
     config: &Config,
+    report: &Record,
     before: &Player,
     after: &Player,
 ) -> Result<(), AllocError>
+    requires { Leaves report.now before.now after.now }
     ensures { OnOk result (out.new.items ≡ out.old.items ++ event_text config.now before.now after.now) }
 {
     put_number_line(out, after.events())?;
-    put_changes(out, texts, config, false, before, after)
+    put_changes(out, texts, config, report, false, before, after)
 }
 
-/// Two machines that play events, one behind the other, and the piece of the page that tells the last event.
+/// Two machines that play events, one after the other, and the piece of the page that tells the last event.
 #[derive(Drop)]
 pub(crate) struct Showing {
     before: Player,
     after: Player,
+    /// What the last event answered and did.
+    report: Record,
     texts: Texts,
     raw: Vec<u8>,
     piece: Vec<u8>,
@@ -109,16 +115,18 @@ impl Showing {
     {
         let before = Player::boot(config)?;
         let after = Player::boot(config)?;
+        let report = Record::answer(Event::Tick(Proc::new(1)), None, Answer::Nothing);
         let mut texts = Texts::new(alloc);
         let mut setup = Vec::new(alloc);
         put_setup(&mut setup, config)?;
         let mut raw = Vec::new(alloc);
-        put_values(&mut raw, &mut texts, config, &before)?;
+        put_values(&mut raw, &mut texts, config, &report, &before)?;
         let mut piece = Vec::new(alloc);
         put_start(&mut piece, setup.as_slice(), trace, given, raw.as_slice())?;
         Ok(Showing {
             before,
             after,
+            report,
             texts,
             raw,
             piece,
@@ -134,6 +142,7 @@ impl Showing {
 
     /// Tells in the piece what changed between the two machines.
     fn tell(&mut self, config: &Config) -> Result<(), AllocError>
+        requires { Leaves self.old.report self.old.before self.old.after }
         ensures piece { OnOk result (self.new.piece.items ≡ escaped (event_text config.now self.old.before self.old.after)) }
         ensures before { self.new.before ≡ self.old.before }
         ensures after { self.new.after ≡ self.old.after }
@@ -143,6 +152,7 @@ impl Showing {
             &mut self.raw,
             &mut self.texts,
             config,
+            &self.report,
             &self.before,
             &self.after,
         )?;
@@ -155,18 +165,18 @@ impl Showing {
         requires same { self.old.after ≡ self.old.before }
         requires on { (processor_of event).number ≤ length self.old.before.state.processors }
         requires room { self.old.before.events < 2 ^ 32 - 1 }
-        ensures before { OnOk result (self.new.before ≡ behind self.old.before event) }
-        ensures after { OnOk result (self.new.after ≡ behind self.old.before event) }
+        ensures before { OnOk result (self.new.before ≡ following self.old.before event) }
+        ensures after { OnOk result (self.new.after ≡ following self.old.before event) }
         ensures processors { OnOk result (length self.new.before.state.processors ≡ length self.old.before.state.processors) }
-        ensures piece { OnOk result (self.new.piece.items ≡ escaped (event_text config.now self.old.before (behind self.old.before event))) }
+        ensures piece { OnOk result (self.new.piece.items ≡ escaped (event_text config.now self.old.before (following self.old.before event))) }
     {
-        self.after.play(event);
+        self.after.play(event, &mut self.report);
         self.tell(config)?;
-        self.before.play(event);
+        self.before.play(event, &mut self.report);
         Ok(())
     }
 
-    /// Makes the piece what stands behind the last event.
+    /// Makes the piece what stands after the last event.
     pub(crate) fn end(&mut self) -> Result<(), AllocError>
         ensures piece { OnOk result (self.new.piece.items ≡ spec.end_text) }
     {

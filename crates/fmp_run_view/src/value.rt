@@ -69,6 +69,31 @@ fn is_till_same(one: Option<u64>, two: Option<u64>) -> bool
     }
 }
 
+/// Whether two who run have the same text.
+#[inline(always)]
+fn has_handler_text_of(one: Runner, two: Runner) -> bool
+    ensures { IsTrue result → spec.handler_text one ≡ spec.handler_text two }
+{
+    match (one, two) {
+        (Runner::Task(a), Runner::Task(b)) => a.number == b.number,
+        (Runner::Alarm(a), Runner::Alarm(b)) => a.number == b.number,
+        (Runner::Cyclic(a), Runner::Cyclic(b)) => a.number == b.number,
+        _ => false,
+    }
+}
+
+/// Whether two lists of due handlers have the same text, as far as that is quickly seen: where both have one handler at most.
+#[inline(always)]
+pub(crate) fn has_due_text_of(one: &[Runner], two: &[Runner]) -> bool
+    ensures { IsTrue result → spec.due_text one.now ≡ spec.due_text two.now }
+{
+    match (one, two) {
+        ([], []) => true,
+        ([a], [b]) => has_handler_text_of(*a, *b),
+        _ => false,
+    }
+}
+
 impl Value {
     /// Whether another value has the same text.
     #[tactic(auto, unfolding(crate::specs::Values::state_text, crate::specs::Values::rest_text, crate::specs::Ticks::started_text))]
@@ -127,7 +152,7 @@ fn put_handler(out: &mut Vec<u8>, handler: Runner) -> Result<(), AllocError>
     }
 }
 
-/// Adds a letter, and a number behind it.
+/// Adds a letter, and a number after it.
 fn put_lettered(out: &mut Vec<u8>, letter: u8, number: u8) -> Result<(), AllocError>
     ensures { OnOk result (out.new.items ≡ out.old.items ++ (letter ∷ []) ++ decimal number) }
 {
@@ -135,9 +160,9 @@ fn put_lettered(out: &mut Vec<u8>, letter: u8, number: u8) -> Result<(), AllocEr
     put_number(out, u64::from(number))
 }
 
-/// Adds handlers, each behind a comma.
-fn put_handlers_behind(out: &mut Vec<u8>, handlers: &[Runner]) -> Result<(), AllocError>
-    ensures { OnOk result (out.new.items ≡ out.old.items ++ spec.handlers_behind handlers.now) }
+/// Adds handlers, each after a comma.
+fn put_handlers_after(out: &mut Vec<u8>, handlers: &[Runner]) -> Result<(), AllocError>
+    ensures { OnOk result (out.new.items ≡ out.old.items ++ spec.handlers_after handlers.now) }
 {
     for handler in handlers {
         out.push(b',')?;
@@ -154,7 +179,7 @@ pub(crate) fn put_due(out: &mut Vec<u8>, due: &[Runner]) -> Result<(), AllocErro
         [] => out.extend_from_slice(b"-"),
         [first, others @ ..] => {
             put_handler(out, *first)?;
-            put_handlers_behind(out, others)
+            put_handlers_after(out, others)
         }
     }
 }

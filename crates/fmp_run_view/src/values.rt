@@ -8,7 +8,7 @@ ghost use Rattle.fmp_run_view.specs.Values as spec;
 
 use crate::player::Player;
 use crate::signal::Signal;
-use crate::value::{Value, put_due, put_value};
+use crate::value::{Value, has_due_text_of, put_due, put_value};
 use fmp_codes::{Object, Proc, Task};
 use fmp_plain_machine::PlainMachine;
 use fmp_rules::Processor;
@@ -147,7 +147,10 @@ impl Player {
         let one = self.machine();
         let two = other.machine();
         match signal {
-            Signal::Due => false,
+            Signal::Due => {
+                let p = Proc::from_index(index);
+                has_due_text_of(one.due(p), two.due(p))
+            }
             Signal::Running => {
                 let p = Proc::from_index(index);
                 running_number(one, p) == running_number(two, p)

@@ -5,3 +5,4 @@ pub mod JudgedTexts  -- What was drawn of a trace that was read and judged is wh
 pub mod Stated  -- The states of tasks, found by how the tasks stand and where they are, are those that are shown.
 pub mod Unchanged  -- Of what is the same no lines are told.
 pub mod Equal  -- What is the same where its numbers are.
+pub mod Left  -- What an event left is shown as before it.

@@ -23,16 +23,16 @@ use Rattle.fmp_run_wave.specs.declared.snapshot.ShownProcessor.{ShownProcessor}
 use Rattle.fmp_rules.specs.declared.states.TaskState.{TaskState}
 use Rattle.fmp_rules.specs.declared.states.TaskState.TheVariants.{Dormant}
 use Rattle.fmp_run_wave.specs.Shown.{nothing_shown, shown_of, shown_processor, shown_task}
-use Rattle.fmp_run_wave.specs.Signs.{runs_at, state_at, states_at, told_state}
+use Rattle.fmp_run_wave.specs.Signs.{runs_at, state_at, states_at, report_state}
 
 -- how a task stands tells its state
-told_by : (t : Task) (running : Option Task) (active : Bool) (x : Option Wait) (suspended : Bool)
-    → told_state (if active then active_kind x suspended else 0) t running ≡ (if active then active_state t x suspended running else Dormant)
-told_by t running false x suspended = refl
-told_by t running true (Some x) true = refl
-told_by t running true (Some x) false = refl
-told_by t running true None true = refl
-told_by t running true None false = refl
+report_by : (t : Task) (running : Option Task) (active : Bool) (x : Option Wait) (suspended : Bool)
+    → report_state (if active then active_kind x suspended else 0) t running ≡ (if active then active_state t x suspended running else Dormant)
+report_by t running false x suspended = refl
+report_by t running true (Some x) true = refl
+report_by t running true (Some x) false = refl
+report_by t running true None true = refl
+report_by t running true None false = refl
 
 -- what is shown of a processor's task is what runs there
 shown_runs : (w : State) (p : Proc) → runs_at (shown_of w).processors p.number ≡ (processor w p).running
@@ -57,8 +57,8 @@ shown_state w t =
     let r : TaskRecord = task w t in
     let kind : item 0 (map kind_of w.tasks) t.number ≡ kind_of r = mapped_or kind_of w.tasks (t.number - 1) no_task in
     let place : item 1 (map place_of w.tasks) t.number ≡ place_of r = mapped_or place_of w.tasks (t.number - 1) no_task in
-    ap₂ (λ (k : ℕ) (o : Option Task). told_state k t o) kind (ap (runs_at (shown_of w).processors) place ∙ shown_runs w r.assigned)
-    ∙ told_by t (processor w r.assigned).running r.active r.wait r.suspended
+    ap₂ (λ (k : ℕ) (o : Option Task). report_state k t o) kind (ap (runs_at (shown_of w).processors) place ∙ shown_runs w r.assigned)
+    ∙ report_by t (processor w r.assigned).running r.active r.wait r.suspended
 
 -- the states of all
 pub shown_states : (w : State) → states_at (shown_of w).processors (map kind_of w.tasks) (map place_of w.tasks) ≡ (shown_of w).tasks
@@ -84,12 +84,12 @@ state_here processors kinds places t =
       | inr b ↦
           let past : count ≤ t.number - 1 = ltb-false (t.number - 1) count b in
           let long : length (map f (range_with_len 1 count)) ≡ count = length-map-range_with_len f 1 count in
-          ap (λ (k : ℕ). told_state k t (runs_at processors (item 1 places t.number))) (get_or_past kinds (t.number - 1) 0 past)
+          ap (λ (k : ℕ). report_state k t (runs_at processors (item 1 places t.number))) (get_or_past kinds (t.number - 1) 0 past)
           ∙ sym (get_or_past (map f (range_with_len 1 count)) (t.number - 1) Dormant (omega (arith, past, long)))
     ]
 
 -- where a task could not run, it does not matter what runs
-idle_state : (k : ℕ) (t : Task) (o o' : Option Task) → (k ≡ 1 → ⊥) → told_state k t o ≡ told_state k t o'
+idle_state : (k : ℕ) (t : Task) (o o' : Option Task) → (k ≡ 1 → ⊥) → report_state k t o ≡ report_state k t o'
 idle_state k t o o' idle = let other = ne_eqb k 1 idle in rw other refl
 
 -- a task that stands so in both
@@ -98,14 +98,14 @@ pub same_idle : (ps qs : List ShownProcessor) (kinds kinds' places places' : Lis
     → item Dormant (states_at ps kinds places) t.number ≡ item Dormant (states_at qs kinds' places') t.number
 same_idle ps qs kinds kinds' places places' t kind idle =
     let runs : Option Task = runs_at qs (item 1 places' t.number) in
-    sym (state_here ps kinds places t) ∙ idle_state _ t (runs_at ps (item 1 places t.number)) runs idle ∙ ap (λ (k : ℕ). told_state k t runs) kind ∙ state_here qs kinds' places' t
+    sym (state_here ps kinds places t) ∙ idle_state _ t (runs_at ps (item 1 places t.number)) runs idle ∙ ap (λ (k : ℕ). report_state k t runs) kind ∙ state_here qs kinds' places' t
 
 -- the same at a processor that runs the same
 pub same_state : (ps qs : List ShownProcessor) (kinds kinds' places places' : List ℕ) (t : Task)
     → item 0 kinds t.number ≡ item 0 kinds' t.number → runs_at ps (item 1 places t.number) ≡ runs_at qs (item 1 places' t.number)
     → item Dormant (states_at ps kinds places) t.number ≡ item Dormant (states_at qs kinds' places') t.number
 same_state ps qs kinds kinds' places places' t kind runs =
-    sym (state_here ps kinds places t) ∙ ap₂ (λ (k : ℕ) (o : Option Task). told_state k t o) kind runs ∙ state_here qs kinds' places' t
+    sym (state_here ps kinds places t) ∙ ap₂ (λ (k : ℕ) (o : Option Task). report_state k t o) kind runs ∙ state_here qs kinds' places' t
 
 runs_in : (ps : List ShownProcessor) (place : ℕ) → runs_at ps place ≡ get_or (map (λ p. p.running) ps) (place - 1) None
 runs_in ps place = sym (mapped_or (λ (p : ShownProcessor). p.running) ps (place - 1) nothing_shown)
@@ -116,7 +116,7 @@ pub same_states : (ps qs : List ShownProcessor) (kinds kinds' places places' : L
 same_states ps qs kinds kinds' places places' kind place running =
     let same : runs_at ps ≡ runs_at qs = fun_ext (λ (n : ℕ). runs_in ps n ∙ ap (λ (os : List (Option Task)). get_or os (n - 1) None) running ∙ sym (runs_in qs n)) in
     let found : (ℕ → Option Task) → List ℕ → List ℕ → List TaskState =
-    λ runs ks ls. map (λ n. told_state (item 0 ks (as_task n).number) (as_task n) (runs (item 1 ls (as_task n).number))) (range_with_len 1 (length ks)) in
+    λ runs ks ls. map (λ n. report_state (item 0 ks (as_task n).number) (as_task n) (runs (item 1 ls (as_task n).number))) (range_with_len 1 (length ks)) in
     ap (λ (runs : ℕ → Option Task). found runs kinds places) same ∙ ap₂ (found (runs_at qs)) kind place
 
 -- the states of the tasks that stand so, on these processors

@@ -5,6 +5,7 @@ use Rattle.std.proofs.lemmas.Slice.Eq.{bytes_eq-Decides}
 use Rattle.fmp_codes.specs.Numbers.{as_object, as_proc, as_task}
 use Rattle.fmp_codes.specs.declared.numbers.Proc.{Proc}
 use Rattle.fmp_codes.specs.declared.numbers.Task.{Task}
+use Rattle.fmp_codes.specs.declared.records.Record.{Record}
 use Rattle.fmp_rules.specs.Arrivals.{State}
 use Rattle.fmp_rules.specs.World.{item}
 use Rattle.fmp_rules.specs.declared.machine.Wait.{Wait}
@@ -18,17 +19,17 @@ use Rattle.fmp_run_wave.specs.declared.snapshot.ShownProcessor.{ShownProcessor}
 use Rattle.fmp_run_wave.specs.declared.snapshot.TaskNumbers.{TaskNumbers}
 use Rattle.fmp_rules.specs.declared.states.TaskState.{TaskState}
 use Rattle.fmp_rules.specs.declared.states.TaskState.TheVariants.{Dormant}
-use Rattle.fmp_run_wave.specs.Changes.{bit_change, changes_text, counts_change, flag_changes, if_other, number_change, number_changed, numbers_changes, objects_changes, processor_changed, processor_changes, state_change, task_changed, wait_change}
+use Rattle.fmp_run_wave.specs.Changes.{bit_change, changes_text, counts_change, flag_changes, if_other, number_change, number_changed, numbers_changes, objects_changes, buffers_changes, processor_changed, processor_changes, state_change, sync_changes, task_changed, wait_change}
 use Rattle.fmp_run_wave.specs.Listing.{each}
-use Rattle.fmp_run_wave.specs.Shown.{Shown, counts_of, no_numbers, number_at, numbers_of, on_processor, shown_of, state_of, wait_of}
+use Rattle.fmp_run_wave.specs.Shown.{Shown, counts_of, no_numbers, number_at, numbers_of, on_processor, state_of, wait_of}
 use Rattle.fmp_run_wave.specs.Values.{due_value, running_value, state_value, state_word, wait_text, wait_value}
-use Rattle.fmp_run_wave.specs.Waves.{Picture, shown_behind}
+use Rattle.fmp_run_wave.specs.Waves.{Picture, shown_after, shown_by}
 
 -- a text is not another than itself
 pub none_of_same : (old new line : List ℕ) → old ≡ new → if_other old new line ≡ []
 none_of_same old new line same = let equal = (bytes_eq-Decides new new).1 refl in rw (same, equal) refl
 
--- nothing behind what was written
+-- nothing after what was written
 nothing_more : (out line : List ℕ) → line ≡ [] → out ≡ out ++ line
 nothing_more out line none = sym (ap (λ (xs : List ℕ). out ++ xs) none ∙ append-nil out)
 
@@ -96,21 +97,35 @@ module _ (lists : NameLists) (before after : Shown) (states : before.tasks ≡ a
   no_tasks_lines n out = nothing_more out _ (none_of_each (task_changed lists before after) n same_task)
 
 module _ (s : Shown) where
-  same_number : (r : Resource) (n : ℕ) → number_changed s s r n ≡ []
+  same_number : (t : Shown) (r : Resource) → numbers_of s r ≡ numbers_of t r → (n : ℕ) → number_changed s t r n ≡ []
   unfolding number_changed
-  same_number r n = let same = eq-eqb (number_at s r (as_object n)) (number_at s r (as_object n)) refl in rw same refl
+  same_number t r same n =
+      let equal = eq-eqb (number_at s r (as_object n)) (number_at t r (as_object n)) (ap (λ (xs : List ℕ). item 0 xs (as_object n).number) same) in
+      rw equal refl
 
-  same_numbers : (r : Resource) → numbers_changes s s r ≡ []
-  same_numbers r = none_of_each (number_changed s s r) (length (numbers_of s r)) (same_number r)
+  same_numbers : (t : Shown) (r : Resource) → numbers_of s r ≡ numbers_of t r → numbers_changes s t r ≡ []
+  same_numbers t r same = none_of_each (number_changed s t r) (length (numbers_of t r)) (same_number t r same)
+
+  same_sync : (t : Shown) → s.semaphores ≡ t.semaphores → s.eventflags ≡ t.eventflags → sync_changes s t ≡ []
+  unfolding sync_changes
+  same_sync t semaphores eventflags = both_nothing _ _ (same_numbers t resources.Semaphore semaphores) (same_numbers t resources.Eventflag eventflags)
+
+  same_buffers : (t : Shown) → s.data_queues ≡ t.data_queues → s.pools ≡ t.pools → buffers_changes s t ≡ []
+  unfolding buffers_changes
+  same_buffers t data_queues pools = both_nothing _ _ (same_numbers t resources.DataQueue data_queues) (same_numbers t resources.Pool pools)
+
+  pub no_sync_lines : (t : Shown) (out : List ℕ) → s.semaphores ≡ t.semaphores → s.eventflags ≡ t.eventflags → out ≡ out ++ sync_changes s t
+  no_sync_lines t out semaphores eventflags = nothing_more out _ (same_sync t semaphores eventflags)
+
+  pub no_buffers_lines : (t : Shown) (out : List ℕ) → s.data_queues ≡ t.data_queues → s.pools ≡ t.pools → out ≡ out ++ buffers_changes s t
+  no_buffers_lines t out data_queues pools = nothing_more out _ (same_buffers t data_queues pools)
+
+  pub no_locks_lines : (t : Shown) (out : List ℕ) → s.holders ≡ t.holders → out ≡ out ++ numbers_changes s t resources.SpinLock
+  no_locks_lines t out holders = nothing_more out _ (same_numbers t resources.SpinLock holders)
 
   same_objects : objects_changes s s ≡ []
   unfolding objects_changes
-  same_objects =
-      both_nothing _ _
-      (both_nothing _ _
-      (both_nothing _ _ (both_nothing _ _ (same_numbers resources.Semaphore) (same_numbers resources.Eventflag)) (same_numbers resources.DataQueue))
-      (same_numbers resources.Pool))
-      (same_numbers resources.SpinLock)
+  same_objects = both_nothing _ _ (both_nothing _ _ (same_sync s refl refl) (same_buffers s refl refl)) (same_numbers s resources.SpinLock refl)
 
   same_all : (lists : NameLists) → changes_text lists s s ≡ []
   unfolding changes_text
@@ -121,7 +136,8 @@ module _ (s : Shown) where
       same_objects
 
 -- a picture in which all is shown as before
-pub picture_stays : (lists : NameLists) (w : State) (d : Picture) → d.shown ≡ shown_of w → d ≡ shown_behind d lists w
-picture_stays lists w d same =
+pub picture_stays : (lists : NameLists) (r : Record) (w : State) (d : Picture) → d.shown ≡ shown_by d.shown r w → d ≡ shown_after d lists r w
+picture_stays lists r w d same =
     let made : Shown → List ℕ → Picture = λ s wave. record { shown = s; wave = wave } in
-    ap₂ made same (nothing_more d.wave (changes_text lists d.shown (shown_of w)) (ap (λ (s : Shown). changes_text lists s (shown_of w)) same ∙ same_all (shown_of w) lists))
+    ap₂ made same
+    (nothing_more d.wave (changes_text lists d.shown (shown_by d.shown r w)) (ap (λ (s : Shown). changes_text lists d.shown s) (sym same) ∙ same_all d.shown lists))

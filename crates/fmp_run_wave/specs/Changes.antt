@@ -86,13 +86,16 @@ module _ (old new : Shown) where
   abbrev pub numbers_changes : Resource → List ℕ
   numbers_changes r = each (number_changed r) (length (numbers_of new r))
 
+  -- of semaphores and eventflags
+  unfoldable pub sync_changes : List ℕ
+  sync_changes = numbers_changes resources.Semaphore ++ numbers_changes resources.Eventflag
+
+  -- of data queues and pools
+  unfoldable pub buffers_changes : List ℕ
+  buffers_changes = numbers_changes resources.DataQueue ++ numbers_changes resources.Pool
+
   unfoldable pub objects_changes : List ℕ
-  objects_changes =
-      numbers_changes resources.Semaphore
-      ++ numbers_changes resources.Eventflag
-      ++ numbers_changes resources.DataQueue
-      ++ numbers_changes resources.Pool
-      ++ numbers_changes resources.SpinLock
+  objects_changes = sync_changes ++ buffers_changes ++ numbers_changes resources.SpinLock
 
 -- of all signals but the calls, which are told of each event
 unfoldable pub changes_text : NameLists → Shown → Shown → List ℕ

@@ -6,6 +6,7 @@ pub mod Signs  -- The states of tasks, found by how the tasks stand, where they 
 pub mod Headers  -- What stands before the values: the unit of time and the declarations of the signals.
 pub mod Values  -- The values of all signals, a line for each.
 pub mod Changes  -- The lines of the signals whose values an event changed, in the order of their declarations.
+pub mod Kept  -- What is shown after an event as before it.
 pub mod Waves  -- The waveform of what a machine does at events, as a Value Change Dump. An event is a unit of time.
 pub mod Runs  -- What a run that draws a trace does.
 pub mod Saves  -- GTKWave's save file for a configuration: how its window begins, and all signals of the configuration's waveforms.

@@ -1,5 +1,5 @@
 -- What a run that draws a trace does.
-use Rattle.std.specs.Prelude.{◌≡◌, ◌⊎◌, ℕ, List, ◌++◌, map, Result}
+use Rattle.std.specs.Prelude.{◌≡◌, ◌⊎◌, ℕ, List, [], ◌++◌, map, Result, IfOk, IfErr}
 use Rattle.fmp_codes.specs.declared.records.Record.{Record}
 use Rattle.fmp_setup.specs.Setup.{Setup}
 use Rattle.fmp_trace_check.specs.declared.checking.Verdict.{Verdict}
@@ -8,7 +8,8 @@ use Rattle.fmp_trace_check.specs.Checking.{Judges, own_text}
 use Rattle.fmp_trace.specs.Prints.{PrintsWithin}
 use Rattle.fmp_run_texts.specs.declared.fault.RunFault.{RunFault}
 use Rattle.fmp_run_texts.specs.declared.fault.RunFault.TheVariants as run
-use Rattle.fmp_run_devices.specs.Devices.{BeginsWith}
+use Rattle.fmp_run_devices.specs.Devices.{BeginsWith, IsKnown, bytes_of}
+use Rattle.fmp_run_devices.specs.Ends.{Ends, SinkEnd, SourceEnd}
 use Rattle.fmp_run_texts.specs.Texts.{SaysConfig}
 use Rattle.fmp_run_texts.specs.Traces.{verdict_by}
 use Rattle.fmp_run_wave.specs.Waves.{wave_of}
@@ -46,6 +47,18 @@ abbrev pub LeavesDrawn : List ℕ → List ℕ → List ℕ → List ℕ → Run
 LeavesDrawn config_text trace_text old new run.Write = IsBegun config_text trace_text old new
 LeavesDrawn config_text trace_text old new run.Memory = (new ≡ old) ⊎ IsBegun config_text trace_text old new
 LeavesDrawn config_text trace_text old new other = new ≡ old
+
+-- what a run that draws a trace gives and writes
+pub record WritesWave (config trace : Ends SourceEnd) (wave : Ends SinkEnd) (result : Result Verdict RunFault) : Type 0 where
+  -- the verdict is right, and the waveform was written, all of it, if it is yes
+  pub drawn : IsKnown config.old.left → IsKnown trace.old.left → IsKnown wave.old.written
+      → IfOk result (Drawn (bytes_of config.old.left) (bytes_of trace.old.left) (bytes_of wave.old.written) (bytes_of wave.new.written))
+  -- of which nothing is held back
+  pub passed : IfOk result (λ verdict. verdict ≡ Yes → wave.new.buffered ≡ [])
+  -- after a failed write or flush a beginning of the waveform is out, after want of memory such a beginning or nothing, and after any other fault
+  -- nothing
+  pub leaves : IsKnown config.old.left → IsKnown trace.old.left → IsKnown wave.old.written
+      → IfErr result (LeavesDrawn (bytes_of config.old.left) (bytes_of trace.old.left) (bytes_of wave.old.written) (bytes_of wave.new.written))
 
 -- the verdict on a trace that was drawn
 abbrev pub verdict_in : Result Judged RunFault → Result Verdict RunFault

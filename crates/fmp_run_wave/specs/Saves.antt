@@ -1,7 +1,8 @@
 -- GTKWave's save file for a configuration: how its window begins, and all signals of the configuration's waveforms.
-use Rattle.std.specs.Prelude.{◌≡◌, ℕ, List, ◌++◌, codes}
+use Rattle.std.specs.Prelude.{◌≡◌, ℕ, List, [], ◌++◌, Result, OnOk, IfErr, codes}
 use Rattle.fmp_setup.specs.Setup.{Setup}
-use Rattle.fmp_run_devices.specs.Devices.{BeginsWith}
+use Rattle.fmp_run_devices.specs.Devices.{BeginsWith, IsKnown, bytes_of}
+use Rattle.fmp_run_devices.specs.Ends.{Ends, SinkEnd, SourceEnd}
 use Rattle.fmp_run_texts.specs.declared.fault.RunFault.{RunFault}
 use Rattle.fmp_run_texts.specs.declared.fault.RunFault.TheVariants as run
 use Rattle.fmp_run_texts.specs.Texts.{SaysConfig}
@@ -27,3 +28,14 @@ IsSaveBegun config_text old new = (config : Setup) × SaysConfig config_text con
 abbrev pub LeavesSave : List ℕ → List ℕ → List ℕ → RunFault → Type 0
 LeavesSave config_text old new run.Write = IsSaveBegun config_text old new
 LeavesSave config_text old new other = new ≡ old
+
+-- what a run that makes a save file writes
+pub record WritesSave {T : Type 0} (config : Ends SourceEnd) (save : Ends SinkEnd) (result : Result T RunFault) : Type 0 where
+  -- where it goes to its end, the save file, all of it
+  pub saved : IsKnown config.old.left → IsKnown save.old.written
+      → OnOk result (IsSaved (bytes_of config.old.left) (bytes_of save.old.written) (bytes_of save.new.written))
+  -- of which nothing is held back
+  pub passed : OnOk result (save.new.buffered ≡ [])
+  -- after a failed write or flush a beginning of the save file, and after any other fault nothing
+  pub leaves : IsKnown config.old.left → IsKnown save.old.written
+      → IfErr result (LeavesSave (bytes_of config.old.left) (bytes_of save.old.written) (bytes_of save.new.written))

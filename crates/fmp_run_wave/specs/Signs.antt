@@ -11,8 +11,8 @@ use Rattle.fmp_rules.specs.declared.states.TaskState.TheVariants.{Dormant, Waiti
 use Rattle.fmp_run_wave.specs.Shown.{nothing_shown}
 
 -- the state of a task that stands so, where this task runs on its processor
-abbrev pub told_state : ℕ → Task → Option Task → TaskState
-told_state kind t running =
+abbrev pub report_state : ℕ → Task → Option Task → TaskState
+report_state kind t running =
     if kind == 0 then Dormant else if kind == 1 then ready_state t running else if kind == 2 then Waiting else if kind == 3 then Suspended else WaitingSuspended
 
 -- what runs on the processor of this number
@@ -21,7 +21,7 @@ runs_at processors place = (item nothing_shown processors place).running
 
 -- the state of a task
 abbrev pub state_at : List ShownProcessor → List ℕ → List ℕ → Task → TaskState
-state_at processors kinds places t = told_state (item 0 kinds t.number) t (runs_at processors (item 1 places t.number))
+state_at processors kinds places t = report_state (item 0 kinds t.number) t (runs_at processors (item 1 places t.number))
 
 -- the states of all tasks
 abbrev pub states_at : List ShownProcessor → List ℕ → List ℕ → List TaskState

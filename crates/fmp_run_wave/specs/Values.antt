@@ -25,7 +25,7 @@ use Rattle.fmp_run_wave.specs.Resources.{signal_of}
 use Rattle.fmp_run_wave.specs.Shown.{Shown, counts_of, number_at, numbers_of, on_processor, state_of, wait_of}
 use Rattle.fmp_run_wave.specs.Signals.{identifier}
 
--- what stands behind a value of more than a bit
+-- what stands after a value of more than a bit
 unfoldable pub value_end : Signal → ℕ → List ℕ
 value_end signal n = codes " " ++ identifier signal n ++ codes "\n"
 

@@ -1,5 +1,5 @@
 -- The waveform of what a machine does at events, as a Value Change Dump. An event is a unit of time.
-use Rattle.std.specs.Prelude.{ℕ, ◌+◌, ◌==◌, not, true, List, [], ◌∷◌, ◌++◌, filter, codes, decimal}
+use Rattle.std.specs.Prelude.{ℕ, ◌+◌, ◌==◌, not, true, List, [], ◌∷◌, ◌++◌, filter, if◌then◌else◌, codes, decimal}
 use Rattle.fmp_bytes.specs.Bytes.{space}
 use Rattle.fmp_codes.specs.Records.{processor_of}
 use Rattle.fmp_codes.specs.declared.records.Event.{Event}
@@ -10,6 +10,7 @@ use Rattle.fmp_rules.specs.Arrivals.{State, numbered}
 use Rattle.fmp_rules.specs.Boot.{booted}
 use Rattle.fmp_setup.specs.Setup.{Setup}
 use Rattle.fmp_rules.specs.Step.{step}
+use Rattle.fmp_law_frames.specs.Frames.{moves_buffers, moves_locks, moves_sync, moves_tasks}
 use Rattle.fmp_trace.specs.Lines.{answer_text, event_text}
 use Rattle.fmp_run_wave.specs.declared.signal.Signal.TheVariants as signals
 use Rattle.fmp_run_wave.specs.Changes.{changes_text}
@@ -72,10 +73,26 @@ pub record Picture : Type 0 where
 abbrev pub start_of : Setup → Picture
 start_of c = let s = shown_of (booted c) in record { shown = s; wave = start_text c s }
 
--- with the lines of what changed up to this state
-abbrev pub shown_behind : Picture → NameLists → State → Picture
-shown_behind d names w = record { shown = shown_of w; wave = d.wave ++ changes_text names d.shown (shown_of w) }
+-- what is shown of a state to which an event led of which this is told: what the event left is shown as before
+abbrev pub shown_by : Shown → Record → State → Shown
+shown_by s r w =
+    let now = shown_of w in
+    record {
+      processors = now.processors;
+      tasks = now.tasks;
+      waits = if moves_tasks r then now.waits else s.waits;
+      counts = if moves_tasks r then now.counts else s.counts;
+      semaphores = if moves_sync r then now.semaphores else s.semaphores;
+      eventflags = if moves_sync r then now.eventflags else s.eventflags;
+      data_queues = if moves_buffers r then now.data_queues else s.data_queues;
+      pools = if moves_buffers r then now.pools else s.pools;
+      holders = if moves_locks r then now.holders else s.holders;
+    }
 
--- behind event n, of which this is told and which led to this state
-abbrev pub behind : Picture → NameLists → ℕ → Record → State → Picture
-behind d names n r w = record { shown = shown_of w; wave = d.wave ++ change_text names n r d.shown (shown_of w) }
+-- with the lines of what changed up to this state
+abbrev pub shown_after : Picture → NameLists → Record → State → Picture
+shown_after d names r w = let s = shown_by d.shown r w in record { shown = s; wave = d.wave ++ changes_text names d.shown s }
+
+-- after event n, of which this is told and which led to this state
+abbrev pub following : Picture → NameLists → ℕ → Record → State → Picture
+following d names n r w = let s = shown_by d.shown r w in record { shown = s; wave = d.wave ++ change_text names n r d.shown s }

@@ -3,6 +3,7 @@ ghost use Rattle.std.specs.Prelude.{◌≡◌, ◌+◌, ◌<◌, ◌++◌, lengt
 ghost use Rattle.std.specs.Str.{bytes_eq};
 ghost use Rattle.fmp_trace.specs.Lines.{runner_text, running_text};
 ghost use Rattle.fmp_run_wave.specs.Changes as spec;
+ghost use Rattle.fmp_run_wave.specs.Kept.{Keeps};
 ghost use Rattle.fmp_run_wave.specs.Listing.{each};
 ghost use Rattle.fmp_run_wave.specs.Shown.{state_of};
 ghost use Rattle.fmp_run_wave.specs.Values.{wait_text};
@@ -17,6 +18,7 @@ use crate::values::{
 };
 use fmp_codes::{Event, Object, Proc, Record, Runner, Task};
 use fmp_kernel_same::Same;
+use fmp_law_frames::{moves_buffers, moves_locks, moves_sync, moves_tasks};
 use fmp_names::Names;
 use fmp_rules::{TaskState, Wait};
 use fmp_trace::{put_answer, put_event, put_number, put_runner, put_running};
@@ -127,15 +129,15 @@ fn put_call_text(
     out: &mut Vec<u8>,
     texts: &mut Texts,
     names: &Names,
-    told: &Record,
+    report: &Record,
 ) -> Result<(), AllocError>
-    ensures { OnOk result (out.new.items ≡ out.old.items ++ waves.call_text names.now told.now) }
+    ensures { OnOk result (out.new.items ≡ out.old.items ++ waves.call_text names.now report.now) }
 {
     texts.new.clear();
-    put_event(&mut texts.new, names, told.event)?;
+    put_event(&mut texts.new, names, report.event)?;
     put_joined(out, texts.new.as_slice())?;
     out.push(b'=')?;
-    put_answer(out, told.answer)
+    put_answer(out, report.answer)
 }
 
 /// Adds the line of an event with its answer, which is the last one of its processor.
@@ -144,13 +146,13 @@ pub(crate) fn put_call_value(
     out: &mut Vec<u8>,
     texts: &mut Texts,
     names: &Names,
-    told: &Record,
+    report: &Record,
 ) -> Result<(), AllocError>
-    ensures { OnOk result (out.new.items ≡ out.old.items ++ waves.call_value names.now told.now) }
+    ensures { OnOk result (out.new.items ≡ out.old.items ++ waves.call_value names.now report.now) }
 {
     out.push(b's')?;
-    put_call_text(out, texts, names, told)?;
-    put_value_end(out, Signal::Call, told.event.processor().number)
+    put_call_text(out, texts, names, report)?;
+    put_value_end(out, Signal::Call, report.event.processor().number)
 }
 
 /// Adds the line of a signal of one bit, if it changed.
@@ -408,17 +410,20 @@ fn put_each_change(
     Ok(())
 }
 
-/// Adds the lines of those signals of tasks that changed, if any did.
+/// Adds the lines of those signals of tasks that changed, if any did. The event of which this is told led from one snapshot to the other.
+#[tactic(auto, using(crate::proofs::Unchanged::no_tasks_lines))]
 fn put_tasks_changes(
     out: &mut Vec<u8>,
     texts: &mut Texts,
     names: &Names,
+    report: &Record,
     old: &Snapshot,
     new: &Snapshot,
 ) -> Result<(), AllocError>
+    requires { Keeps report.now old.now new.now }
     ensures { OnOk result (out.new.items ≡ out.old.items ++ each (spec.task_changed names.now old.now new.now) (length new.now.tasks)) }
 {
-    if old.has_same_tasks(new) {
+    if !moves_tasks(report) && old.has_same_states(new) {
         return Ok(());
     }
     put_each_change(out, texts, names, old, new)
@@ -462,30 +467,109 @@ fn put_numbers_changes(
     Ok(())
 }
 
-/// Adds the lines of the objects whose numbers changed.
-#[tactic(auto, unfolding(crate::specs::Changes::objects_changes))]
-fn put_objects_changes(out: &mut Vec<u8>, old: &Snapshot, new: &Snapshot) -> Result<(), AllocError>
-    ensures { OnOk result (out.new.items ≡ out.old.items ++ spec.objects_changes old.now new.now) }
+/// Adds the lines of the semaphores and eventflags whose numbers changed.
+#[tactic(auto, unfolding(crate::specs::Changes::sync_changes))]
+fn put_each_sync(out: &mut Vec<u8>, old: &Snapshot, new: &Snapshot) -> Result<(), AllocError>
+    ensures { OnOk result (out.new.items ≡ out.old.items ++ spec.sync_changes old.now new.now) }
 {
     put_numbers_changes(out, old, new, Resource::Semaphore)?;
-    put_numbers_changes(out, old, new, Resource::Eventflag)?;
-    put_numbers_changes(out, old, new, Resource::DataQueue)?;
-    put_numbers_changes(out, old, new, Resource::Pool)?;
-    put_numbers_changes(out, old, new, Resource::SpinLock)
+    put_numbers_changes(out, old, new, Resource::Eventflag)
 }
 
-/// Adds the lines of the signals that changed, in the order of their declarations.
+/// The same, if the event of which this is told may have changed any.
+#[tactic(auto, using(crate::proofs::Unchanged::no_sync_lines))]
+fn put_sync_changes(
+    out: &mut Vec<u8>,
+    report: &Record,
+    old: &Snapshot,
+    new: &Snapshot,
+) -> Result<(), AllocError>
+    requires { Keeps report.now old.now new.now }
+    ensures { OnOk result (out.new.items ≡ out.old.items ++ spec.sync_changes old.now new.now) }
+{
+    if moves_sync(report) {
+        put_each_sync(out, old, new)
+    } else {
+        Ok(())
+    }
+}
+
+/// Adds the lines of the data queues and pools whose numbers changed.
+#[tactic(auto, unfolding(crate::specs::Changes::buffers_changes))]
+fn put_each_buffer(out: &mut Vec<u8>, old: &Snapshot, new: &Snapshot) -> Result<(), AllocError>
+    ensures { OnOk result (out.new.items ≡ out.old.items ++ spec.buffers_changes old.now new.now) }
+{
+    put_numbers_changes(out, old, new, Resource::DataQueue)?;
+    put_numbers_changes(out, old, new, Resource::Pool)
+}
+
+/// The same, if the event of which this is told may have changed any.
+#[tactic(auto, using(crate::proofs::Unchanged::no_buffers_lines))]
+fn put_buffers_changes(
+    out: &mut Vec<u8>,
+    report: &Record,
+    old: &Snapshot,
+    new: &Snapshot,
+) -> Result<(), AllocError>
+    requires { Keeps report.now old.now new.now }
+    ensures { OnOk result (out.new.items ≡ out.old.items ++ spec.buffers_changes old.now new.now) }
+{
+    if moves_buffers(report) {
+        put_each_buffer(out, old, new)
+    } else {
+        Ok(())
+    }
+}
+
+/// Adds the lines of the spin locks whose holders changed, if the event of which this is told may have changed any.
+#[tactic(auto, using(crate::proofs::Unchanged::no_locks_lines))]
+fn put_locks_changes(
+    out: &mut Vec<u8>,
+    report: &Record,
+    old: &Snapshot,
+    new: &Snapshot,
+) -> Result<(), AllocError>
+    requires { Keeps report.now old.now new.now }
+    ensures { OnOk result (out.new.items ≡ out.old.items ++ spec.numbers_changes old.now new.now Resource.SpinLock) }
+{
+    if moves_locks(report) {
+        put_numbers_changes(out, old, new, Resource::SpinLock)
+    } else {
+        Ok(())
+    }
+}
+
+/// Adds the lines of the objects whose numbers changed.
+#[tactic(auto, unfolding(crate::specs::Changes::objects_changes))]
+fn put_objects_changes(
+    out: &mut Vec<u8>,
+    report: &Record,
+    old: &Snapshot,
+    new: &Snapshot,
+) -> Result<(), AllocError>
+    requires { Keeps report.now old.now new.now }
+    ensures { OnOk result (out.new.items ≡ out.old.items ++ spec.objects_changes old.now new.now) }
+{
+    put_sync_changes(out, report, old, new)?;
+    put_buffers_changes(out, report, old, new)?;
+    put_locks_changes(out, report, old, new)
+}
+
+/// Adds the lines of the signals that changed, in the order of their declarations, where the event of which this is told led from one
+/// snapshot to the other.
 #[tactic(auto, unfolding(crate::specs::Changes::changes_text))]
 pub(crate) fn put_changes(
     out: &mut Vec<u8>,
     texts: &mut Texts,
     names: &Names,
+    report: &Record,
     old: &Snapshot,
     new: &Snapshot,
 ) -> Result<(), AllocError>
+    requires { Keeps report.now old.now new.now }
     ensures { OnOk result (out.new.items ≡ out.old.items ++ spec.changes_text names.now old.now new.now) }
 {
     put_processors_changes(out, texts, names, old, new)?;
-    put_tasks_changes(out, texts, names, old, new)?;
-    put_objects_changes(out, old, new)
+    put_tasks_changes(out, texts, names, report, old, new)?;
+    put_objects_changes(out, report, old, new)
 }

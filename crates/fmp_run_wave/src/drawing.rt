@@ -24,7 +24,7 @@ fn put_start_begin(out: &mut Vec<u8>) -> Result<(), AllocError>
     out.extend_from_slice(b"#0\n$dumpvars\n")
 }
 
-/// Adds what stands behind them.
+/// Adds what stands after them.
 #[tactic(auto, unfolding(crate::specs::Waves::start_end))]
 fn put_start_end(out: &mut Vec<u8>) -> Result<(), AllocError>
     ensures { OnOk result (out.new.items ≡ out.old.items ++ spec.start_end) }
@@ -78,18 +78,24 @@ impl Drawing {
         })
     }
 
-    /// Tells what changed of what is shown. Behind most events nothing did.
-    fn show(&mut self, names: &Names, machine: &PlainMachine) -> Result<(), AllocError>
-        ensures { OnOk result (self.new ≡ spec.shown_behind self.old names.now machine.now) }
+    /// Tells what changed of what is shown. After most events nothing did.
+    fn show(
+        &mut self,
+        names: &Names,
+        report: &Record,
+        machine: &PlainMachine,
+    ) -> Result<(), AllocError>
+        ensures { OnOk result (self.new ≡ spec.shown_after self.old names.now report.now machine.now) }
     {
-        if self.shown.shows(machine) {
+        if self.shown.shows(report, machine) {
             return Ok(());
         }
-        self.spare.renew(machine);
+        self.spare.renew(&self.shown, report, machine);
         put_changes(
             &mut self.wave,
             &mut self.texts,
             names,
+            report,
             &self.shown,
             &self.spare,
         )?;
@@ -107,20 +113,20 @@ impl Drawing {
 }
 
 impl Watcher for Drawing {
-    ghost watched = { spec.behind };
+    ghost watched = { spec.following };
 
-    /// Tells event n with its answer, behind which the machine is in its state now.
+    /// Tells event n with its answer, after which the machine is in its state now.
     #[tactic(auto, unfolding(crate::specs::Waves::change_text))]
     fn watch(
         &mut self,
         names: &Names,
         n: u32,
-        told: &Record,
+        report: &Record,
         machine: &PlainMachine,
     ) -> Result<(), AllocError> {
         put_time(&mut self.wave, n)?;
-        put_mark(&mut self.wave, told.event)?;
-        put_call_value(&mut self.wave, &mut self.texts, names, told)?;
-        self.show(names, machine)
+        put_mark(&mut self.wave, report.event)?;
+        put_call_value(&mut self.wave, &mut self.texts, names, report)?;
+        self.show(names, report, machine)
     }
 }

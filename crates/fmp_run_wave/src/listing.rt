@@ -100,18 +100,18 @@ fn put_line(
     }
 }
 
-/// Adds the name of a scope between what stands before and behind it.
+/// Adds the name of a scope between what stands before and after it.
 fn put_scope_within(
     out: &mut Vec<u8>,
     before: &[u8],
     scope: Scope,
-    behind: &[u8],
+    following: &[u8],
 ) -> Result<(), AllocError>
-    ensures { OnOk result (out.new.items ≡ out.old.items ++ (before.now ++ scope_text scope ++ behind.now)) }
+    ensures { OnOk result (out.new.items ≡ out.old.items ++ (before.now ++ scope_text scope ++ following.now)) }
 {
     out.extend_from_slice(before)?;
     put_scope(out, scope)?;
-    out.extend_from_slice(behind)
+    out.extend_from_slice(following)
 }
 
 /// Adds what stands before the signals of a scope.
@@ -125,7 +125,7 @@ fn put_scope_begin(out: &mut Vec<u8>, form: Form, scope: Scope) -> Result<(), Al
     }
 }
 
-/// Adds what stands behind the signals of a scope, if anything does.
+/// Adds what stands after the signals of a scope, if anything does.
 fn put_scope_end(out: &mut Vec<u8>, form: Form) -> Result<(), AllocError>
     ensures { OnOk result (out.new.items ≡ out.old.items ++ spec.scope_end form) }
 {

@@ -1,12 +1,13 @@
 //! The run that draws a trace.
-ghost use Rattle.std.specs.Prelude.{◌≡◌, ◌≢◌, ℕ, ◌+◌, ◌-◌, ◌^◌, ◌<◌, List, ◌++◌, [], OnOk, OnErr, IfOk, IfErr, Ok, Err, false, if◌then◌else◌};
+ghost use Rattle.std.specs.Prelude.{◌≡◌, ℕ, ◌+◌, ◌-◌, ◌^◌, ◌<◌, List, ◌++◌, [], OnOk, OnErr, IfOk, IfErr, Ok, Err, false, if◌then◌else◌};
 ghost use Rattle.fmp_codes.specs.declared.records.Event.{Event as AnyEvent};
 ghost use Rattle.fmp_trace_check.specs.Checking.{Judges, PrintsAnswers};
-ghost use Rattle.fmp_run_texts.specs.Traces.{FirstTraceFault, IsFirstOfTrace, IsYes, JudgesTexts};
+ghost use Rattle.fmp_run_texts.specs.Traces.{FirstTraceFault, IsFirstOfTrace, IsYes};
 ghost use Rattle.fmp_run_devices.specs.Devices.{BeginsWith, IsKnown, bytes_of};
+ghost use Rattle.fmp_run_devices.specs.Ends.{sink_ends, source_ends};
 ghost use Rattle.fmp_run_texts.specs.Faults.{failed_read, failed_write, is_config, is_thread_fault, is_write};
-ghost use Rattle.fmp_run_texts.specs.Texts.{CountsReads};
-ghost use Rattle.fmp_run_wave.specs.Runs.{Drawn, Draws, LeavesDrawn, verdict_in};
+ghost use Rattle.fmp_run_texts.specs.Owed.{OwesTrace};
+ghost use Rattle.fmp_run_wave.specs.Runs.{Draws, WritesWave, verdict_in};
 
 use crate::drawing::Drawing;
 use fmp_rules::Config;
@@ -87,27 +88,13 @@ pub fn run_wave<R: Source, S: Source, W: Sink>(
     requires trace_calls { S.failures trace.old < 2 ^ 64 - 1 }
     requires wave_calls { W.failures wave.old < 2 ^ 64 - 1 }
 
-    // The verdict is right, and the waveform was written, all of it. None of it is held back.
-    ensures known { IsKnown (W.written wave.old) → IsKnown (W.written wave.new) }
-    ensures drawn { IsKnown (R.left config.old) → IsKnown (S.left trace.old) → IsKnown (W.written wave.old)
-        → IfOk result (Drawn (bytes_of (R.left config.old)) (bytes_of (S.left trace.old)) (bytes_of (W.written wave.old)) (bytes_of (W.written wave.new))) }
-    ensures passed { IfOk result (λ verdict. verdict ≡ Verdict.Yes → W.buffered wave.new ≡ []) }
+    // What it owes to both texts and to its devices, whatever it writes.
+    ensures owes { OwesTrace FirstTraceFault (source_ends R.left R.failures config.old config.new) (source_ends S.left S.failures trace.old trace.new)
+        (sink_ends W.written W.buffered W.failures wave.old wave.new) result }
 
-    // What it owes to both texts: they were read to their ends, a trace that is the machine's own is drawn, a fault of a text is its
-    // first one, and no thread was started.
-    ensures texts { JudgesTexts FirstTraceFault (R.left config.old) (R.left config.new) (S.left trace.old) (S.left trace.new) result }
-
-    // After a failed write or flush a beginning of the waveform is out, after want of memory such a beginning or nothing, and
-    // after any other fault nothing is.
-    ensures leaves { IsKnown (R.left config.old) → IsKnown (S.left trace.old) → IsKnown (W.written wave.old)
-        → IfErr result (LeavesDrawn (bytes_of (R.left config.old)) (bytes_of (S.left trace.old)) (bytes_of (W.written wave.old)) (bytes_of (W.written wave.new))) }
-
-    // However the run ends, nothing is held back, unless a write failed.
-    ensures none_held { W.buffered wave.old ≡ [] → result ≢ Err RunFault.Write → W.buffered wave.new ≡ [] }
-
-    // Which calls of the devices failed.
-    ensures reads { CountsReads result (R.failures config.old) (R.failures config.new) (S.failures trace.old) (S.failures trace.new) }
-    ensures writes { W.failures wave.new ≡ W.failures wave.old + (if failed_write result then 1 else 0) }
+    // What it writes: the waveform of a trace that is the machine's own.
+    ensures writes { WritesWave (source_ends R.left R.failures config.old config.new) (source_ends S.left S.failures trace.old trace.new)
+        (sink_ends W.written W.buffered W.failures wave.old wave.new) result }
 {
     let configuration = config_from(alloc, config)?;
     configuration.names().validity();

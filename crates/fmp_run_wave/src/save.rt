@@ -1,8 +1,7 @@
 //! GTKWave's save file, and the run that writes it.
-ghost use Rattle.std.specs.Prelude.{◌≡◌, ◌≢◌, ◌+◌, ◌-◌, ◌^◌, ◌<◌, ◌++◌, [], OnOk, IfOk, IfErr, Err, false, if◌then◌else◌};
-ghost use Rattle.fmp_run_devices.specs.Devices.{IsKnown, bytes_of};
-ghost use Rattle.fmp_run_texts.specs.Faults.{failed_read, failed_write, is_text, is_thread_fault};
-ghost use Rattle.fmp_run_texts.specs.Texts.{FirstConfigFault};
+ghost use Rattle.std.specs.Prelude.{◌≡◌, ◌-◌, ◌^◌, ◌<◌, ◌++◌, OnOk, IfOk};
+ghost use Rattle.fmp_run_devices.specs.Ends.{sink_ends, source_ends};
+ghost use Rattle.fmp_run_texts.specs.Owed.{OwesConfig};
 ghost use Rattle.fmp_run_wave.specs.Saves as spec;
 
 use crate::listing::{Form, put_listing};
@@ -44,30 +43,11 @@ pub fn run_save<R: Source, W: Sink>(
     requires config_calls { R.failures config.old < 2 ^ 64 - 1 }
     requires save_calls { W.failures save.old < 2 ^ 64 - 1 }
 
-    // The text was read to its end, and the save file was written, all of it. None of it is held back.
-    ensures known { IsKnown (W.written save.old) → IsKnown (W.written save.new) }
-    ensures saved { IsKnown (R.left config.old) → IsKnown (W.written save.old)
-        → OnOk result (spec.IsSaved (bytes_of (R.left config.old)) (bytes_of (W.written save.old)) (bytes_of (W.written save.new))) }
-    ensures passed { OnOk result (W.buffered save.new ≡ []) }
-    ensures config_read { IsKnown (R.left config.old) → OnOk result (bytes_of (R.left config.new) ≡ []) }
+    // What it owes to the text and to its devices, whatever it writes.
+    ensures owes { OwesConfig (source_ends R.left R.failures config.old config.new) (sink_ends W.written W.buffered W.failures save.old save.new) result }
 
-    // A fault of the text is its first one.
-    ensures config_fault { IsKnown (R.left config.old) → IfErr result (FirstConfigFault (bytes_of (R.left config.old))) }
-    ensures no_text_fault { IfErr result (λ fault. is_text fault ≡ false) }
-
-    // After a failed write or flush a beginning of the save file is out, and after any other fault nothing is.
-    ensures leaves { IsKnown (R.left config.old) → IsKnown (W.written save.old)
-        → IfErr result (spec.LeavesSave (bytes_of (R.left config.old)) (bytes_of (W.written save.old)) (bytes_of (W.written save.new))) }
-
-    // However the run ends, nothing is held back, unless a write failed.
-    ensures none_held { W.buffered save.old ≡ [] → result ≢ Err RunFault.Write → W.buffered save.new ≡ [] }
-
-    // No thread was started.
-    ensures no_thread_fault { IfErr result (λ fault. is_thread_fault fault ≡ false) }
-
-    // Which calls of the devices failed.
-    ensures reads { R.failures config.new ≡ R.failures config.old + (if failed_read result then 1 else 0) }
-    ensures writes { W.failures save.new ≡ W.failures save.old + (if failed_write result then 1 else 0) }
+    // What it writes: the save file of the configuration that the text says.
+    ensures writes { spec.WritesSave (source_ends R.left R.failures config.old config.new) (sink_ends W.written W.buffered W.failures save.old save.new) result }
 {
     let configuration = config_from(alloc, config)?;
     let text = save_file(alloc, &configuration)?;

@@ -1,13 +1,15 @@
 //! What a waveform shows of a state.
-ghost use Rattle.std.specs.Prelude.{◌≡◌, ◌≤◌, [], IsTrue, length, map};
+ghost use Rattle.std.specs.Prelude.{◌≡◌, ◌≤◌, [], IsTrue, if◌then◌else◌, length, map};
 ghost use Rattle.fmp_rules.specs.World.{item};
 ghost use Rattle.fmp_run_wave.specs.Shown as spec;
 ghost use Rattle.fmp_run_wave.specs.Signs as signs;
+ghost use Rattle.fmp_run_wave.specs.Waves as waves;
 
 use crate::resource::{Resource, count_in, number_in};
 use arrayvec::ArrayVec;
-use fmp_codes::{Object, Proc, Runner, Task};
-use fmp_kernel_same::{Same, are_equal};
+use fmp_codes::{Object, Proc, Record, Runner, Task};
+use fmp_kernel_same::Same;
+use fmp_law_frames::{moves_buffers, moves_locks, moves_sync, moves_tasks};
 use fmp_plain_machine::PlainMachine;
 use fmp_rules::{TaskRecord, TaskState, Wait};
 use fmp_step_words::Words;
@@ -71,7 +73,7 @@ impl Default for TaskNumbers {
 }
 
 /// What is shown of a state. It is compared with what was shown before, and only what changed is written. The states of the tasks
-/// are found where they are asked for: behind most events no task stands in another way.
+/// are found where they are asked for: after most events no task stands in another way.
 #[derive(Drop)]
 pub(crate) struct Snapshot {
     processors: ArrayVec<ShownProcessor, 8>,
@@ -112,8 +114,8 @@ impl Model for Snapshot {
 
 /// The state of a task that stands so, where this task runs on its processor.
 #[inline(always)]
-fn told_state(kind: u8, t: Task, running: Option<Task>) -> TaskState
-    ensures { result ≡ signs.told_state kind t running }
+fn report_state(kind: u8, t: Task, running: Option<Task>) -> TaskState
+    ensures { result ≡ signs.report_state kind t running }
 {
     match kind {
         0 => TaskState::Dormant,
@@ -151,13 +153,13 @@ fn runs_with(processors: &[ShownProcessor], places: &[u8], t: Task) -> Option<Ta
     runs_at(processors, byte_of(places, t, 1))
 }
 
-/// Makes a list one of these bytes.
-fn renew_bytes(list: &mut ArrayVec<u8, 64>, bytes: &[u8])
-    requires { length bytes.now ≤ 64 }
-    ensures { list.new.items ≡ bytes.now }
+/// Makes a list one of these items.
+fn copy<T: Copy + Default + Drop, const N: usize>(list: &mut ArrayVec<T, N>, items: &[T])
+    requires { length items.now ≤ N }
+    ensures { list.new.items ≡ items.now }
 {
     list.clear();
-    let _ = list.try_extend_from_slice(bytes);
+    let _ = list.try_extend_from_slice(items);
 }
 
 /// What is shown of a processor.
@@ -227,6 +229,55 @@ fn renew_numbers(shown: &mut ArrayVec<u64, 32>, machine: &PlainMachine, resource
     shown.clear();
     for index in 0..count_in(machine, resource) {
         shown.push(number_in(machine, resource, Object::from_index(index)));
+    }
+}
+
+/// Makes a list what all tasks wait for, or else this one where no task moved.
+fn renew_waits_if(
+    moved: bool,
+    list: &mut ArrayVec<Option<Wait>, 64>,
+    shown: &ArrayVec<Option<Wait>, 64>,
+    machine: &PlainMachine,
+)
+    ensures { list.new.items ≡ (if moved then spec.shown_waits machine.now else shown.now.items) }
+{
+    if moved {
+        renew_waits(list, machine);
+    } else {
+        copy(list, shown.as_slice());
+    }
+}
+
+/// Makes a list the numbers of all tasks, or else this one where no task moved.
+fn renew_counts_if(
+    moved: bool,
+    list: &mut ArrayVec<TaskNumbers, 64>,
+    shown: &ArrayVec<TaskNumbers, 64>,
+    machine: &PlainMachine,
+)
+    ensures { list.new.items ≡ (if moved then spec.shown_counts machine.now else shown.now.items) }
+{
+    if moved {
+        renew_counts(list, machine);
+    } else {
+        copy(list, shown.as_slice());
+    }
+}
+
+/// Makes a list the numbers of the objects of a kind, or else this one where no object moved.
+fn renew_numbers_if(
+    moved: bool,
+    list: &mut ArrayVec<u64, 32>,
+    shown: &ArrayVec<u64, 32>,
+    machine: &PlainMachine,
+    resource: Resource,
+)
+    ensures { list.new.items ≡ (if moved then spec.shown_numbers machine.now resource else shown.now.items) }
+{
+    if moved {
+        renew_numbers(list, machine, resource);
+    } else {
+        copy(list, shown.as_slice());
     }
 }
 
@@ -348,22 +399,6 @@ fn show_counts(counts: &[TaskNumbers], machine: &PlainMachine) -> bool
     counts.len() == machine.task_count()
 }
 
-/// Whether tasks have the same numbers as others, each as the one in its place.
-fn count_the_same(counts: &[TaskNumbers], others: &[TaskNumbers]) -> bool
-    ensures { IsTrue result → counts.now ≡ others.now }
-{
-    let mut a = counts;
-    let mut b = others;
-    while let ([one, after @ ..], [other, rest @ ..]) = (a, b) {
-        if !is_same_numbers(*one, *other) {
-            return false;
-        }
-        a = after;
-        b = rest;
-    }
-    a.is_empty() && b.is_empty()
-}
-
 /// Whether these are the numbers of a machine's objects of a kind.
 #[inline(always)]
 fn show_numbers(numbers: &[u64], machine: &PlainMachine, resource: Resource) -> bool
@@ -400,17 +435,17 @@ impl Snapshot {
         ensures { result ≡ spec.shown_of machine.now }
     {
         let mut shown = Snapshot::empty();
-        shown.renew(machine);
+        shown.fill(machine);
         shown
     }
 
-    /// Becomes what is shown of a machine's state, in the memory that it has.
-    pub(crate) fn renew(&mut self, machine: &PlainMachine)
+    /// Becomes what is shown of a machine's state.
+    fn fill(&mut self, machine: &PlainMachine)
         ensures { self.new ≡ spec.shown_of machine.now }
     {
         renew_processors(&mut self.processors, machine);
-        renew_bytes(&mut self.kinds, machine.kinds());
-        renew_bytes(&mut self.places, machine.places());
+        copy(&mut self.kinds, machine.kinds());
+        copy(&mut self.places, machine.places());
         renew_waits(&mut self.waits, machine);
         renew_counts(&mut self.counts, machine);
         renew_numbers(&mut self.semaphores, machine, Resource::Semaphore);
@@ -418,6 +453,57 @@ impl Snapshot {
         renew_numbers(&mut self.data_queues, machine, Resource::DataQueue);
         renew_numbers(&mut self.pools, machine, Resource::Pool);
         renew_numbers(&mut self.holders, machine, Resource::SpinLock);
+    }
+
+    /// Becomes what is shown of a machine's state, in the memory that it has. The event of which this is told led there from what is shown
+    /// in another snapshot, and what it left is copied.
+    pub(crate) fn renew(&mut self, shown: &Snapshot, report: &Record, machine: &PlainMachine)
+        ensures { self.new ≡ waves.shown_by shown.now report.now machine.now }
+    {
+        let tasks = moves_tasks(report);
+        let sync = moves_sync(report);
+        let buffers = moves_buffers(report);
+        let locks = moves_locks(report);
+        renew_processors(&mut self.processors, machine);
+        copy(&mut self.kinds, machine.kinds());
+        copy(&mut self.places, machine.places());
+        renew_waits_if(tasks, &mut self.waits, &shown.waits, machine);
+        renew_counts_if(tasks, &mut self.counts, &shown.counts, machine);
+        renew_numbers_if(
+            sync,
+            &mut self.semaphores,
+            &shown.semaphores,
+            machine,
+            Resource::Semaphore,
+        );
+        renew_numbers_if(
+            sync,
+            &mut self.eventflags,
+            &shown.eventflags,
+            machine,
+            Resource::Eventflag,
+        );
+        renew_numbers_if(
+            buffers,
+            &mut self.data_queues,
+            &shown.data_queues,
+            machine,
+            Resource::DataQueue,
+        );
+        renew_numbers_if(
+            buffers,
+            &mut self.pools,
+            &shown.pools,
+            machine,
+            Resource::Pool,
+        );
+        renew_numbers_if(
+            locks,
+            &mut self.holders,
+            &shown.holders,
+            machine,
+            Resource::SpinLock,
+        );
     }
 
     /// How many processors there are.
@@ -454,7 +540,7 @@ impl Snapshot {
         ensures { result ≡ spec.state_of self.now t }
     {
         let running = runs_with(self.processors.as_slice(), self.places.as_slice(), t);
-        told_state(byte_of(self.kinds.as_slice(), t, 0), t, running)
+        report_state(byte_of(self.kinds.as_slice(), t, 0), t, running)
     }
 
     /// What a task waits for: nothing where there is no task.
@@ -530,27 +616,12 @@ impl Snapshot {
     }
 
     /// Whether all tasks stand as in another snapshot, at processors that run the same.
-    fn has_same_states(&self, other: &Snapshot) -> bool
+    pub(crate) fn has_same_states(&self, other: &Snapshot) -> bool
         ensures { IsTrue result → self.now.tasks ≡ other.now.tasks }
     {
         is_same(self.kinds.as_slice(), other.kinds.as_slice())
             && is_same(self.places.as_slice(), other.places.as_slice())
             && run_the_same(self.processors.as_slice(), other.processors.as_slice())
-    }
-
-    /// Whether all tasks are shown as in another snapshot: they stand the same, wait for the same and have the same numbers.
-    pub(crate) fn has_same_tasks(&self, other: &Snapshot) -> bool
-        ensures states { IsTrue result → self.now.tasks ≡ other.now.tasks }
-        ensures waits { IsTrue result → self.now.waits ≡ other.now.waits }
-        ensures counts { IsTrue result → self.now.counts ≡ other.now.counts }
-    {
-        if !self.has_same_states(other) {
-            return false;
-        }
-        if !count_the_same(self.counts.as_slice(), other.counts.as_slice()) {
-            return false;
-        }
-        are_equal(self.waits.as_slice(), other.waits.as_slice())
     }
 
     /// Whether the processors and the tasks of a machine's state are shown so.
@@ -572,19 +643,39 @@ impl Snapshot {
         show_numbers(self.numbers(resource), machine, resource)
     }
 
-    /// Whether a machine's state is shown so.
+    /// Whether what the tasks of a machine wait for and their numbers are shown so, where they moved.
+    #[inline(always)]
+    fn shows_lives(&self, moved: bool, machine: &PlainMachine) -> bool
+        ensures waits { IsTrue result → self.now.waits ≡ (if moved then spec.shown_waits machine.now else self.now.waits) }
+        ensures counts { IsTrue result → self.now.counts ≡ (if moved then spec.shown_counts machine.now else self.now.counts) }
+    {
+        !moved
+            || (show_waits(self.waits.as_slice(), machine)
+                && show_counts(self.counts.as_slice(), machine))
+    }
+
+    /// Whether the numbers of the objects of a kind are shown so, where they moved.
+    #[inline(always)]
+    fn shows_objects(&self, moved: bool, machine: &PlainMachine, resource: Resource) -> bool
+        ensures { IsTrue result → spec.numbers_of self.now resource ≡ (if moved then spec.shown_numbers machine.now resource else spec.numbers_of self.now resource) }
+    {
+        !moved || self.shows_numbers(machine, resource)
+    }
+
+    /// Whether a machine's state is shown so. The event of which this is told led there, and what it left is not looked at.
     #[inline(always)]
     #[tactic(auto, using(crate::proofs::Equal::same_shown))]
-    pub(crate) fn shows(&self, machine: &PlainMachine) -> bool
-        ensures { IsTrue result → self.now ≡ spec.shown_of machine.now }
+    pub(crate) fn shows(&self, report: &Record, machine: &PlainMachine) -> bool
+        ensures { IsTrue result → self.now ≡ waves.shown_by self.now report.now machine.now }
     {
+        let sync = moves_sync(report);
+        let buffers = moves_buffers(report);
         self.shows_tasks(machine)
-            && show_waits(self.waits.as_slice(), machine)
-            && show_counts(self.counts.as_slice(), machine)
-            && self.shows_numbers(machine, Resource::Semaphore)
-            && self.shows_numbers(machine, Resource::Eventflag)
-            && self.shows_numbers(machine, Resource::DataQueue)
-            && self.shows_numbers(machine, Resource::Pool)
-            && self.shows_numbers(machine, Resource::SpinLock)
+            && self.shows_lives(moves_tasks(report), machine)
+            && self.shows_objects(sync, machine, Resource::Semaphore)
+            && self.shows_objects(sync, machine, Resource::Eventflag)
+            && self.shows_objects(buffers, machine, Resource::DataQueue)
+            && self.shows_objects(buffers, machine, Resource::Pool)
+            && self.shows_objects(moves_locks(report), machine, Resource::SpinLock)
     }
 }

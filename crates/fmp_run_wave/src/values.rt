@@ -13,7 +13,7 @@ use fmp_rules::{TaskState, Wait};
 use fmp_trace::{put_named, put_runner, put_running};
 use std::alloc::AllocError;
 
-/// Adds what stands behind a value of more than a bit: the signal, and the end of the line.
+/// Adds what stands after a value of more than a bit: the signal, and the end of the line.
 #[tactic(auto, unfolding(crate::specs::Values::value_end))]
 pub(crate) fn put_value_end(out: &mut Vec<u8>, signal: Signal, number: u8) -> Result<(), AllocError>
     ensures { OnOk result (out.new.items ≡ out.old.items ++ spec.value_end signal number) }

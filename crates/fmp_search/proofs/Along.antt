@@ -83,11 +83,11 @@ module _ {P : Type 0} (after : P → ℕ → Option P) where
   -- ---- one step
 
   -- a step that may be chosen is told as it was
-  pub watches_guided : (q r : P) (cs : List Choice) (s passes : ℕ) (told : Option ℕ) → may_choose cs s ≡ true → Watches (after q s) passes told r →
-      Watches (guided_after after (guide cs q) s) passes told (guide (drop 1 cs) r)
-  watches_guided q r cs s passes told may watches = rw may (go (after q s) watches)
+  pub watches_guided : (q r : P) (cs : List Choice) (s passes : ℕ) (report : Option ℕ) → may_choose cs s ≡ true → Watches (after q s) passes report r →
+      Watches (guided_after after (guide cs q) s) passes report (guide (drop 1 cs) r)
+  watches_guided q r cs s passes report may watches = rw may (go (after q s) watches)
     where
-      go : (o : Option P) → Watches o passes told r → Watches (option_map (guide (drop 1 cs)) o) passes told (guide (drop 1 cs) r)
+      go : (o : Option P) → Watches o passes report r → Watches (option_map (guide (drop 1 cs)) o) passes report (guide (drop 1 cs) r)
       go None h = h
       go (Some x) h = (h.0, ap (guide (drop 1 cs)) h.1)
 

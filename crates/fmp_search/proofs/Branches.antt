@@ -13,7 +13,7 @@ use Rattle.fmp_search.specs.declared.nodes.Node.{Node}
 use Rattle.fmp_search.specs.Runs.{run}
 use Rattle.fmp_search.specs.Trees.{root, found_at, IsTree}
 use Rattle.fmp_search.specs.Answers.{Explored}
-use Rattle.fmp_search.specs.Roots.{with_path, paths, path_at, AreBehind, roots_of, GoesThrough, AreRoots}
+use Rattle.fmp_search.specs.Roots.{with_path, paths, path_at, AreAfter, roots_of, GoesThrough, AreRoots}
 use Rattle.fmp_search.proofs.Trees.{run-append, found-root}
 use Rattle.fmp_search.proofs.Layers.{none-within}
 
@@ -62,10 +62,10 @@ pub path-first : (ns : List Node) → path_at ns 0 ≡ []
 unfolding paths
 path-first ns = folded-stays ([] ∷ []) ns 0 (omega arith)
 
-pub path-step : (ns : List Node) (k : ℕ) (d : Node) → AreBehind ns → k < length ns → path_at ns (k + 1) ≡ path_at ns (slice_index_or ns k d).parent ++ (slice_index_or ns k d).step ∷ []
+pub path-step : (ns : List Node) (k : ℕ) (d : Node) → AreAfter ns → k < length ns → path_at ns (k + 1) ≡ path_at ns (slice_index_or ns k d).parent ++ (slice_index_or ns k d).step ∷ []
 unfolding paths
-path-step ns k d behind lt =
-    let low = behind.earlier k d lt in
+path-step ns k d following lt =
+    let low = following.earlier k d lt in
     let more = folded-step ([] ∷ []) ns k d lt (omega (arith, low)) in
     let here : k + 1 ≡ 1 + k = omega arith in
     ap (λ i. get_or (fold with_path ([] ∷ []) ns) i []) here ∙ more
@@ -76,8 +76,8 @@ abbrev pub nobody : Node
 nobody = record { hash = 0; parent = 0; step = 0 }
 
 module _ {P : Type 0} (after : P → ℕ → Option P) (q : P) where
-  pub tree-behind : (ns : List Node) → IsTree after q ns → AreBehind ns
-  tree-behind ns tree = record { earlier = λ k d lt. (tree.grows k d lt).earlier }
+  pub tree-following : (ns : List Node) → IsTree after q ns → AreAfter ns
+  tree-following ns tree = record { earlier = λ k d lt. (tree.grows k d lt).earlier }
 
   -- a run goes on by the steps of another
   goes_on : (xs ys : List ℕ) (p : P) (o : Option P) → run after q xs ≡ Some p → run after p ys ≡ o → run after q (xs ++ ys) ≡ o
@@ -101,7 +101,7 @@ module _ {P : Type 0} (after : P → ℕ → Option P) (q : P) where
       let grows = tree.grows k nobody lt in
       let early = grows.earlier in
       let before = path_below ns n node.parent tree (omega (arith, early, le)) (omega (arith, early, lt)) in
-      let path = path-step ns k nobody (tree-behind ns tree) lt in
+      let path = path-step ns k nobody (tree-following ns tree) lt in
       let same : suc k ≡ k + 1 = omega arith in
       let leads = goes_on (path_at ns node.parent) (node.step ∷ []) (found_at after q ns node.parent).place _ before.0 (one_step _ _ node.step grows.step) in
       let deeper = grows.deeper in
@@ -137,16 +137,16 @@ module _ {P : Type 0} (after : P → ℕ → Option P) (q : P) where
 
 -- the steps back to the place before one, where the way on is known from that one
 pub walk_back :
-    (ns : List Node) (place : ℕ) (d : Node) (back more all : List ℕ) → AreBehind ns → 0 < place → place ≤ length ns → more ≡ back ++ (slice_index_or ns (place - 1) d).step ∷ [] →
+    (ns : List Node) (place : ℕ) (d : Node) (back more all : List ℕ) → AreAfter ns → 0 < place → place ≤ length ns → more ≡ back ++ (slice_index_or ns (place - 1) d).step ∷ [] →
     path_at ns place ++ reverse back ≡ all →
     ((slice_index_or ns (place - 1) d).parent ≤ length ns) × (path_at ns (slice_index_or ns (place - 1) d).parent ++ reverse more ≡ all)
-walk_back ns place d back more all behind some low is way =
+walk_back ns place d back more all following some low is way =
     let k = place - 1 in
     let node = slice_index_or ns k d in
     let lt : k < length ns = omega (arith, some, low) in
     let here : place ≡ k + 1 = omega (arith, some) in
-    let early = behind.earlier k d lt in
-    let path = ap (path_at ns) here ∙ path-step ns k d behind lt in
+    let early = following.earlier k d lt in
+    let path = ap (path_at ns) here ∙ path-step ns k d following lt in
     let turned : reverse more ≡ node.step ∷ reverse back = ap reverse is ∙ reverse-append back (node.step ∷ []) in
     let joined : path_at ns node.parent ++ (node.step ∷ reverse back) ≡ (path_at ns node.parent ++ node.step ∷ []) ++ reverse back = sym (append_assoc (path_at ns node.parent) (node.step ∷ []) (reverse back)) in (
       omega (arith, early, lt),
@@ -217,7 +217,7 @@ module _ {P : Type 0} (after : P → ℕ → Option P) (wanted : P → Bool) (q 
       let less : length others < length steps = omega (arith, all, count, deep, rest_count, long) in
       no_longer (roots_of ns first) r (length others) (length steps) (omega (arith, less))
       (shorter others less (goes_on after q (path_at ns i) (drop n steps) _ (Some r) (path_leads after q ns i x.tree low) rest))
-  by_place ns n first steps r x near shorter long i lt rest (inr behind) =
+  by_place ns n first steps r x near shorter long i lt rest (inr following) =
       let low : i ≤ length ns = omega (arith, lt) in
       let deep = x.near i lt in
       let count = path_long after q ns i x.tree low in
@@ -228,7 +228,7 @@ module _ {P : Type 0} (after : P → ℕ → Option P) (wanted : P → Bool) (q 
         number = i - first;
         root = path_at ns i;
         more = drop n steps;
-        is_root = get_drop (paths ns) first i [] behind (omega (arith, l, lt));
+        is_root = get_drop (paths ns) first i [] following (omega (arith, l, lt));
         leads = goes_on after q (path_at ns i) (drop n steps) _ (Some r) (path_leads after q ns i x.tree low) rest;
         short = omega (arith, all, count, deep, rest_count, long);
       }

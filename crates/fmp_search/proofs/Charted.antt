@@ -1,5 +1,5 @@
 -- One edge more of a chart.
-use Rattle.std.proofs.Common.{◌≡◌, ◌⊎◌, inl, inr, ℕ, ◌+◌, ◌<◌, ◌≤◌, true, Option, None, Some, List, [], ◌∷◌, ◌++◌, length, get_or, refl, ap, sym, subst, ◌∙◌, below_more, arith, rules}
+use Rattle.std.proofs.Common.{◌≡◌, ◌⊎◌, inl, inr, ℕ, ◌+◌, ◌<◌, ◌≤◌, true, false, Option, None, Some, List, [], ◌∷◌, ◌++◌, length, replicate, get_or, refl, ap, sym, subst, ◌∙◌, below_more, arith, rules}
 use Rattle.std.specs.Prelude.{slice_get}
 use Rattle.std.proofs.lemmas.Grind.{common_steps}
 use Rattle.std.proofs.Math.Nat.{eq-or-lt_of_le}
@@ -14,6 +14,8 @@ use Rattle.fmp_search.specs.Trees.{found_at, IsAt}
 use Rattle.fmp_search.specs.declared.chart.Chart.{Chart}
 use Rattle.fmp_search.specs.Growth.{Extends}
 use Rattle.fmp_search.specs.Charts.{Charting, IsTrueEdge, AreTrue, IsJoined}
+use Rattle.fmp_search.specs.Meeting.{AreNoted, IsMarked}
+use Rattle.fmp_search.proofs.Noted.{noted_none, noted_same}
 
 longer : {A : Type 0} (xs : List A) (x : A) → length (xs ++ x ∷ []) ≡ length xs + 1
 longer xs x = grind (arith, common_steps)
@@ -65,12 +67,12 @@ module _ {P : Type 0} (after : P → ℕ → Option P) (passes : P → ℕ → �
       }
 
   -- what was told of a step that was made
-  told_there : (o : Option P) (m t : ℕ) (r : P) → Watches o m (Some t) r → (o ≡ Some r) × (t ≡ m)
-  told_there None m t r h = absurd (search rules)
-  told_there (Some p) m t r h = (ap (λ (x : P). Some x) (sym h.1), search (rules, h.0))
+  report_there : (o : Option P) (m t : ℕ) (r : P) → Watches o m (Some t) r → (o ≡ Some r) × (t ≡ m)
+  report_there None m t r h = absurd (search rules)
+  report_there (Some p) m t r h = (ap (λ (x : P). Some x) (sym h.1), search (rules, h.0))
 
   pub step_there : (p r : P) (s t : ℕ) → Watches (after p s) (passes p s) (Some t) r → (after p s ≡ Some r) × (t ≡ passes p s)
-  step_there p r s t h = told_there (after p s) (passes p s) t r h
+  step_there p r s t h = report_there (after p s) (passes p s) t r h
 
   none_there : (o : Option P) (m : ℕ) (r x : P) → Watches o m None r → o ≡ Some x → ⊥
   none_there None m r x h is = absurd (search rules)
@@ -96,7 +98,7 @@ module _ {P : Type 0} (after : P → ℕ → Option P) (passes : P → ℕ → �
         from = few;
         to = at.0;
         goes = subst (λ (y : P). after y s ≡ Some (found_at after q nodes j).place) is (there.0 ∙ ap (λ (x : P). Some x) (sym at.1));
-        told = there.1 ∙ ap (λ (y : P). passes y s) is;
+        report = there.1 ∙ ap (λ (y : P). passes y s) is;
       }
 
   pub joined_by :
@@ -126,7 +128,7 @@ module _ {P : Type 0} (after : P → ℕ → Option P) (passes : P → ℕ → �
       let low = sure.to in
       let from = extends.stays e.from sure.from in
       let to = extends.stays e.to sure.to in
-      record { from = omega (arith, few, longer); to = omega (arith, low, longer); goes = rw from (rw to sure.goes); told = rw from sure.told }
+      record { from = omega (arith, few, longer); to = omega (arith, low, longer); goes = rw from (rw to sure.goes); report = rw from sure.report }
 
   trues_there : (edges : List Edge) → AreTrue after passes q nodes edges → AreTrue after passes q more edges
   trues_there edges sure k e is = true_there e (sure k e is)
@@ -140,8 +142,9 @@ module _ {P : Type 0} (after : P → ℕ → Option P) (passes : P → ℕ → �
   -- one edge more, of a step of the place that is opened
   pub charting_more :
       (old new : Chart) (at s : ℕ) (e : Edge) → at ≤ length nodes → new.opened ≡ old.opened → new.kept ≡ old.kept → (old.kept ≡ true → new.edges ≡ old.edges ++ e ∷ []) →
-      IsTrueEdge after passes q more e → (new.kept ≡ true → IsJoined after passes q more new.edges at s) → Charting after passes q nodes old at s → Charting after passes q more new at (s + 1)
-  charting_more old new at s e few opened kept added sure last x = record {
+      IsTrueEdge after passes q more e → (new.kept ≡ true → IsJoined after passes q more new.edges at s) → AreNoted after passes q more new.marks.items at (s + 1) →
+      Charting after passes q nodes old at s → Charting after passes q more new at (s + 1)
+  charting_more old new at s e few opened kept added sure last noted x = record {
     opened = opened ∙ x.opened;
     charted = λ is.
         let was : old.kept ≡ true = sym kept ∙ is in
@@ -158,15 +161,18 @@ module _ {P : Type 0} (after : P → ℕ → Option P) (passes : P → ℕ → �
         below_more (λ k. IsJoined after passes q more new.edges at k) s
         (λ k lt. joined_stays after passes q more old.edges new.edges e (added was) at k (joined_there old.edges at k few (x.charted was).sure (x.linked was k lt)))
         (last is);
+    noted = noted;
   }
 
 module _ {P : Type 0} (after : P → ℕ → Option P) (passes : P → ℕ → ℕ) (q : P) (nodes : List Node) where
   -- a step that needs no edge was tried
-  pub charting_same : (chart : Chart) (at s : ℕ) → IsJoined after passes q nodes chart.edges at s → Charting after passes q nodes chart at s → Charting after passes q nodes chart at (s + 1)
-  charting_same chart at s last x = record {
+  pub charting_same : (chart : Chart) (at s : ℕ) → IsJoined after passes q nodes chart.edges at s → IsMarked after passes (found_at after q nodes at).place chart.marks.items s →
+      Charting after passes q nodes chart at s → Charting after passes q nodes chart at (s + 1)
+  charting_same chart at s last marked x = record {
     opened = x.opened;
     charted = x.charted;
     linked = λ is. below_more (λ k. IsJoined after passes q nodes chart.edges at k) s (x.linked is) last;
+    noted = noted_same after passes q nodes chart.marks.items at s marked x.noted;
   }
 
   next_joined : (edges : List Edge) (at n i s : ℕ) → ((j t : ℕ) → j < at → IsJoined after passes q nodes edges j t) → ((t : ℕ) → t < n → IsJoined after passes q nodes edges at t) →
@@ -177,9 +183,9 @@ module _ {P : Type 0} (after : P → ℕ → Option P) (passes : P → ℕ → �
 
   -- all steps of a place were tried
   pub charting_next :
-      (old : Chart) (at n : ℕ) → at ≤ length nodes → ((t : ℕ) → n ≤ t → IsJoined after passes q nodes old.edges at t) → Charting after passes q nodes old at n →
-      Charting after passes q nodes (record old { opened = at + 1 }) (at + 1) 0
-  charting_next old at n few rest x =
+      (old : Chart) (at n : ℕ) → at ≤ length nodes → ((t : ℕ) → n ≤ t → IsJoined after passes q nodes old.edges at t) →
+      AreNoted after passes q nodes old.marks.items (at + 1) 0 → Charting after passes q nodes old at n → Charting after passes q nodes (record old { opened = at + 1 }) (at + 1) 0
+  charting_next old at n few rest noted x =
       let opened = x.opened in record {
         opened = refl;
         charted = λ is.
@@ -190,12 +196,14 @@ module _ {P : Type 0} (after : P → ℕ → Option P) (passes : P → ℕ → �
               few = omega (arith, few);
             };
         linked = λ is s lt. absurd (omega (arith, lt));
+        noted = noted;
       }
 
   -- nothing was tried
-  pub charting_none : (chart : Chart) → chart.opened ≡ 0 → chart.edges ≡ [] → Charting after passes q nodes chart 0 0
-  charting_none chart opened none = record {
+  pub charting_none : (chart : Chart) (count : ℕ) → chart.opened ≡ 0 → chart.edges ≡ [] → chart.marks.items ≡ replicate count false → Charting after passes q nodes chart 0 0
+  charting_none chart count opened none unmarked = record {
     opened = opened;
     charted = λ is. record { sure = true_none after passes q nodes chart.edges none; joined = λ i s lt. absurd (omega (arith, lt, opened)); few = omega (arith, opened) };
     linked = λ is s lt. absurd (omega (arith, lt));
+    noted = noted_none after passes q nodes chart.marks.items count unmarked;
   }

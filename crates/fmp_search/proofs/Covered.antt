@@ -32,7 +32,7 @@ module _ {P : Type 0} (after : P → ℕ → Option P) (passes : P → ℕ → �
       let sure = charted.sure step.number step.edge step.is_one in
       let by = subst (λ n. is_bit (passes (found_at after q nodes it.place).place n) test ≡ true) (sym step.by) enters.passes in
       let from = subst (λ n. is_bit (passes (found_at after q nodes n).place step.edge.step) test ≡ true) (sym step.leaves) by in
-      let passed : is_bit step.edge.passes test ≡ true = subst (λ m. is_bit m test ≡ true) (sym sure.told) from in
+      let passed : is_bit step.edge.passes test ≡ true = subst (λ m. is_bit m test ≡ true) (sym sure.report) from in
       let there : ForEver after (test_of passes test) (found_at after q nodes step.edge.to).place =
       subst (λ (x : P). ForEver after (test_of passes test) x) (sym step.comes) (sound after (test_of passes test) q nodes marks closed enters.next enters.free) in
       let free = free_there after (test_of passes test) q nodes marks earned step.edge.to sure.to there (is_marked (mark_at marks step.edge.to)) in

@@ -11,7 +11,7 @@ use Rattle.fmp_search.specs.declared.extent.Extent.{Extent}
 use Rattle.fmp_search.specs.Trees.{IsTree}
 use Rattle.fmp_search.specs.Answers.{AreApart, AreOpened, Explored}
 use Rattle.fmp_search.specs.Forever.{AreNearest}
-use Rattle.fmp_search.specs.Roots.{path_at, AreBehind}
+use Rattle.fmp_search.specs.Roots.{path_at, AreAfter}
 use Rattle.fmp_search.specs.Extents.{IsExtent, HasGone}
 use Rattle.fmp_search.proofs.Branches.{path-step}
 use Rattle.fmp_search.proofs.Layers.{complete-all}
@@ -30,10 +30,10 @@ one_of_two f x m is = elim (cases_lt f x) [
   | inr le ↦ inl (omega (arith, is, le))
 ]
 
-module _ (nodes : List Node) (at : ℕ) (d : Node) (behind : AreBehind nodes) (lt : at < length nodes) where
+module _ (nodes : List Node) (at : ℕ) (d : Node) (following : AreAfter nodes) (lt : at < length nodes) where
   -- one step more leads to a place than to the one before it
   pub next_long : length (path_at nodes (at + 1)) ≡ length (path_at nodes (slice_index_or nodes at d).parent) + 1
-  next_long = ap (λ (xs : List ℕ). length xs) (path-step nodes at d behind lt) ∙ grind (arith, common_steps)
+  next_long = ap (λ (xs : List ℕ). length xs) (path-step nodes at d following lt) ∙ grind (arith, common_steps)
 
 -- the numbers of steps with one more
 pub are_more : (nodes : List Node) (old new : List ℕ) (at x : ℕ) → length old ≡ at + 1 → new ≡ old ++ x ∷ [] → x ≡ length (path_at nodes (at + 1)) →

@@ -34,7 +34,7 @@ low_if : (marks : List Bool) (i : ℕ) → mark_at marks i ≡ false → (i < le
 low_if marks i is (inl lt) = lt
 low_if marks i is (inr le) = absurd (false≢true (sym is ∙ get_or_past marks i true le))
 
--- a number without a mark is not behind the last
+-- a number without a mark is not after the last
 pub low : (marks : List Bool) (i : ℕ) → mark_at marks i ≡ false → i < length marks
 low marks i is = low_if marks i is (cases_lt i (length marks))
 
@@ -56,7 +56,7 @@ module _ {P : Type 0} (after : P → ℕ → Option P) (passes : P → ℕ → �
         next = (found_at after q nodes failing.edge.to).place;
         leads = refl;
         goes = subst (λ n. after (found_at after q nodes n).place failing.edge.step ≡ Some (found_at after q nodes failing.edge.to).place) there sure.goes;
-        fails = subst (λ n. is_bit (passes (found_at after q nodes n).place failing.edge.step) test ≡ false) there (subst (λ m. is_bit m test ≡ false) sure.told failing.fails);
+        fails = subst (λ n. is_bit (passes (found_at after q nodes n).place failing.edge.step) test ≡ false) there (subst (λ m. is_bit m test ≡ false) sure.report failing.fails);
       }
   ways (next ∷ rest) from to goes failing =
       let out = ways rest next to goes.1 failing in
@@ -108,8 +108,8 @@ module _ {P : Type 0} (after : P → ℕ → Option P) (passes : P → ℕ → �
         let here = λ (is : mark_at spread step.edge.from ≡ true). false≢true (sym free ∙ subst (λ n. mark_at spread n ≡ true) step.leaves is) in
         let passed : is_bit step.edge.passes test ≡ true =
         marked_if (is_bit step.edge.passes test) (λ fails. here (kept step.edge.from (failing step.number step.edge step.is_one fails))) (which (is_bit step.edge.passes test)) in
-        let told = subst (λ m. is_bit m test ≡ true) sure.told passed in
-        let from = subst (λ n. is_bit (passes (found_at after q nodes n).place step.edge.step) test ≡ true) step.leaves told in
+        let report = subst (λ m. is_bit m test ≡ true) sure.report passed in
+        let from = subst (λ n. is_bit (passes (found_at after q nodes n).place step.edge.step) test ≡ true) step.leaves report in
         let by = subst (λ n. is_bit (passes (found_at after q nodes i).place n) test ≡ true) step.by from in
         let next = unmarked_if (mark_at spread step.edge.to) (λ is. here (done step.number step.edge step.is_one is)) (which (mark_at spread step.edge.to)) in
         (by, (step.edge.to, next, step.comes))

@@ -1,15 +1,12 @@
 -- Marks of numbers that are told of steps.
-use Rattle.std.proofs.Common.{◌≡◌, ◌∙◌, ℕ, zero, suc, ◌+◌, ◌<◌, ◌≤◌, Bool, true, false, rules, replicate, Option, Some, List, length, sym, subst, arith}
+use Rattle.std.proofs.Common.{◌≡◌, ℕ, zero, suc, ◌+◌, ◌<◌, ◌≤◌, Bool, true, false, rules, replicate, Option, Some, List, length, sym, subst, arith}
 use Rattle.std.specs.Prelude.{slice_get}
-use Rattle.fmp_search.specs.declared.chart.Chart.{Chart}
-use Rattle.fmp_search.specs.declared.edges.Edge.{Edge}
 use Rattle.fmp_search.specs.declared.nodes.Node.{Node}
 use Rattle.fmp_search.specs.Trees.{found_at}
 use Rattle.fmp_search.specs.Answers.{Explored}
 use Rattle.fmp_search.specs.Surveys.{IsPassed}
 use Rattle.fmp_search.specs.Roots.{path_at}
-use Rattle.fmp_search.specs.Charts.{IsCharted}
-use Rattle.fmp_search.specs.Meeting.{HasTold, IsMarked, IsNear, IsTold, IsToldAt, IsToldWithin}
+use Rattle.fmp_search.specs.Meeting.{IsMarked, IsNear, IsReported, IsReportedAt, IsReportedWithin}
 use Rattle.fmp_search.proofs.Branches.{path_leads, path_long}
 use Rattle.fmp_search.proofs.Extents.{all_near}
 
@@ -18,34 +15,11 @@ module _ {P : Type 0} (after : P → ℕ → Option P) (passes : P → ℕ → �
     abbrev at : ℕ → P
     at i = (found_at after q nodes i).place
 
-    module _ (chart : Chart) (charted : IsCharted after passes q nodes chart) where
-      -- what is told of an edge is told of a step
-      pub near_of : (k : ℕ) → HasTold chart.edges chart.opened k → IsNear after passes q nodes chart.opened k
-      near_of k has =
-          let sure = charted.sure has.number has.edge has.is_one in record {
-            number = has.edge.from;
-            early = has.early;
-            last = record { step = has.edge.step; next = at has.edge.to; goes = sure.goes; told = sym sure.told ∙ has.told };
-          }
-
-      -- and what is told of a step from a place that was opened is told of an edge
-      pub marked_of :
-          (marks : List Bool) → ((k : ℕ) (e : Edge) → slice_get chart.edges k ≡ Some e → e.from < chart.opened → e.passes < length marks → slice_get marks e.passes ≡ Some true) →
-          (i s : ℕ) → i < chart.opened → IsMarked after passes (at i) marks s
-      marked_of marks all i s lt next goes few =
-          let step = charted.joined i s lt next goes in
-          let sure = charted.sure step.number step.edge step.is_one in
-          let leaves = step.leaves in
-          let is : step.edge.passes ≡ passes (at i) s =
-          subst (λ n. step.edge.passes ≡ passes (at n) s) step.leaves (subst (λ t. step.edge.passes ≡ passes (at step.edge.from) t) step.by sure.told) in
-          subst (λ n. slice_get marks n ≡ Some true) is
-          (all step.number step.edge step.is_one (subst (λ n. n < chart.opened) (sym leaves) lt) (subst (λ n. n < length marks) (sym is) few))
-
     module _ (wanted : P → Bool) (n first turns : ℕ) (marks : List Bool) (x : Explored after wanted q nodes n (length nodes + 1) first) (passed : IsPassed after q nodes turns first)
         (marked : (i s : ℕ) → i < first → IsMarked after passes (at i) marks s) where
       -- what is told of a step from one of the first places is told of a run of so many steps
-      pub told_within : (k : ℕ) → IsNear after passes q nodes first k → IsToldWithin after passes q turns k
-      told_within k near =
+      pub report_within : (k : ℕ) → IsNear after passes q nodes first k → IsReportedWithin after passes q turns k
+      report_within k near =
           let early = near.early in
           let few = passed.few in
           let low : near.number ≤ length nodes = omega (arith, early, few) in
@@ -59,22 +33,22 @@ module _ {P : Type 0} (after : P → ℕ → Option P) (passes : P → ℕ → �
             last = near.last;
           }
 
-      at_place : (r : P) (k i : ℕ) → k < length marks → IsToldAt after passes r k → i < first → at i ≡ r → slice_get marks k ≡ Some true
+      at_place : (r : P) (k i : ℕ) → k < length marks → IsReportedAt after passes r k → i < first → at i ≡ r → slice_get marks k ≡ Some true
       at_place r k i lt last early is =
           let goes : after (at i) last.step ≡ Some last.next = subst (λ p. after p last.step ≡ Some last.next) (sym is) last.goes in
-          let told : passes (at i) last.step ≡ k = subst (λ p. passes p last.step ≡ k) (sym is) last.told in
-          subst (λ j. slice_get marks j ≡ Some true) told (marked i last.step early last.next goes (omega (arith, told, lt)))
+          let report : passes (at i) last.step ≡ k = subst (λ p. passes p last.step ≡ k) (sym is) last.report in
+          subst (λ j. slice_get marks j ≡ Some true) report (marked i last.step early last.next goes (omega (arith, report, lt)))
 
-      pub within_marked : (k : ℕ) → k < length marks → IsToldWithin after passes q turns k → slice_get marks k ≡ Some true
-      within_marked k lt told =
-          let there = passed.through told.steps told.place told.short told.leads in
-          at_place told.place k there.0 lt told.last there.1 there.2
+      pub within_marked : (k : ℕ) → k < length marks → IsReportedWithin after passes q turns k → slice_get marks k ≡ Some true
+      within_marked k lt report =
+          let there = passed.through report.steps report.place report.short report.leads in
+          at_place report.place k there.0 lt report.last there.1 there.2
 
-      pub all_marked : first ≡ length nodes + 1 → (k : ℕ) → k < length marks → IsTold after passes q k → slice_get marks k ≡ Some true
-      all_marked whole k lt told =
-          let there = all_near after q wanted nodes n first x whole told.steps told.place told.leads in
+      pub all_marked : first ≡ length nodes + 1 → (k : ℕ) → k < length marks → IsReported after passes q k → slice_get marks k ≡ Some true
+      all_marked whole k lt report =
+          let there = all_near after q wanted nodes n first x whole report.steps report.place report.leads in
           let low = there.1 in
-          at_place told.place k there.0 lt told.last (omega (arith, low, whole)) there.2
+          at_place report.place k there.0 lt report.last (omega (arith, low, whole)) there.2
 
 -- where none was marked before, none is
 pub no_mark : (n k : ℕ) → slice_get (replicate n false) k ≡ Some true → ⊥

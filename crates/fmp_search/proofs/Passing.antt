@@ -25,7 +25,7 @@ next_or_earlier edges marks n at one is_one earlier next k e (inl is) get to =
     subst (λ (x : Edge). mark_at marks x.from ≡ true) same (next (subst (λ (x : Edge). mark_at marks x.to ≡ true) (sym same) to))
 next_or_earlier edges marks n at one is_one earlier next k e (inr lt) get to = earlier k e (omega (arith, lt)) get to
 
--- the edges behind one that changed nothing, and that one
+-- the edges after one that changed nothing, and that one
 pub passed_more :
     (edges : List Edge) (marks new : List Bool) (n at : ℕ) (one : Edge) → slice_get edges (n - 1 - at) ≡ Some one → new ≡ marks →
     ((k : ℕ) (e : Edge) → n ≤ k + at → slice_get edges k ≡ Some e → mark_at marks e.to ≡ true → mark_at marks e.from ≡ true) →

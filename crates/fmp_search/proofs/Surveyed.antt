@@ -40,13 +40,13 @@ module _ {P : Type 0} (after : P → ℕ → Option P) (q : P) where
 
     pub through_by :
         (how : Layer) (turns room most n first opened parent step : ℕ) (nodes : List Node) → (how ≡ layer.Done → ⊥) → n < turns → NoneWithin after wanted q n → room ≡ most →
-        Opens after wanted q n first opened how nodes → Fills after q n room parent step how nodes → (behind : ℕ) → GoesSo after wanted q turns most nodes n behind how
-    through_by (layer.Found steps) turns room most n first opened parent step nodes not lt none same opens fills behind =
+        Opens after wanted q n first opened how nodes → Fills after q n room parent step how nodes → (following : ℕ) → GoesSo after wanted q turns most nodes n following how
+    through_by (layer.Found steps) turns room most n first opened parent step nodes not lt none same opens fills following =
         let few = opens.0 in (omega (arith, lt), omega (arith, lt, few), opens.1)
-    through_by layer.Full turns room most n first opened parent step nodes not lt none same opens fills behind =
+    through_by layer.Full turns room most n first opened parent step nodes not lt none same opens fills following =
         let full = fills.1 in (lt, none, omega (arith, full, same))
-    through_by layer.Over turns room most n first opened parent step nodes not lt none same opens fills behind = (lt, none)
-    through_by layer.Done turns room most n first opened parent step nodes not lt none same opens fills behind = absurd (not refl)
+    through_by layer.Over turns room most n first opened parent step nodes not lt none same opens fills following = (lt, none)
+    through_by layer.Done turns room most n first opened parent step nodes not lt none same opens fills following = absurd (not refl)
 
     -- there were no places to open
     pub through_all : (nodes : List Node) (n first turns : ℕ) → n ≤ turns → Explored after wanted q nodes n (length nodes + 1) first → first ≡ length nodes + 1 → IsPassed after q nodes n first →

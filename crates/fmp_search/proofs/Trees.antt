@@ -77,7 +77,7 @@ module _ {P : Type 0} (after : P → ℕ → Option P) where
   unfolding places
   found-root q ns = folded-first q (root q ∷ []) ns (omega arith)
 
-  -- the place behind a step that was made
+  -- the place after a step that was made
   pub made : (o : Option P) (p : P) → Goes o true p → o ≡ Some p
   made None p g = absurd (search rules)
   made (Some r) p g = rw g.1 refl

@@ -5,6 +5,7 @@ use Rattle.fmp_search.specs.declared.edges.Edge.{Edge}
 use Rattle.fmp_search.specs.declared.layer.Layer.{Layer}
 use Rattle.fmp_search.specs.declared.layer.Layer.TheVariants as layer
 use Rattle.fmp_search.specs.declared.nodes.Node.{Node}
+use Rattle.fmp_search.specs.Meeting.{AreNoted}
 use Rattle.fmp_search.specs.Trees.{found_at}
 
 -- an edge is of a step between two places, and tells what it passes
@@ -12,13 +13,14 @@ pub record IsTrueEdge {P : Type 0} (after : P → ℕ → Option P) (passes : P 
   pub from : e.from ≤ length nodes
   pub to : e.to ≤ length nodes
   pub goes : after (found_at after q nodes e.from).place e.step ≡ Some (found_at after q nodes e.to).place
-  pub told : e.passes ≡ passes (found_at after q nodes e.from).place e.step
+  pub report : e.passes ≡ passes (found_at after q nodes e.from).place e.step
 
 abbrev pub AreTrue : {P : Type 0} → (P → ℕ → Option P) → (P → ℕ → ℕ) → P → List Node → List Edge → Type 0
 AreTrue after passes q nodes edges = (k : ℕ) (e : Edge) → slice_get edges k ≡ Some e → IsTrueEdge after passes q nodes e
 
 -- the step of a number from a place has its edge
-pub record HasStep {P : Type 0} (after : P → ℕ → Option P) (passes : P → ℕ → ℕ) (q : P) (nodes : List Node) (edges : List Edge) (i s : ℕ) (r : P) : Type 0 where
+pub record HasStep {P : Type 0} (after : P → ℕ → Option P) (passes : P → ℕ → ℕ) (q : P) (nodes : List Node) (edges : List Edge) (i s : ℕ)
+    (r : P) : Type 0 where
   pub number : ℕ
   pub edge : Edge
   pub is_one : slice_get edges number ≡ Some edge
@@ -36,11 +38,12 @@ pub record IsCharted {P : Type 0} (after : P → ℕ → Option P) (passes : P �
   pub joined : (i s : ℕ) → i < chart.opened → IsJoined after passes q nodes chart.edges i s
   pub few : chart.opened ≤ length nodes + 1
 
--- so many places were opened, and if edges are kept, those of the first steps from the next are there too
+-- so many places were opened, and if edges are kept, those of the first steps from the next are there too, as the marks of what was told of all these steps are
 pub record Charting {P : Type 0} (after : P → ℕ → Option P) (passes : P → ℕ → ℕ) (q : P) (nodes : List Node) (chart : Chart) (at steps : ℕ) : Type 0 where
   pub opened : chart.opened ≡ at
   pub charted : chart.kept ≡ true → IsCharted after passes q nodes chart
   pub linked : chart.kept ≡ true → (s : ℕ) → s < steps → IsJoined after passes q nodes chart.edges at s
+  pub noted : AreNoted after passes q nodes chart.marks.items at steps
 
 -- and where steps were not all tried, those from the first places are all there
 abbrev pub Charts : {P : Type 0} → (P → ℕ → Option P) → (P → ℕ → ℕ) → P → Layer → List Node → Chart → ℕ → ℕ → Type 0

@@ -1,5 +1,6 @@
 -- Places from where on every step passes a test, and how marks tell which they are.
-use Rattle.std.specs.Prelude.{◌≡◌, ℕ, ◌/◌, ◌%◌, ◌^◌, ◌<◌, ◌≤◌, ◌==◌, Bool, true, false, Option, Some, List, [], ◌∷◌, ◌++◌, length}
+use Rattle.std.specs.Prelude.{◌≡◌, ℕ, ◌/◌, ◌%◌, ◌^◌, ◌<◌, ◌≤◌, ◌==◌, Bool, true, false, Option, Some}
+use Rattle.std.specs.Prelude.{List, [], ◌∷◌, ◌++◌, length}
 use Rattle.std.specs.Prelude.{slice_index_or}
 use Rattle.fmp_search.specs.declared.nodes.Node.{Node}
 use Rattle.fmp_search.specs.declared.staying.Stay.{Stay}
@@ -23,7 +24,7 @@ pub record GetsOut {P : Type 0} (after : P → ℕ → Option P) (test : P → �
   pub goes : after place step ≡ Some next
   pub fails : test place step ≡ false
 
--- the last step of a run passes the test, and so does every one behind it
+-- the last step of a run passes the test, and so does every one after it
 pub record EndsForEver {P : Type 0} (after : P → ℕ → Option P) (test : P → ℕ → Bool) (q : P) (steps : List ℕ) : Type 0 where
   pub before : List ℕ
   pub last : ℕ
@@ -54,7 +55,7 @@ test_of passes k r s = is_bit (passes r s) k
 
 -- ---- marks of places
 
--- whether the place of a number is marked. A number behind the last is
+-- whether the place of a number is marked. A number after the last is
 abbrev pub mark_at : List Bool → ℕ → Bool
 mark_at marks i = slice_index_or marks i true
 
@@ -83,12 +84,14 @@ pub record Enters {P : Type 0} (after : P → ℕ → Option P) (test : P → �
 
 -- what marks say of all runs
 pub record MarksSay {P : Type 0} (after : P → ℕ → Option P) (test : P → ℕ → Bool) (q : P) (nodes : List Node) (marks : List Bool) : Type 0 where
-  -- behind a place without a mark the test is passed for ever
+  -- after a place without a mark the test is passed for ever
   pub sound : AreClosed after test q nodes marks → (i : ℕ) → mark_at marks i ≡ false → ForEver after test (found_at after q nodes i).place
-  -- behind one with a mark it is not
-  pub complete : AreEarned after test q nodes marks → (i : ℕ) → i ≤ length nodes → mark_at marks i ≡ true → ForEver after test (found_at after q nodes i).place → ⊥
+  -- after one with a mark it is not
+  pub complete : AreEarned after test q nodes marks → (i : ℕ) → i ≤ length nodes → mark_at marks i ≡ true →
+      ForEver after test (found_at after q nodes i).place → ⊥
   -- where no step passes the test and leads to a place without one, no run ends with a step from which on it is passed for ever
-  pub never : AreEarned after test q nodes marks → AreNearest after q nodes → ((i s : ℕ) → Enters after test q nodes marks i s → ⊥) → NoneForEver after test q
+  pub never : AreEarned after test q nodes marks → AreNearest after q nodes → ((i s : ℕ) → Enters after test q nodes marks i s → ⊥) →
+      NoneForEver after test q
   -- the steps to a place and such a step from there are a run that ends so
   pub found : AreClosed after test q nodes marks → (i s : ℕ) (steps : List ℕ) → Enters after test q nodes marks i s →
       run after q steps ≡ Some (found_at after q nodes i).place → EndsForEver after test q (steps ++ s ∷ [])
@@ -99,7 +102,7 @@ pub record MarksSay {P : Type 0} (after : P → ℕ → Option P) (test : P → 
 
 -- ---- what is known
 
--- what an answer says of the runs whose last step passes one of so many tests, as every step behind it does
+-- what an answer says of the runs whose last step passes one of so many tests, as every step after it does
 abbrev pub SaysForEver : {P : Type 0} → (P → ℕ → Option P) → (P → ℕ → ℕ) → P → ℕ → ℕ → Stay → Type 0
 SaysForEver after passes q tests turns (stay.Shortest test steps) =
     (test < tests) × EndsForEver after (test_of passes test) q steps.items

@@ -1,5 +1,6 @@
 -- Runs whose first steps are given, each as one of two.
-use Rattle.std.specs.Prelude.{◌≡◌, ◌==◌, ℕ, ◌≤◌, ◌<◌, Bool, true, false, ◌||◌, ◌&&◌, Option, None, Some, List, [], ◌∷◌, drop, length, if◌then◌else◌}
+use Rattle.std.specs.Prelude.{◌≡◌, ◌==◌, ℕ, ◌≤◌, ◌<◌, Bool, true, false, ◌||◌, ◌&&◌, Option, None, Some}
+use Rattle.std.specs.Prelude.{List, [], ◌∷◌, drop, length, if◌then◌else◌}
 use Rattle.std.specs.Option.{option_map}
 use Rattle.fmp_search.specs.declared.guided.Choice.{Choice}
 use Rattle.fmp_search.specs.declared.exploring.Answer.{Answer}

@@ -1,39 +1,51 @@
 -- Which numbers are told of steps.
-use Rattle.std.specs.Prelude.{◌≡◌, ℕ, ◌<◌, Bool, true, Option, Some, List, length, slice_get}
-use Rattle.fmp_search.specs.declared.edges.Edge.{Edge}
+use Rattle.std.specs.Prelude.{◌≡◌, ◌⊎◌, ℕ, ◌<◌, ◌≤◌, Bool, true, Option, Some, List, length, slice_get}
 use Rattle.fmp_search.specs.declared.meeting.Met.{Met}
 use Rattle.fmp_search.specs.declared.nodes.Node.{Node}
+use Rattle.fmp_search.specs.Answers.{IsShortest, UsedUp}
 use Rattle.fmp_search.specs.Runs.{run}
 use Rattle.fmp_search.specs.Trees.{found_at}
 
 -- the number is told of a step that can be made at a place
-pub record IsToldAt {P : Type 0} (after : P → ℕ → Option P) (passes : P → ℕ → ℕ) (r : P) (n : ℕ) : Type 0 where
+pub record IsReportedAt {P : Type 0} (after : P → ℕ → Option P) (passes : P → ℕ → ℕ) (r : P) (n : ℕ) : Type 0 where
   pub step : ℕ
   pub next : P
   pub goes : after r step ≡ Some next
-  pub told : passes r step ≡ n
+  pub report : passes r step ≡ n
 
 -- it is told of the step with which some run ends, and of one of at most so many steps
-pub record IsTold {P : Type 0} (after : P → ℕ → Option P) (passes : P → ℕ → ℕ) (q : P) (n : ℕ) : Type 0 where
+pub record IsReported {P : Type 0} (after : P → ℕ → Option P) (passes : P → ℕ → ℕ) (q : P) (n : ℕ) : Type 0 where
   pub steps : List ℕ
   pub place : P
   pub leads : run after q steps ≡ Some place
-  pub last : IsToldAt after passes place n
+  pub last : IsReportedAt after passes place n
 
-pub record IsToldWithin {P : Type 0} (after : P → ℕ → Option P) (passes : P → ℕ → ℕ) (q : P) (turns n : ℕ) : Type 0 where
+pub record IsReportedWithin {P : Type 0} (after : P → ℕ → Option P) (passes : P → ℕ → ℕ) (q : P) (turns n : ℕ) : Type 0 where
   pub steps : List ℕ
   pub place : P
   pub short : length steps < turns
   pub leads : run after q steps ≡ Some place
-  pub last : IsToldAt after passes place n
+  pub last : IsReportedAt after passes place n
 
 -- what the marks of so many numbers say: those with a mark are told of the steps of runs of at most so many steps, and those without one of none of these; or of none
 -- at all, where all runs were gone through
 pub record Meets {P : Type 0} (after : P → ℕ → Option P) (passes : P → ℕ → ℕ) (q : P) (turns count : ℕ) (m : Met) : Type 0 where
   pub as_many : length m.marks.items ≡ count
-  pub told : (n : ℕ) → slice_get m.marks.items n ≡ Some true → IsToldWithin after passes q turns n
-  pub within : (n : ℕ) → n < count → IsToldWithin after passes q turns n → slice_get m.marks.items n ≡ Some true
-  pub all : m.whole ≡ true → (n : ℕ) → n < count → IsTold after passes q n → slice_get m.marks.items n ≡ Some true
+  pub report : (n : ℕ) → slice_get m.marks.items n ≡ Some true → IsReportedWithin after passes q turns n
+  pub within : (n : ℕ) → n < count → IsReportedWithin after passes q turns n → slice_get m.marks.items n ≡ Some true
+  pub all : m.whole ≡ true → (n : ℕ) → n < count → IsReported after passes q n → slice_get m.marks.items n ≡ Some true
+
+-- a run leads to a place that is looked for
+abbrev pub IsMet : {P : Type 0} → (P → ℕ → Option P) → (P → Bool) → P → Type 0
+IsMet after wanted q = (steps : List ℕ) × IsShortest after wanted q steps
+
+-- all room for places was used up by runs of fewer steps than were asked for
+abbrev pub IsFull : {P : Type 0} → (P → ℕ → Option P) → P → ℕ → ℕ → Type 0
+IsFull after q turns room = (n : ℕ) × (n < turns) × UsedUp after q n room
+
+-- why nothing may be known of any number: a place that is looked for was met, the room was used up, or who may end the search did
+abbrev pub IsLeftOpen : {P : Type 0} → (P → ℕ → Option P) → (P → Bool) → P → ℕ → ℕ → Bool → Type 0
+IsLeftOpen after wanted q turns room over = IsMet after wanted q ⊎ (IsFull after q turns room ⊎ (over ≡ true))
 
 -- ---- on the way there
 
@@ -45,16 +57,21 @@ AreKept marks more = (n : ℕ) → slice_get marks n ≡ Some true → slice_get
 abbrev pub IsMarked : {P : Type 0} → (P → ℕ → Option P) → (P → ℕ → ℕ) → P → List Bool → ℕ → Type 0
 IsMarked after passes r marks s = (next : _) → after r s ≡ Some next → passes r s < length marks → slice_get marks (passes r s) ≡ Some true
 
--- it is told of an edge that leaves one of the first places
-pub record HasTold (edges : List Edge) (first n : ℕ) : Type 0 where
-  pub number : ℕ
-  pub edge : Edge
-  pub is_one : slice_get edges number ≡ Some edge
-  pub early : edge.from < first
-  pub told : edge.passes ≡ n
+-- the marks of the one, and that of a number, if there is a mark for it
+pub record Notes (number : ℕ) (marks more : List Bool) : Type 0 where
+  pub marked : number < length marks → slice_get more number ≡ Some true
+  pub kept : AreKept marks more
+  pub met : (n : ℕ) → slice_get more n ≡ Some true → (slice_get marks n ≡ Some true) ⊎ (n ≡ number)
+  pub long : length more ≡ length marks
 
 -- it is told of a step from one of the first places
 pub record IsNear {P : Type 0} (after : P → ℕ → Option P) (passes : P → ℕ → ℕ) (q : P) (nodes : List Node) (first n : ℕ) : Type 0 where
   pub number : ℕ
   pub early : number < first
-  pub last : IsToldAt after passes (found_at after q nodes number).place n
+  pub last : IsReportedAt after passes (found_at after q nodes number).place n
+
+-- the marks are those of the numbers that are told of all steps from the first places, and of the first steps from the next
+pub record AreNoted {P : Type 0} (after : P → ℕ → Option P) (passes : P → ℕ → ℕ) (q : P) (nodes : List Node) (marks : List Bool) (at steps : ℕ) : Type 0 where
+  pub near : (n : ℕ) → slice_get marks n ≡ Some true → (first : ℕ) → at ≤ first → (0 < steps → at < first) → IsNear after passes q nodes first n
+  pub before : (i s : ℕ) → i < at → IsMarked after passes (found_at after q nodes i).place marks s
+  pub here : (s : ℕ) → s < steps → IsMarked after passes (found_at after q nodes at).place marks s

@@ -6,7 +6,7 @@ use Rattle.fmp_search.specs.declared.exploring.Answer.{Answer}
 use Rattle.fmp_search.specs.declared.exploring.Answer.TheVariants as answer
 use Rattle.fmp_search.specs.Runs.{run}
 
--- with the steps to a node's place, behind the steps to the places before it
+-- with the steps to a node's place, after the steps to the places before it
 abbrev pub with_path : List (List ℕ) → Node → List (List ℕ)
 with_path found n = found ++ (slice_index_or found n.parent [] ++ n.step ∷ []) ∷ []
 
@@ -19,7 +19,7 @@ abbrev pub path_at : List Node → ℕ → List ℕ
 path_at nodes i = slice_index_or (paths nodes) i []
 
 -- each node is of a step from a place before it
-pub record AreBehind (nodes : List Node) : Type 0 where
+pub record AreAfter (nodes : List Node) : Type 0 where
   pub earlier : (k : ℕ) (d : Node) → k < length nodes → (slice_index_or nodes k d).parent ≤ k
 
 -- the steps to the places from this number on

@@ -14,5 +14,5 @@ Goes (Some r) made q = (made ≡ true) × (q ≡ r)
 
 -- likewise, and it was told what is so of the step
 abbrev pub Watches : {P : Type 0} → Option P → ℕ → Option ℕ → P → Type 0
-Watches None passes told q = told ≡ None
-Watches (Some r) passes told q = (told ≡ Some passes) × (q ≡ r)
+Watches None passes report q = report ≡ None
+Watches (Some r) passes report q = (report ≡ Some passes) × (q ≡ r)

@@ -18,8 +18,8 @@ HasWithin (Some r) n = length r.steps.items ≤ n
 
 -- where an edge passes the test and leads to a place without a mark, a run was found that is no longer than the one over it
 abbrev pub AreEntered : {P : Type 0} → (P → ℕ → Option P) → P → List Node → List Edge → List Bool → ℕ → Option Run → Type 0
-AreEntered after q nodes edges marks test best = (k : ℕ) (e : Edge) → slice_get edges k ≡ Some e → is_bit e.passes test ≡ true → mark_at marks e.to ≡ false →
-    HasWithin best ((found_at after q nodes e.from).depth + 1)
+AreEntered after q nodes edges marks test best = (k : ℕ) (e : Edge) → slice_get edges k ≡ Some e → is_bit e.passes test ≡ true →
+    mark_at marks e.to ≡ false → HasWithin best ((found_at after q nodes e.from).depth + 1)
 
 -- where a run ends for ever by the test, one was found that is no longer
 abbrev pub Covers : {P : Type 0} → (P → ℕ → Option P) → (P → ℕ → ℕ) → P → ℕ → Option Run → Type 0

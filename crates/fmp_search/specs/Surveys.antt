@@ -7,6 +7,7 @@ use Rattle.fmp_search.specs.declared.surveying.Survey.{Survey}
 use Rattle.fmp_search.specs.Answers.{Explored, IsShortest, NoneWithin}
 use Rattle.fmp_search.specs.Charts.{IsCharted}
 use Rattle.fmp_search.specs.Growth.{AreFound}
+use Rattle.fmp_search.specs.Meeting.{AreNoted}
 use Rattle.fmp_search.specs.Runs.{run}
 use Rattle.fmp_search.specs.Trees.{found_at}
 
@@ -14,7 +15,8 @@ use Rattle.fmp_search.specs.Trees.{found_at}
 pub record IsPassed {P : Type 0} (after : P → ℕ → Option P) (q : P) (nodes : List Node) (turns first : ℕ) : Type 0 where
   pub few : first ≤ length nodes + 1
   pub near : (i : ℕ) → i < first → (found_at after q nodes i).depth < turns
-  pub through : (steps : List ℕ) (r : P) → length steps < turns → run after q steps ≡ Some r → (i : ℕ) × (i < first) × ((found_at after q nodes i).place ≡ r)
+  pub through : (steps : List ℕ) (r : P) → length steps < turns → run after q steps ≡ Some r →
+      (i : ℕ) × (i < first) × ((found_at after q nodes i).place ≡ r)
 
 -- the places of all runs of so many steps were found, from the first of them all steps lead to places that were found, and they are those of all runs of fewer
 -- steps than were asked for
@@ -32,7 +34,9 @@ GoesSo after wanted q turns room nodes n opened layer.Full = (n < turns) × None
 GoesSo after wanted q turns room nodes n opened layer.Over = (n < turns) × NoneWithin after wanted q n
 GoesSo after wanted q turns room nodes n opened layer.Done = IsThrough after wanted q turns nodes n opened
 
--- the places are those of all runs of so many steps, and the edges between them are there, if they are kept
+-- the places are those of all runs of so many steps, and the edges between them are there, if they are kept; and where steps were all tried, the marks of what was
+-- told of them
 pub record IsSurveyed {P : Type 0} (after : P → ℕ → Option P) (passes : P → ℕ → ℕ) (q : P) (s : Survey) : Type 0 where
   pub found : AreFound after q s.depth s.store.nodes.items
   pub charted : s.chart.kept ≡ true → IsCharted after passes q s.store.nodes.items s.chart
+  pub noted : s.how ≡ layer.Done → AreNoted after passes q s.store.nodes.items s.chart.marks.items s.chart.opened 0

@@ -74,7 +74,7 @@ impl Edges {
         }
     }
 
-    /// Adds an edge behind the others. The error is want of memory.
+    /// Adds an edge after the others. The error is want of memory.
     pub(crate) fn push(&mut self, alloc: Global, edge: Edge) -> Result<(), AllocError>
         ensures { OnOk result (self.new ≡ self.old ++ edge ∷ []) }
     {

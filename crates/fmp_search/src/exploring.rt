@@ -27,13 +27,14 @@ pub enum Answer {
 
 /// Goes through all places, the nearest first, up to so many steps from where all runs begin, and with room for so many places. Four
 /// walkers stand at places of the same graph: one is made to stand at a place and is copied for each step from there, one makes that step,
-/// one looks at what was found before, and one stands at the last place through which all runs lead that are gone on from.
+/// one looks at what was found before, and one stands where all runs begin. Others of its kind are made, which stand at the places that were
+/// opened last.
 ///
 /// Where the room does not do, `NotWithin` says for how many steps it did, and then all of it was used. `Ended` is the answer only where `progress`
 /// ends the search. Where it did, and not all is known, the
 /// places that were found last are given beside that, to go on from. How far the search went is told unless a run was found. The error is want of
 /// memory.
-pub fn explore_measured<W: Space, P: Progress>(
+pub fn explore_measured<W: Space + Drop, P: Progress>(
     alloc: Global,
     walker: &mut W,
     base: &mut W,
@@ -56,7 +57,7 @@ pub fn explore_measured<W: Space, P: Progress>(
         chart,
         depth,
     } = go_through(
-        alloc, walker, base, other, trunk, progress, turns, most, false,
+        alloc, walker, base, other, trunk, progress, turns, most, false, 0,
     )?;
     match how {
         Layer::Found(steps) => Ok((Answer::Found(steps), Roots::none(alloc), None)),
@@ -80,7 +81,7 @@ pub fn explore_measured<W: Space, P: Progress>(
 }
 
 /// What `explore_measured` gives but for how far it went.
-pub fn explore<W: Space, P: Progress>(
+pub fn explore<W: Space + Drop, P: Progress>(
     alloc: Global,
     walker: &mut W,
     base: &mut W,

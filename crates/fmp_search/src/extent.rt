@@ -1,7 +1,7 @@
 //! How far a search went.
 ghost use Rattle.std.specs.Prelude.{◌<◌, ◌^◌, length, IfOk};
 ghost use Rattle.fmp_search.specs.Extents.{IsExtent};
-ghost use Rattle.fmp_search.specs.Roots.{AreBehind};
+ghost use Rattle.fmp_search.specs.Roots.{AreAfter};
 
 use crate::nodes::Node;
 use std::alloc::{AllocError, Global};
@@ -15,7 +15,7 @@ pub struct Extent {
 
 /// How many places there are, and how many steps lead to the farthest. The error is want of memory.
 pub(crate) fn extent_of(alloc: Global, nodes: &[Node]) -> Result<Extent, AllocError>
-    requires behind { AreBehind nodes.now }
+    requires following { AreAfter nodes.now }
     requires few { length nodes.now < 2 ^ 32 }
     ensures { IfOk result (IsExtent nodes.now) }
 {

@@ -73,6 +73,14 @@ impl<'a, W: Space + Drop> Space for Guided<'a, W> {
 
     ghost room = { λ g. W.room g.walker };
 
+    fn another(&self) -> Result<Self, AllocError> {
+        Ok(Guided {
+            walker: self.walker.another()?,
+            choices: self.choices,
+            made: 0,
+        })
+    }
+
     fn restart(&mut self) -> Result<(), AllocError> {
         self.walker.restart()?;
         self.made = 0;
@@ -96,9 +104,9 @@ impl<'a, W: Space + Drop> Space for Guided<'a, W> {
         if !self.may_choose(step) {
             return Ok(None);
         }
-        let told = self.walker.watch(step)?;
+        let report = self.walker.watch(step)?;
         self.made = one_more(self.made, self.choices.len());
-        Ok(told)
+        Ok(report)
     }
 
     fn again(&mut self, step: u8) {

@@ -1,6 +1,6 @@
 //! The steps to a place.
 ghost use Rattle.std.specs.Prelude.{◌≡◌, ◌≤◌, ◌++◌, ◌⊎◌, length, IfOk};
-ghost use Rattle.fmp_search.specs.Roots.{path_at, AreBehind};
+ghost use Rattle.fmp_search.specs.Roots.{path_at, AreAfter};
 
 use crate::nodes::Node;
 use std::alloc::{AllocError, Global};
@@ -13,7 +13,7 @@ pub(crate) fn path_from(
     stem: usize,
     at: usize,
 ) -> Result<(usize, Vec<u8>), AllocError>
-    requires behind { AreBehind nodes.now }
+    requires following { AreAfter nodes.now }
     requires place { at ≤ length nodes.now }
     ensures from { IfOk result (λ r. (r.0 ≡ stem) ⊎ (r.0 ≡ 0)) }
     ensures path { IfOk result (λ r. path_at nodes.now r.0 ++ r.1.items ≡ path_at nodes.now at) }

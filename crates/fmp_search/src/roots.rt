@@ -1,6 +1,6 @@
 //! The places that a search found last, to go on from each of them.
 ghost use Rattle.std.specs.Prelude.{◌≡◌, ◌<◌, ◌≤◌, ◌+◌, [], length, Some, IfOk, slice_get};
-ghost use Rattle.fmp_search.specs.Roots.{roots_of, AreBehind};
+ghost use Rattle.fmp_search.specs.Roots.{roots_of, AreAfter};
 
 use crate::nodes::Node;
 use crate::paths::path_from;
@@ -16,13 +16,13 @@ pub struct Roots {
 
 impl Model for Roots {
     ghost use Rattle.std.specs.Prelude.{◌≤◌, ◌+◌, ℕ, List, length};
-    ghost use Rattle.fmp_search.specs.Roots.{roots_of, AreBehind};
+    ghost use Rattle.fmp_search.specs.Roots.{roots_of, AreAfter};
 
     ghost Value = { List (List ℕ) };
 
     ghost view = { λ r. roots_of r.nodes.items r.first };
 
-    ghost invariant = { λ r. AreBehind r.nodes.items × (r.first ≤ length r.nodes.items + 1) };
+    ghost invariant = { λ r. AreAfter r.nodes.items × (r.first ≤ length r.nodes.items + 1) };
 }
 
 impl Roots {
@@ -38,7 +38,7 @@ impl Roots {
 
     /// The places of these nodes from a number on.
     pub(crate) fn of(nodes: Vec<Node>, first: usize) -> Roots
-        requires behind { AreBehind nodes.items }
+        requires following { AreAfter nodes.items }
         requires first { first ≤ length nodes.items + 1 }
         ensures { result ≡ roots_of nodes.items first }
     {

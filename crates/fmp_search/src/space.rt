@@ -27,6 +27,10 @@ pub trait Space {
     // For how many steps more there is room, before it has to go back.
     ghost room: { Self → ℕ };
 
+    /// One more, whose runs begin at the same place, and which may stand anywhere. The error is want of memory.
+    fn another(&self) -> Result<Self, AllocError>
+        ensures { IfOk result (λ w. origin w ≡ origin self.now) };
+
     /// Goes back to where all runs begin. The error is want of memory.
     fn restart(&mut self) -> Result<(), AllocError>
         ensures there { IfOk result (λ done. place self.new ≡ origin self.old) }
@@ -47,7 +51,7 @@ pub trait Space {
     /// Makes the step of a number as `go` does, and tells which tests it passes: bit k for test k. None where it could not be made.
     fn watch(&mut self, step: u8) -> Result<Option<u64>, AllocError>
         requires { 0 < room self.old }
-        ensures goes { IfOk result (λ told. Watches (after (place self.old) step) (passes (place self.old) step) told (place self.new)) }
+        ensures goes { IfOk result (λ report. Watches (after (place self.old) step) (passes (place self.old) step) report (place self.new)) }
         ensures origin { origin self.new ≡ origin self.old };
 
     /// Makes the step of a number again, of which it is known that it can be made.

@@ -19,7 +19,7 @@ use crate::space::Space;
 use crate::surveying::go_through;
 use std::alloc::{AllocError, Global};
 
-/// What is known of runs whose last step passes one of some tests, and every step behind it too.
+/// What is known of runs whose last step passes one of some tests, and every step after it too.
 #[derive(Drop)]
 pub enum Stay {
     /// These steps are such a run, for the test of this number, and none for any test is shorter.
@@ -93,7 +93,8 @@ fn marks_of<W: Space>(
     requires test { test < 64 }
     requires charted { IsCharted W.after W.passes (W.origin walker.now) nodes.now chart.now }
     ensures closed { IfOk result (λ marks. AreClosed W.after (test_of W.passes test) (W.origin walker.now) nodes.now marks.items) }
-    ensures earned { IfOk result (λ marks. chart.now.opened ≡ length nodes.now + 1 → AreEarned W.after (test_of W.passes test) (W.origin walker.now) nodes.now marks.items) }
+    ensures earned { IfOk result (λ marks. chart.now.opened ≡ length nodes.now + 1
+        → AreEarned W.after (test_of W.passes test) (W.origin walker.now) nodes.now marks.items) }
     ensures long { IfOk result (λ marks. length marks.items ≡ length nodes.now + 1) }
 {
     let mut marks = open_from(alloc, chart.opened, nodes.len() + 1)?;
@@ -101,7 +102,7 @@ fn marks_of<W: Space>(
     Ok(marks)
 }
 
-/// A run whose last step passes the test of a number, as every step behind it does.
+/// A run whose last step passes the test of a number, as every step after it does.
 #[derive(Drop)]
 struct Run {
     test: u8,
@@ -197,7 +198,7 @@ fn entered<W: Space>(
 }
 
 /// The answer of a run that was found, or of none, where all was gone through or not.
-fn told<W: Space>(
+fn report<W: Space>(
     _walker: &W,
     _nodes: &[Node],
     best: Option<Run>,
@@ -231,7 +232,7 @@ fn told<W: Space>(
 }
 
 /// What is known by the places that were found and the steps between them. The error is want of memory.
-fn told_of<W: Space>(
+fn report_of<W: Space>(
     alloc: Global,
     walker: &W,
     nodes: &[Node],
@@ -253,12 +254,12 @@ fn told_of<W: Space>(
         best = entered(alloc, walker, nodes, &chart.edges, &marks, test, best)?;
     }
     let whole = chart.opened == nodes.len() + 1;
-    Ok(told(walker, nodes, best, whole, tests, turns))
+    Ok(report(walker, nodes, best, whole, tests, turns))
 }
 
-/// Looks for a run whose last step passes one of so many tests, as every step behind it does: through all places, up to so many steps from where all
+/// Looks for a run whose last step passes one of so many tests, as every step after it does: through all places, up to so many steps from where all
 /// runs begin, and with room for so many besides the first. How far it went is told too. The error is want of memory.
-pub fn for_ever<W: Space, P: Progress>(
+pub fn for_ever<W: Space + Drop, P: Progress>(
     alloc: Global,
     walker: &mut W,
     base: &mut W,
@@ -276,7 +277,7 @@ pub fn for_ever<W: Space, P: Progress>(
     ensures went { IfOk result (λ r. WentForEver W.after (W.origin walker.old) r.0 r.1) }
 {
     let found = go_through(
-        alloc, walker, base, other, trunk, progress, turns, most, true,
+        alloc, walker, base, other, trunk, progress, turns, most, true, 0,
     )?;
     let extent = extent_of(alloc, &found.store.nodes)?;
     let depth = found.depth;
@@ -284,7 +285,7 @@ pub fn for_ever<W: Space, P: Progress>(
         Layer::Over => Ok((Stay::NotKnown(depth), extent)),
         _ => {
             let nodes = &found.store.nodes;
-            let stay = told_of(alloc, walker, nodes, &found.chart, tests, depth)?;
+            let stay = report_of(alloc, walker, nodes, &found.chart, tests, depth)?;
             Ok((stay, extent))
         }
     }

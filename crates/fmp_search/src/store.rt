@@ -1,8 +1,10 @@
 //! All places that were found, and a table by which one is found again.
 ghost use Rattle.std.specs.Prelude.{◌≡◌, ◌≤◌, ◌<◌, ◌+◌, ◌^◌, ◌++◌, ◌∷◌, ◌↔◌, [], true, length, IfOk, IfSome, ℕ};
-ghost use Rattle.fmp_search.specs.Trees.{found_at, IsAt, IsTree, StandsAt};
+ghost use Rattle.fmp_search.specs.Cache.{IsCache};
+ghost use Rattle.fmp_search.specs.Trees.{found_at, IsAt, IsTree};
 
-use crate::nodes::{Node, stand_at};
+use crate::cache::{Cached, go_to};
+use crate::nodes::Node;
 use crate::space::Space;
 use crate::table::{NOBODY, put, slot};
 use std::alloc::{AllocError, Global};
@@ -48,7 +50,7 @@ impl Store {
         self.nodes.len() >= self.most as usize
     }
 
-    /// Adds a place behind the others, which the table then has too. The error is want of memory.
+    /// Adds a place after the others, which the table then has too. The error is want of memory.
     pub(crate) fn push(&mut self, node: Node) -> Result<(), AllocError>
         requires { length self.old.nodes.items < self.old.most }
         ensures more { IfOk result (λ done. self.new.nodes.items ≡ self.old.nodes.items ++ node ∷ []) }
@@ -72,18 +74,17 @@ impl Store {
     }
 
     /// The number of the place where a walker stands, of this hash. None where it was not found yet. It may be none where it was.
-    pub(crate) fn find<W: Space>(
+    pub(crate) fn find<W: Space + Drop>(
         &self,
         alloc: Global,
         walker: &W,
         other: &mut W,
-        trunk: &W,
-        stem: usize,
+        cache: &[Cached<W>],
         hash: u64,
     ) -> Result<Option<u32>, AllocError>
         requires tree { IsTree W.after (W.origin other.old) self.now.nodes.items }
-        requires origins { (W.origin other.old ≡ W.origin walker.now) × (W.origin trunk.now ≡ W.origin walker.now) }
-        requires trunk { StandsAt W.after (W.origin other.old) self.now.nodes.items stem (W.place trunk.now) (W.room trunk.now) }
+        requires origins { W.origin other.old ≡ W.origin walker.now }
+        requires cache { IsCache W.place W.room W.origin W.after (W.origin other.old) self.now.nodes.items cache.now }
         requires depths { (i : ℕ) → i ≤ length self.now.nodes.items → (found_at W.after (W.origin other.old) self.now.nodes.items i).depth < 2 ^ 31 }
         ensures known { IfOk result (λ n. IfSome n (λ i. IsAt W.after (W.origin other.old) self.now.nodes.items i (W.place walker.now))) }
         ensures origin { W.origin other.new ≡ W.origin other.old }
@@ -94,7 +95,7 @@ impl Store {
             if number == NOBODY {
                 return Ok(None);
             }
-            if self.is_at(alloc, walker, other, trunk, stem, hash, number as usize)? {
+            if self.is_at(alloc, walker, other, cache, hash, number as usize)? {
                 return Ok(Some(number));
             }
         }
@@ -103,19 +104,18 @@ impl Store {
 
     /// Whether `walker` stands at the place of a number, of this hash. It may say no where it does. The other walker goes there to compare.
     /// The error is want of memory.
-    fn is_at<W: Space>(
+    fn is_at<W: Space + Drop>(
         &self,
         alloc: Global,
         walker: &W,
         other: &mut W,
-        trunk: &W,
-        stem: usize,
+        cache: &[Cached<W>],
         hash: u64,
         number: usize,
     ) -> Result<bool, AllocError>
         requires tree { IsTree W.after (W.origin other.old) self.now.nodes.items }
-        requires origins { (W.origin other.old ≡ W.origin walker.now) × (W.origin trunk.now ≡ W.origin walker.now) }
-        requires trunk { StandsAt W.after (W.origin other.old) self.now.nodes.items stem (W.place trunk.now) (W.room trunk.now) }
+        requires origins { W.origin other.old ≡ W.origin walker.now }
+        requires cache { IsCache W.place W.room W.origin W.after (W.origin other.old) self.now.nodes.items cache.now }
         requires depths { (i : ℕ) → i ≤ length self.now.nodes.items → (found_at W.after (W.origin other.old) self.now.nodes.items i).depth < 2 ^ 31 }
         ensures known { IfOk result (λ k. k ≡ true → IsAt W.after (W.origin other.old) self.now.nodes.items number (W.place walker.now)) }
         ensures origin { W.origin other.new ≡ W.origin other.old }
@@ -126,7 +126,7 @@ impl Store {
         if !self.has_hash(number, hash) {
             return Ok(false);
         }
-        stand_at(alloc, other, trunk, &self.nodes, stem, number)?;
+        go_to(alloc, other, cache, &self.nodes, number)?;
         Ok(walker.is_same(other))
     }
 }

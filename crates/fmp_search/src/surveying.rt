@@ -1,12 +1,11 @@
 //! Going through places, the nearest first.
-ghost use Rattle.std.specs.Prelude.{◌≡◌, ◌≤◌, ◌<◌, ◌+◌, ◌^◌, length, IfOk};
+ghost use Rattle.std.specs.Prelude.{◌≡◌, ◌<◌, ◌^◌, length, IfOk};
 ghost use Rattle.fmp_search.specs.Surveys.{GoesSo, IsSurveyed};
 ghost use Rattle.fmp_search.specs.Growth.{IsOverBy};
-ghost use Rattle.fmp_search.specs.Trees.{found_at, IsTree, StandsAt};
 
+use crate::cache::first_cached;
 use crate::chart::Chart;
 use crate::layer::{Front, Layer, open_layer};
-use crate::nodes::stand_at;
 use crate::progress::Progress;
 use crate::space::Space;
 use crate::store::Store;
@@ -35,36 +34,10 @@ impl Survey {
     }
 }
 
-/// Makes `trunk` stand at the place where a layer begins, if that is the only one there: all places that are found behind it are made again from
-/// there. Gives the number of the place where it stands then. The error is want of memory.
-fn move_trunk<W: Space>(
-    alloc: Global,
-    trunk: &mut W,
-    base: &mut W,
-    store: &Store,
-    stem: usize,
-    begin: usize,
-) -> Result<usize, AllocError>
-    requires tree { IsTree W.after (W.origin trunk.old) store.now.nodes.items }
-    requires place { begin ≤ length store.now.nodes.items }
-    requires depth { (found_at W.after (W.origin trunk.old) store.now.nodes.items begin).depth < 2 ^ 31 }
-    requires trunk { StandsAt W.after (W.origin trunk.old) store.now.nodes.items stem (W.place trunk.old) (W.room trunk.old) }
-    requires origins { W.origin base.old ≡ W.origin trunk.old }
-    ensures trunk { IfOk result (λ at. StandsAt W.after (W.origin trunk.old) store.now.nodes.items at (W.place trunk.new) (W.room trunk.new)) }
-    ensures trunk_origin { W.origin trunk.new ≡ W.origin trunk.old }
-    ensures base_origin { W.origin base.new ≡ W.origin base.old }
-{
-    if begin + 1 < store.count() {
-        return Ok(stem);
-    }
-    stand_at(alloc, base, trunk, &store.nodes, stem, begin)?;
-    trunk.copy_from(base)?;
-    Ok(begin)
-}
-
 /// Goes through all places, the nearest first, until one is found that is looked for: up to so many steps from where all runs begin, and with room for so
-/// many besides the first. Whether the edges between them are kept is given. The error is want of memory.
-pub(crate) fn go_through<W: Space, P: Progress>(
+/// many besides the first. Whether the edges between them are kept is given, and for how many of the numbers that are told of steps there is a mark. The error
+/// is want of memory.
+pub(crate) fn go_through<W: Space + Drop, P: Progress>(
     alloc: Global,
     walker: &mut W,
     base: &mut W,
@@ -74,6 +47,7 @@ pub(crate) fn go_through<W: Space, P: Progress>(
     turns: u32,
     most: u32,
     kept: bool,
+    count: usize,
 ) -> Result<Survey, AllocError>
     requires origins { (W.origin base.old ≡ W.origin walker.old) × (W.origin other.old ≡ W.origin walker.old) × (W.origin trunk.old ≡ W.origin walker.old) }
     requires turns { turns < 2 ^ 31 }
@@ -81,28 +55,28 @@ pub(crate) fn go_through<W: Space, P: Progress>(
     ensures through { IfOk result (λ s. GoesSo W.after W.wanted (W.origin walker.old) turns most s.store.nodes.items s.depth s.chart.opened s.how) }
     ensures over { IfOk result (λ s. IsOverBy (P.over progress.new) s.how) }
     ensures kept { IfOk result (λ s. s.chart.kept ≡ kept) }
+    ensures marks { IfOk result (λ s. length s.chart.marks.items ≡ count) }
     ensures walker_origin { W.origin walker.new ≡ W.origin walker.old }
     ensures base_origin { W.origin base.new ≡ W.origin base.old }
     ensures trunk_origin { W.origin trunk.new ≡ W.origin trunk.old }
 {
     trunk.restart()?;
     let mut store = Store::new(alloc, trunk.hash(), most)?;
-    let mut chart = Chart::new(alloc, kept);
+    let mut chart = Chart::new(alloc, kept, count)?;
+    let mut cache = first_cached(alloc, trunk, &store.nodes)?;
     if trunk.is_wanted() {
         let none = Layer::Found(Vec::new(alloc));
         return Ok(Survey::of(none, store, chart, 0));
     }
     let mut begin = 0;
-    let mut stem = 0;
     for depth in 0..turns {
         let end = store.count();
         if begin == end {
             return Ok(Survey::of(Layer::Done, store, chart, depth));
         }
-        stem = move_trunk(alloc, trunk, base, &store, stem, begin)?;
-        let front = Front { depth, end, stem };
+        let front = Front { depth, end };
         let how = open_layer(
-            alloc, walker, base, other, trunk, progress, &mut store, &mut chart, front, begin,
+            alloc, walker, base, other, &mut cache, progress, &mut store, &mut chart, front, begin,
         )?;
         match how {
             Layer::Done => begin = end,

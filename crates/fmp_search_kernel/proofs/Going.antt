@@ -1,5 +1,5 @@
 -- What an event leads to.
-use Rattle.std.proofs.Common.{◌≡◌, ◌≤◌, ℕ, ◌+◌, Bool, true, false, cond, Some, None, Result, Ok, Err, [], ◌∷◌, ap, sym, subst, ◌∙◌, refl, arith}
+use Rattle.std.proofs.Common.{◌≡◌, ◌≤◌, ℕ, ◌+◌, Bool, true, false, cond, Option, Some, None, List, Result, Ok, Err, [], ◌∷◌, ap, sym, subst, ◌∙◌, refl, arith}
 use Rattle.std.specs.Prelude.{is_some, IfOk}
 use Rattle.fmp_codes.specs.declared.records.Event.{Event}
 use Rattle.fmp_codes.specs.declared.records.Record.{Record}
@@ -9,7 +9,7 @@ use Rattle.fmp_kernel_order.specs.Queues.{Queues, listed}
 use Rattle.fmp_search.specs.Runs.{Goes}
 use Rattle.fmp_search_pattern.specs.Questions.{allows}
 use Rattle.fmp_search_kernel.specs.Walked.{Walked}
-use Rattle.fmp_search_orders.specs.Places.{Place, event_of, is_marked, went, sight_at, after, told_of, told}
+use Rattle.fmp_search_orders.specs.Places.{Place, event_of, is_marked, next_place, went, sight_at, after, report_of, report}
 
 -- what the kernel did of an event leads where the definitions say
 pub went_is : (w w' : Place) (mark : Bool) (e : Event) (k : World Queues) (r : Record) → (k, r) ≡ step listed w.machine e → w' ≡ went w mark (k, r) →
@@ -42,20 +42,29 @@ pub not_gone : (w w' : Place) (s : ℕ) → event_of w s ≡ None → Goes (afte
 unfolding after
 not_gone w w' s is = rw is refl
 
-pub told_is : (w : Place) (s : ℕ) (e : Event) (r : Record) → event_of w s ≡ Some e → r ≡ (step listed w.machine e).1 → told w s ≡ r ∷ []
-unfolding told
-told_is w s e r is same = ap (told_of w) is ∙ ap (λ (x : Record). x ∷ []) (sym same)
+-- where no event may be marked so, no step leads anywhere that marks its event so
+pub none_goes : (w : Place) (s : ℕ) → ((text : List ℕ) → allows w.question w.seen (is_marked s) text ≡ false) → after w s ≡ None
+unfolding after
+none_goes w s never = by (event_of w s)
+  where
+    by : (o : Option Event) → next_place w (is_marked s) o ≡ None
+    by None = refl
+    by (Some e) = rw (never (sight_at (went w (is_marked s) (step listed w.machine e)) (step listed w.machine e).1)) refl
+
+pub report_is : (w : Place) (s : ℕ) (e : Event) (r : Record) → event_of w s ≡ Some e → r ≡ (step listed w.machine e).1 → report w s ≡ r ∷ []
+unfolding report
+report_is w s e r is same = ap (report_of w) is ∙ ap (λ (x : Record). x ∷ []) (sym same)
 
 -- what one who went to a place by an event, and was then told whether it may be marked so, knows of the step
 pub goes_where :
     {E : Type 0} (w : Place) (v v' : Walked) (s : ℕ) (e : Event) (seen : ℕ) (mark : Bool) (o : Result Bool E) → event_of w s ≡ Some e → seen ≡ w.seen →
     mark ≡ is_marked s → v.place ≡ went w mark (step listed w.machine e) → v.made ≡ (step listed w.machine e).1 → v' ≡ v →
     IfOk o (λ r. r ≡ allows v.place.question seen mark (sight_at v.place v.made)) → IfOk o (λ made. Goes (after w s) made v'.place)
-goes_where w v v' s e seen mark (Err x) is seen_is mark_is there told same may = tt
-goes_where w v v' s e seen mark (Ok made) is seen_is mark_is there told same may =
+goes_where w v v' s e seen mark (Err x) is seen_is mark_is there report same may = tt
+goes_where w v v' s e seen mark (Ok made) is seen_is mark_is there report same may =
     let r = (step listed w.machine e).1 in
     let there' = subst (λ (b : Bool). v.place ≡ went w b (step listed w.machine e)) mark_is there in
     let by_seen = subst (λ (n : ℕ). made ≡ allows v.place.question n mark (sight_at v.place v.made)) seen_is may in
     let by_mark = subst (λ (b : Bool). made ≡ allows v.place.question w.seen b (sight_at v.place v.made)) mark_is by_seen in
-    let by_told = subst (λ (x : Record). made ≡ allows v.place.question w.seen (is_marked s) (sight_at v.place x)) told by_mark in
-    subst (λ (x : Walked). Goes (after w s) made x.place) (sym same) (goes_to w v.place s e is there' made by_told)
+    let by_reported = subst (λ (x : Record). made ≡ allows v.place.question w.seen (is_marked s) (sight_at v.place x)) report by_mark in
+    subst (λ (x : Walked). Goes (after w s) made x.place) (sym same) (goes_to w v.place s e is there' made by_reported)

@@ -54,12 +54,12 @@ module _ (w : Place) (none : w.question ≡ []) (s : ℕ) where
   pub watches_so : (w' : Place) (e : Event) (lasting : List Lasting) (n : ℕ) (r : Record) → is_marked s ≡ false → event_of w s ≡ Some e →
       w' ≡ went w false (step listed w.machine e) → r ≡ (step listed w.machine e).1 → n ≡ bits_of (map (λ l. is_so l (sight_at w' r)) lasting) →
       Watches (after w s) (bits_of (map (λ l. step_test (is_so l) w s) lasting)) (Some n) w'
-  watches_so w' e lasting n r mark is there told bits =
+  watches_so w' e lasting n r mark is there report bits =
       let did = step listed w.machine e in
       let same : n ≡ bits_of (map (λ l. step_test (is_so l) w s) lasting) =
       bits
       ∙ ap (λ (x : Place). bits_of (map (λ l. is_so l (sight_at x r)) lasting)) there
-      ∙ ap (λ (x : Record). bits_of (map (λ l. is_so l (sight_at (went w false did) x)) lasting)) told
+      ∙ ap (λ (x : Record). bits_of (map (λ l. is_so l (sight_at (went w false did) x)) lasting)) report
       ∙ sym (ap (λ o. bits_of (map (λ l. test_there (is_so l) w o) lasting)) is) in
       subst (λ o. Watches o (bits_of (map (λ l. step_test (is_so l) w s) lasting)) (Some n) w') (sym (unmarked e mark is)) (ap Some same, there)
 
@@ -76,10 +76,10 @@ module _ (lasting : List Lasting) where
       go None is = is
       go (Some x) is = (is.0, ap (watched lasting) is.1)
 
-  pub watches_watched : (w w' : Place) (s p : ℕ) (told : Option ℕ) → Watches (after w s) p told w' → Watches (watched_after (watched lasting w) s) p told (watched lasting w')
-  watches_watched w w' s p told = go (after w s)
+  pub watches_watched : (w w' : Place) (s p : ℕ) (report : Option ℕ) → Watches (after w s) p report w' → Watches (watched_after (watched lasting w) s) p report (watched lasting w')
+  watches_watched w w' s p report = go (after w s)
     where
-      go : (o : Option Place) → Watches o p told w' → Watches (option_map (watched lasting) o) p told (watched lasting w')
+      go : (o : Option Place) → Watches o p report w' → Watches (option_map (watched lasting) o) p report (watched lasting w')
       go None is = is
       go (Some x) is = (is.0, ap (watched lasting) is.1)
 

@@ -58,6 +58,12 @@ impl<'a> Space for Caller<'a> {
 
     ghost room = { λ c. c.left };
 
+    fn another(&self) -> Result<Self, AllocError> {
+        Ok(Caller {
+            walker: self.walker.twin()?,
+        })
+    }
+
     fn restart(&mut self) -> Result<(), AllocError> {
         self.walker.restart()
     }

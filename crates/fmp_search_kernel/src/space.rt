@@ -8,9 +8,9 @@ use fmp_kernel_parts::Digest;
 use fmp_search::Space;
 use std::alloc::AllocError;
 
-/// Adds these numbers to what tells places apart.
-fn add_numbers(digest: &mut Digest, numbers: &[u32]) {
-    for number in numbers {
+/// Adds the first of these numbers, so many, to what tells places apart.
+fn add_numbers(digest: &mut Digest, numbers: &[u32], count: usize) {
+    for number in numbers.get(..count).unwrap_or(numbers) {
         digest.add(u64::from(*number));
     }
 }
@@ -30,6 +30,10 @@ impl<'a> Space for Walker<'a> {
 
     ghost room = { λ w. w.left };
 
+    fn another(&self) -> Result<Self, AllocError> {
+        self.twin()
+    }
+
     /// The error comes where the kernel has not the memory to become as it was at boot: kernels of one configuration have it, but no
     /// clause says so.
     fn restart(&mut self) -> Result<(), AllocError> {
@@ -47,7 +51,7 @@ impl<'a> Space for Walker<'a> {
 
     #[tactic(auto, unfolding(fmp_search_orders::specs::Places::after))]
     fn may_go(&self, step: u8) -> bool {
-        self.event_of(step).is_some()
+        self.may_mark(is_marked(step)) && self.event_of(step).is_some()
     }
 
     /// The error is want of memory for the lines of an event.
@@ -107,13 +111,15 @@ impl<'a> Space for Walker<'a> {
     }
 
     fn hash(&self) -> u64 {
+        let tasks = self.config.tasks().len();
+        let processors = usize::from(self.config.processors());
         let mut digest = Digest::new();
         digest.add(self.kernel.hash());
         digest.add(u64::from(self.seen));
-        add_numbers(&mut digest, &self.tasks);
-        add_numbers(&mut digest, &self.handlers);
-        add_numbers(&mut digest, &self.taken);
-        add_numbers(&mut digest, &self.idled);
+        add_numbers(&mut digest, &self.tasks, tasks);
+        add_numbers(&mut digest, &self.handlers, processors);
+        add_numbers(&mut digest, &self.taken, processors);
+        add_numbers(&mut digest, &self.idled, processors);
         digest.value()
     }
 }

@@ -1,5 +1,5 @@
 //! One who stands at a place of all orders, and makes steps.
-ghost use Rattle.std.specs.Prelude.{◌≡◌, ◌≤◌, ◌<◌, ◌+◌, ◌^◌, [], ◌∷◌, true, false, Some, is_some, length, map, IfOk, IfSome, IfNone, IsTrue, if◌then◌else◌};
+ghost use Rattle.std.specs.Prelude.{◌≡◌, ◌≤◌, ◌<◌, ◌+◌, ◌^◌, ℕ, List, [], ◌∷◌, true, false, Some, is_some, length, map, IfOk, IfSome, IfNone, IsTrue, if◌then◌else◌};
 ghost use Rattle.fmp_codes.specs.Records.{processor_of};
 ghost use Rattle.fmp_rules.specs.Step as machine;
 ghost use Rattle.fmp_kernel_order.specs.Queues.{listed};
@@ -204,6 +204,13 @@ impl<'a> Walker<'a> {
         }
     }
 
+    /// Whether an event may be marked so here: where all steps of the question were seen none may have a mark.
+    pub(crate) fn may_mark(&self, marked: bool) -> bool
+        ensures { result ≡ false → (text : List ℕ) → allows self.now.place.question self.now.place.seen marked text ≡ false }
+    {
+        !marked || has_to_look(self.question, self.seen, marked)
+    }
+
     /// A walker where all runs begin.
     pub fn new(
         config: &'a Config,
@@ -232,6 +239,13 @@ impl<'a> Walker<'a> {
         })
     }
 
+    /// Another walker where all runs of this one begin.
+    pub(crate) fn twin(&self) -> Result<Walker<'a>, AllocError>
+        ensures { IfOk result (λ w. w.place ≡ origin_of self.now.place) }
+    {
+        Walker::new(self.config, self.scripts, self.rules, self.question)
+    }
+
     /// Goes on by an event: the machine, the positions, the ticks and the steps seen change, and `made` tells what was done. It takes the room
     /// of one step.
     pub(crate) fn play(&mut self, event: Event, marked: bool)
@@ -253,12 +267,12 @@ impl<'a> Walker<'a> {
     }
 
     /// Makes the step of a number again, of which it is known that it can be made.
-    #[tactic(auto, unfolding(fmp_search_orders::specs::Places::after, fmp_search_orders::specs::Places::told))]
+    #[tactic(auto, unfolding(fmp_search_orders::specs::Places::after, fmp_search_orders::specs::Places::report))]
     pub fn retrace(&mut self, step: u8)
         requires room { 0 < self.old.left }
         requires made { is_some (places.after self.old.place step) ≡ true }
         ensures again { places.after self.old.place step ≡ Some self.new.place }
-        ensures told { places.told self.old.place step ≡ self.new.made ∷ [] }
+        ensures report { places.report self.old.place step ≡ self.new.made ∷ [] }
         ensures room { self.old.left ≤ self.new.left + 1 }
         ensures origin { origin_of self.new.place ≡ origin_of self.old.place }
     {
@@ -299,8 +313,8 @@ impl<'a> Walker<'a> {
         requires room { 0 < self.old.left }
         requires none { self.old.place.question ≡ [] }
         requires few { length lasting.now ≤ 64 }
-        ensures goes { IfOk result (λ told. Watches (places.after self.old.place step)
-            (bits_of (map (λ l. step_test (is_so l) self.old.place step) lasting.now)) told self.new.place) }
+        ensures goes { IfOk result (λ report. Watches (places.after self.old.place step)
+            (bits_of (map (λ l. step_test (is_so l) self.old.place step) lasting.now)) report self.new.place) }
         ensures origin { origin_of self.new.place ≡ origin_of self.old.place }
         ensures question { self.new.place.question ≡ self.old.place.question }
     {

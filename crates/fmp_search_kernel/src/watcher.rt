@@ -68,6 +68,13 @@ impl<'a> Space for Watcher<'a> {
 
     ghost room = { λ w. w.left };
 
+    fn another(&self) -> Result<Self, AllocError> {
+        Ok(Watcher {
+            walker: self.walker.twin()?,
+            lasting: self.lasting,
+        })
+    }
+
     fn restart(&mut self) -> Result<(), AllocError> {
         self.walker.restart()
     }

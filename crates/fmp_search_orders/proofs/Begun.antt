@@ -21,7 +21,7 @@ use Rattle.fmp_search_pattern.specs.declared.question.Step.{Step}
 use Rattle.fmp_search_pattern.specs.Questions.{allows, seen}
 use Rattle.fmp_search_orders.specs.declared.rules.Rules.{Rules}
 use Rattle.fmp_search_orders.specs.Orders.{MayHappen, AreInOrder, IsOrder}
-use Rattle.fmp_search_orders.specs.Places.{Place, origin, event_of, is_marked, went, sight_at, next_place, after, told_of, told, records}
+use Rattle.fmp_search_orders.specs.Places.{Place, origin, event_of, is_marked, went, sight_at, next_place, after, report_of, report, records}
 use Rattle.fmp_search_orders.specs.Laws.{LeadsTo, is_seen}
 use Rattle.fmp_search_orders.specs.Begun.{GoesOn, NoneShowsFrom, NoneShowsWithinFrom, IsShortestShowFrom, choice_of, choices_of, BegunAnswer}
 use Rattle.fmp_search_orders.proofs.Longer.{same_record, same_allowed, leads_more}
@@ -39,15 +39,15 @@ module _ (c : Setup) (scripts : List Steps) (rs : Rules) (question : List Step) 
   Leads w h marks = LeadsTo c scripts rs question w h marks
 
   -- a step of an event that may happen, in a run that goes on
-  step_behind : (s : ℕ) (steps : List ℕ) (w w' : Place) (g : List Record) (gm : List Bool) (leads : Leads w g gm) (e : Event) → MayHappen c scripts rs g e →
+  step_after : (s : ℕ) (steps : List ℕ) (w w' : Place) (g : List Record) (gm : List Bool) (leads : Leads w g gm) (e : Event) → MayHappen c scripts rs g e →
       event_of w s ≡ Some e → run after w (s ∷ steps) ≡ Some w' →
       (x : Place) × (marks : List Bool) × Leads x (g ++ (step listed w.machine e).1 ∷ []) marks × (run after x steps ≡ Some w')
       × (records w (s ∷ steps) ≡ (step listed w.machine e).1 ∷ records x steps)
-  unfolding after told
-  step_behind s steps w w' g gm leads e may here on =
+  unfolding after report
+  step_after s steps w w' g gm leads e may here on =
       let got = go (allows w.question w.seen mark (sight_at (went w mark did) did.1)) refl
       (subst (λ (o : Option Event). option_and_then (λ r. run after r steps) (next_place w mark o) ≡ Some w') here on) in
-      (got.0, got.1, got.2, got.3, ap (λ (o : Option Event). told_of w o ++ option_map_or (λ r. records r steps) (next_place w mark o) []) here ∙ got.4)
+      (got.0, got.1, got.2, got.3, ap (λ (o : Option Event). report_of w o ++ option_map_or (λ r. records r steps) (next_place w mark o) []) here ∙ got.4)
     where
       mark : Bool
       mark = is_marked s
@@ -58,7 +58,7 @@ module _ (c : Setup) (scripts : List Steps) (rs : Rules) (question : List Step) 
       go : (b : Bool) → allows w.question w.seen mark (sight_at (went w mark did) did.1) ≡ b →
           option_and_then (λ r. run after r steps) (cond b (Some (went w mark did)) None) ≡ Some w' →
           (x : Place) × (marks : List Bool) × Leads x (g ++ did.1 ∷ []) marks × (run after x steps ≡ Some w')
-          × (told_of w (Some e) ++ option_map_or (λ r. records r steps) (cond b (Some (went w mark did)) None) [] ≡ did.1 ∷ records x steps)
+          × (report_of w (Some e) ++ option_map_or (λ r. records r steps) (cond b (Some (went w mark did)) None) [] ≡ did.1 ∷ records x steps)
       go false never on' = cc
       go true holds on' = (
         went w mark did,
@@ -85,14 +85,14 @@ module _ (c : Setup) (scripts : List Steps) (rs : Rules) (question : List Step) 
       let may : MayHappen c scripts rs g e = subst (λ x. MayHappen c scripts rs g x) event (subst (λ x. MayHappen c scripts rs x r.event) before (in_order (length g) r at)) in
       let here : event_of w s ≡ Some e = choice_event c scripts rs question w g gm leads e s may so.0 in
       let did = step listed w.machine e in
-      let told : did.1 ≡ r = same_record c scripts rs question valid w g gm leads e may in
-      let got = step_behind s steps w w' g gm leads e may here on in
-      let more = subst (λ x. Leads got.0 (g ++ x ∷ []) got.1) told got.2 in
+      let report : did.1 ≡ r = same_record c scripts rs question valid w g gm leads e may in
+      let got = step_after s steps w w' g gm leads e may here on in
+      let more = subst (λ x. Leads got.0 (g ++ x ∷ []) got.1) report got.2 in
       let longer : (g ++ r ∷ []) ++ answers numbered (state_after c (g ++ r ∷ [])) es ≡ h =
       ap (λ x. (g ++ r ∷ []) ++ answers numbered x es) (after_more c g e r event) ∙ append_assoc g (r ∷ []) rest ∙ is in
       let last = begins es steps got.0 w' (g ++ r ∷ []) got.1 h more got.3 longer in_order so.1 in (
         last.0,
-        ap (λ x. r ∷ (answers numbered x es ++ last.0)) (sym (after_more c g e r event)) ∙ ap (λ x. r ∷ x) last.1 ∙ ap (λ x. x ∷ records got.0 steps) (sym told)
+        ap (λ x. r ∷ (answers numbered x es ++ last.0)) (sym (after_more c g e r event)) ∙ ap (λ x. r ∷ x) last.1 ∙ ap (λ x. x ∷ records got.0 steps) (sym report)
             ∙ sym got.4,
       )
 
@@ -172,12 +172,12 @@ module _ (c : Setup) (scripts : List Steps) (rs : Rules) (valid : IsValid c) whe
       (event_of w (choice_of r.event).step ≡ Some r.event) × (r ≡ (step listed w.machine r.event).1)
   on_next w h on r order =
       let e = r.event in
-      let told = (step listed w.machine e).1 in
+      let report = (step listed w.machine e).1 in
       let end = at_end c scripts rs [] valid h [] r in
       let may : MayHappen c scripts rs h e = subst (λ x. MayHappen c scripts rs x e) end.1 (order.in_order (length h) r end.0) in
       let here : event_of w (choice_of e).step ≡ Some e = choice_event c scripts rs [] w h on.0 on.1 e (choice_of e).step may (is_first (choice_of e) (choice_of e).step refl) in
       let more = on_more w h on (choice_of e).step e here in
-      let event : told.event ≡ e = on_event w h on (choice_of e).step e here in
-      let events : events_of (h ++ told ∷ []) ≡ events_of (h ++ r ∷ []) = events_more h told ∙ ap (λ x. events_of h ++ x ∷ []) event ∙ sym (events_more h r) in
-      let same : h ++ r ∷ [] ≡ h ++ told ∷ [] = order.run.answers ∙ ap (answers numbered (booted c)) (sym events) ∙ sym more.1.order.run.answers in
-      (here, same_last h r told same)
+      let event : report.event ≡ e = on_event w h on (choice_of e).step e here in
+      let events : events_of (h ++ report ∷ []) ≡ events_of (h ++ r ∷ []) = events_more h report ∙ ap (λ x. events_of h ++ x ∷ []) event ∙ sym (events_more h r) in
+      let same : h ++ r ∷ [] ≡ h ++ report ∷ [] = order.run.answers ∙ ap (answers numbered (booted c)) (sym events) ∙ sym more.1.order.run.answers in
+      (here, same_last h r report same)

@@ -14,10 +14,10 @@ use Rattle.fmp_kernel_order.specs.Queues.{listed}
 use Rattle.fmp_smp_histories.specs.Histories.{state_after}
 use Rattle.fmp_smp_histories.specs.Positions.{function_of}
 use Rattle.fmp_search.specs.Runs.{run}
-use Rattle.fmp_search.specs.Meeting.{IsToldAt}
+use Rattle.fmp_search.specs.Meeting.{IsReportedAt}
 use Rattle.fmp_search_orders.specs.declared.rules.Rules.{Rules}
 use Rattle.fmp_search_orders.specs.Laws.{LeadsTo}
-use Rattle.fmp_search_orders.specs.Made.{EndsWithCall, MadeAnswer, number_after, number_at, number_at_of, number_by, number_of_call, number_told}
+use Rattle.fmp_search_orders.specs.Made.{EndsWithCall, MadeAnswer, number_after, number_at, number_at_of, number_by, number_of_call, number_reported}
 use Rattle.fmp_search_orders.specs.Places.{Place, origin, event_of, went, after, position_at, records}
 use Rattle.fmp_search_orders.proofs.Begun.{on_event, on_start}
 use Rattle.fmp_search_orders.proofs.Runs.{run_leads, same_position, same_runner}
@@ -34,16 +34,16 @@ module _ (c : Setup) (scripts : List Steps) (rs : Rules) (valid : IsValid c) whe
         ap (λ (x : Setup). number_of_call (function_of x r) (position_at w p r)) leads.config_is
         ∙ ap (number_of_call (function_of c r)) (same_position c scripts rs [] w h on.0 leads p r)
 
-    same_told : (e : Event) → number_told w (Some e) ≡ number_after c scripts h e
-    same_told (event.Call p call) = ap (number_at_of w p) (same_runner c scripts rs [] w h on.0 leads p) ∙ same_by p (runner_of (state_after c h) p)
-    same_told (event.Tick p) = refl
-    same_told (event.Ipi p) = refl
+    same_reported : (e : Event) → number_reported w (Some e) ≡ number_after c scripts h e
+    same_reported (event.Call p call) = ap (number_at_of w p) (same_runner c scripts rs [] w h on.0 leads p) ∙ same_by p (runner_of (state_after c h) p)
+    same_reported (event.Tick p) = refl
+    same_reported (event.Ipi p) = refl
 
   abbrev q : Place
   q = origin c scripts rs []
 
   -- a step that makes the call of a number ends an order with it
-  ends_with : (steps : List ℕ) (w : Place) (n : ℕ) → run after q steps ≡ Some w → IsToldAt after number_at w n →
+  ends_with : (steps : List ℕ) (w : Place) (n : ℕ) → run after q steps ≡ Some w → IsReportedAt after number_at w n →
       (before : List Record) × (length before ≡ length steps) × EndsWithCall c scripts rs n before
   ends_with steps w n leads last =
       let start = on_start c scripts rs valid in
@@ -51,15 +51,15 @@ module _ (c : Setup) (scripts : List Steps) (rs : Rules) (valid : IsValid c) whe
       let h = records q steps in
       let on : On c scripts rs valid w h = (led.1, subst (λ x. LeadsTo c scripts rs [] w x led.1) led.3 led.4) in
       let made = made_of c scripts rs valid w h on last.step last.next last.goes in
-      let told : led.0 ≡ h = led.3 in
-      let of_h : length led.0 ≡ length h = ap length told in
+      let report : led.0 ≡ h = led.3 in
+      let of_h : length led.0 ≡ length h = ap length report in
       let of_led = led.2 in (
         h,
         omega (arith, of_h, of_led),
         record {
           last = (step listed w.machine made.event).1;
           order = made.on.1.order;
-          makes = ap (number_after c scripts h) (on_event c scripts rs valid w h on last.step made.event made.event_is) ∙ sym (same_told w h on made.event) ∙ sym (ap (number_told w) made.event_is) ∙ last.told;
+          makes = ap (number_after c scripts h) (on_event c scripts rs valid w h on last.step made.event made.event_is) ∙ sym (same_reported w h on made.event) ∙ sym (ap (number_reported w) made.event_is) ∙ last.report;
         },
       )
 
@@ -69,7 +69,7 @@ module _ (c : Setup) (scripts : List Steps) (rs : Rules) (valid : IsValid c) whe
     pub place : Place
     pub long : length steps ≡ length before
     pub leads : run after q steps ≡ Some place
-    pub last : IsToldAt after number_at place n
+    pub last : IsReportedAt after number_at place n
 
   run_of : (n : ℕ) (before : List Record) → EndsWithCall c scripts rs n before → Run n before
   run_of n before ends =
@@ -84,20 +84,20 @@ module _ (c : Setup) (scripts : List Steps) (rs : Rules) (valid : IsValid c) whe
           step = one.step_number;
           next = went first.place false (step listed first.place.machine ends.last.event);
           goes = one.goes;
-          told = ap (number_told first.place) one.event_is ∙ same_told first.place before first.on ends.last.event ∙ ends.makes;
+          report = ap (number_reported first.place) one.event_is ∙ same_reported first.place before first.on ends.last.event ∙ ends.makes;
         };
       }
 
   pub answer : MadeAnswer c scripts rs
   answer = record {
-    made = λ n told. let ends = ends_with told.steps told.place n told.leads told.last in (ends.0, ends.2);
-    told = λ n made. let r = run_of n made.0 made.1 in record { steps = r.steps; place = r.place; leads = r.leads; last = r.last };
-    made_within = λ turns n told.
-        let ends = ends_with told.steps told.place n told.leads told.last in
+    made = λ n report. let ends = ends_with report.steps report.place n report.leads report.last in (ends.0, ends.2);
+    report = λ n made. let r = run_of n made.0 made.1 in record { steps = r.steps; place = r.place; leads = r.leads; last = r.last };
+    made_within = λ turns n report.
+        let ends = ends_with report.steps report.place n report.leads report.last in
         let long = ends.1 in
-        let short = told.short in
+        let short = report.short in
         (ends.0, omega (arith, long, short), ends.2);
-    told_within = λ turns n made.
+    report_within = λ turns n made.
         let r = run_of n made.0 made.2 in
         let long = r.long in
         let short = made.1 in

@@ -39,7 +39,7 @@ use Rattle.fmp_search_pattern.specs.Questions.{allows, seen}
 use Rattle.fmp_search_orders.specs.declared.rules.Rules.{Rules}
 use Rattle.fmp_search_orders.specs.Orders.{counts_ticks, counted, may_tick, is_busy, idled, keeps_pace, MayHappen, AreInOrder, IsOrder}
 use Rattle.fmp_search_orders.specs.Shown.{last_sight, IsMarked}
-use Rattle.fmp_search_orders.specs.Places.{Place, origin, position_at, is_asked_at, is_busy_at, call_of, count_at, event_at, event_of, is_marked, went, sight_at, allowed, next_place, after, told_of, told, records}
+use Rattle.fmp_search_orders.specs.Places.{Place, origin, position_at, is_asked_at, is_busy_at, call_of, count_at, event_at, event_of, is_marked, went, sight_at, allowed, next_place, after, report_of, report, records}
 use Rattle.fmp_search_orders.specs.Laws.{LeadsTo, RunsAreOrders}
 use Rattle.fmp_search_orders.specs.Begun.{choice_at, choice_of, choices_of}
 use Rattle.fmp_search_orders.proofs.Alike.{may_tick_same}
@@ -276,20 +276,20 @@ module _ (c : Setup) (scripts : List Steps) (rs : Rules) (question : List Step) 
   abbrev pub Led : Place → List Record → ℕ → Type 0
   Led w is n = (h : List Record) × (marks : List Bool) × (length h ≡ n) × (h ≡ is) × Leads w h marks
 
-  abbrev Behind : List ℕ → Place → Type 0
-  Behind steps w' =
+  abbrev Following : List ℕ → Place → Type 0
+  Following steps w' =
       (x : Place) (g : List Record) (marks : List Bool) → Leads x g marks → run after x steps ≡ Some w' → Led w' (g ++ records x steps) (length g + length steps)
 
-  -- what is told behind a step, of which it is known where it leads
-  abbrev told_behind : List ℕ → Option Place → List Record
-  told_behind steps o = option_map_or (λ r. records r steps) o []
+  -- what is told after a step, of which it is known where it leads
+  abbrev report_following : List ℕ → Option Place → List Record
+  report_following steps o = option_map_or (λ r. records r steps) o []
 
-  -- one step, and what is known of those behind it
-  step_leads : (s : ℕ) (steps : List ℕ) (w w' : Place) (h : List Record) (marks : List Bool) → Leads w h marks → Behind steps w' →
+  -- one step, and what is known of those after it
+  step_leads : (s : ℕ) (steps : List ℕ) (w w' : Place) (h : List Record) (marks : List Bool) → Leads w h marks → Following steps w' →
       (o : Option Event) → event_of w s ≡ o → option_and_then (λ r. run after r steps) (next_place w (is_marked s) o) ≡ Some w' →
-      Led w' (h ++ (told_of w o ++ told_behind steps (next_place w (is_marked s) o))) (length h + length (s ∷ steps))
-  step_leads s steps w w' h marks leads behind None is on = cc
-  step_leads s steps w w' h marks leads behind (Some e) is on = go (allows w.question w.seen mark (sight_at (went w mark did) did.1)) refl on
+      Led w' (h ++ (report_of w o ++ report_following steps (next_place w (is_marked s) o))) (length h + length (s ∷ steps))
+  step_leads s steps w w' h marks leads following None is on = cc
+  step_leads s steps w w' h marks leads following (Some e) is on = go (allows w.question w.seen mark (sight_at (went w mark did) did.1)) refl on
     where
       mark : Bool
       mark = is_marked s
@@ -302,25 +302,25 @@ module _ (c : Setup) (scripts : List Steps) (rs : Rules) (question : List Step) 
 
       go : (b : Bool) → allows w.question w.seen mark (sight_at (went w mark did) did.1) ≡ b →
           option_and_then (λ r. run after r steps) (cond b (Some (went w mark did)) None) ≡ Some w' →
-          Led w' (h ++ (did.1 ∷ told_behind steps (cond b (Some (went w mark did)) None))) (length h + length (s ∷ steps))
+          Led w' (h ++ (did.1 ∷ report_following steps (cond b (Some (went w mark did)) None))) (length h + length (s ∷ steps))
       go false never on' = cc
       go true holds on' =
           let more = leads_more c scripts rs question valid w h marks leads e may mark (sym (same_allowed c scripts rs question valid w h marks leads e may mark) ∙ holds) in
-          let rest = behind (went w mark did) (h ++ did.1 ∷ []) (marks ++ mark ∷ []) more on' in
+          let rest = following (went w mark did) (h ++ did.1 ∷ []) (marks ++ mark ∷ []) more on' in
           let long = rest.2 in
           (rest.0, rest.1, grind (arith, common_steps, long), rest.3 ∙ append_assoc h (did.1 ∷ []) (records (went w mark did) steps), rest.4)
 
   -- a run over places from one to which a history leads
   pub run_leads : (steps : List ℕ) (w w' : Place) (h : List Record) (marks : List Bool) → Leads w h marks → run after w steps ≡ Some w' →
       Led w' (h ++ records w steps) (length h + length steps)
-  unfolding after told
+  unfolding after report
   run_leads [] w w' h marks leads on =
       let same : w ≡ w' = cc in
       (h, marks, omega arith, sym (append-nil h), subst (λ x. Leads x h marks) same leads)
   run_leads (s ∷ steps) w w' h marks leads on =
       step_leads s steps w w' h marks leads (λ x g ms leads' on'. run_leads steps x w' g ms leads' on') (event_of w s) refl on
 
-  -- what stands behind a part of a list
+  -- what stands after a part of a list
   pub at_end : {A : Type 0} (g rest : List A) (r : A) → (slice_get (g ++ r ∷ rest) (length g) ≡ Some r) × (take (length g) (g ++ r ∷ rest) ≡ g) × (take (suc (length g)) (g ++ r ∷ rest) ≡ g ++ r ∷ [])
   at_end [] rest r = (refl, refl, refl)
   at_end (x ∷ g) rest r = let more = at_end g rest r in (more.0, ap (λ l. x ∷ l) more.1, ap (λ l. x ∷ l) more.2)
@@ -361,14 +361,14 @@ module _ (c : Setup) (scripts : List Steps) (rs : Rules) (question : List Step) 
       let event : r.event ≡ e = step_event state e in
       let may : MayHappen c scripts rs g e = subst (λ x. MayHappen c scripts rs g x) event (subst (λ x. MayHappen c scripts rs x r.event) before (in_order (length g) r at)) in
       let did = step listed w.machine e in
-      let told : did.1 ≡ r = same_record c scripts rs question valid w g gm leads e may in
+      let report : did.1 ≡ r = same_record c scripts rs question valid w g gm leads e may in
       let allowed_at : allows question (seen (take (length g) hm)) m (last_sight c rs (take (suc (length g)) h) r) ≡ true = marked.allowed (length g) r m at mark_at in
       let allowed_then : allows question (seen gm) m (last_sight c rs (g ++ r ∷ []) r) ≡ true =
       subst (λ x. allows question (seen gm) m (last_sight c rs x r) ≡ true) up_to (subst (λ x. allows question (seen x) m (last_sight c rs (take (suc (length g)) h) r) ≡ true) marks_before allowed_at) in
       let allowed_here : allows question (seen gm) m (last_sight c rs (g ++ did.1 ∷ []) did.1) ≡ true =
-      subst (λ (x : Record). allows question (seen gm) m (last_sight c rs (g ++ x ∷ []) x) ≡ true) (sym told) allowed_then in
+      subst (λ (x : Record). allows question (seen gm) m (last_sight c rs (g ++ x ∷ []) x) ≡ true) (sym report) allowed_then in
       let one = one_step w g gm leads e may m allowed_here in
-      let more = subst (λ x. Leads (went w m did) (g ++ x ∷ []) (gm ++ m ∷ [])) told (leads_more c scripts rs question valid w g gm leads e may m allowed_here) in
+      let more = subst (λ x. Leads (went w m did) (g ++ x ∷ []) (gm ++ m ∷ [])) report (leads_more c scripts rs question valid w g gm leads e may m allowed_here) in
       let longer : (g ++ r ∷ []) ++ answers numbered (state_after c (g ++ r ∷ [])) es ≡ h =
       ap (λ x. (g ++ r ∷ []) ++ answers numbered x es) (after_more c g e r event) ∙ append_assoc g (r ∷ []) rest ∙ is in
       let marks_longer : (gm ++ m ∷ []) ++ ms ≡ hm = append_assoc gm (m ∷ []) ms ∙ marks_are in

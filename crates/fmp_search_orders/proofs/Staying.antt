@@ -20,14 +20,14 @@ use Rattle.fmp_search_pattern.specs.Questions.{allows}
 use Rattle.fmp_search_orders.specs.declared.rules.Rules.{Rules}
 use Rattle.fmp_search_orders.specs.Orders.{MayHappen, IsOrder}
 use Rattle.fmp_search_orders.specs.Shown.{last_sight}
-use Rattle.fmp_search_orders.specs.Places.{Place, origin, event_of, is_marked, went, sight_at, allowed, next_place, after, told_of, told, records}
+use Rattle.fmp_search_orders.specs.Places.{Place, origin, event_of, is_marked, went, sight_at, allowed, next_place, after, report_of, report, records}
 use Rattle.fmp_search_orders.specs.Laws.{LeadsTo}
 use Rattle.fmp_search_orders.specs.Lasting.{EndsSo, test_there, step_test, LastingAnswer}
 use Rattle.fmp_search_orders.proofs.Longer.{order_more, same_sight}
 use Rattle.fmp_search_orders.proofs.Runs.{at_end, may_step, step_may, run_leads}
 use Rattle.fmp_search_orders.proofs.Begun.{OnOrder, on_start, on_more, on_next, passed}
 
--- the answers to events, one of them and those behind it
+-- the answers to events, one of them and those after it
 answers_at : (m : State) (es fs : List Event) (e : Event) →
     answers numbered m (es ++ e ∷ fs) ≡ answers numbered m es ++ (step numbered (replay numbered m es) e).1 ∷ answers numbered (step numbered (replay numbered m es) e).0 fs
 answers_at m [] fs e = refl
@@ -50,7 +50,7 @@ module _ (c : Setup) (scripts : List Steps) (rules : Rules) (valid : IsValid c) 
       let own : h ++ r ∷ more ≡ h ++ did ∷ rest =
       longer.run.answers ∙ ap (answers numbered (booted c)) events ∙ answers_at (booted c) (events_of h) (events_of more) r.event
       ∙ ap (λ (x : List Record). x ++ did ∷ rest) (sym order.run.answers) in
-      let behind : r ∷ more ≡ did ∷ rest = append_cancel_left h (r ∷ more) (did ∷ rest) own in
+      let following : r ∷ more ≡ did ∷ rest = append_cancel_left h (r ∷ more) (did ∷ rest) own in
       cc
 
   -- where an order goes on with some records, it goes on with the first of them
@@ -66,7 +66,7 @@ module _ (c : Setup) (scripts : List Steps) (rs : Rules) (valid : IsValid c) whe
     pub step_number : ℕ
     pub event_is : event_of w step_number ≡ Some r.event
     pub goes : after w step_number ≡ Some (went w false (step listed w.machine r.event))
-    pub told_is : r ≡ (step listed w.machine r.event).1
+    pub report_is : r ≡ (step listed w.machine r.event).1
     pub on : On (went w false (step listed w.machine r.event)) (h ++ r ∷ [])
 
   goes_there : (w : Place) (h : List Record) → On w h → (s : ℕ) (e : Event) → event_of w s ≡ Some e → is_marked s ≡ false → after w s ≡ Some (went w false (step listed w.machine e))
@@ -81,7 +81,7 @@ module _ (c : Setup) (scripts : List Steps) (rs : Rules) (valid : IsValid c) whe
   pub next_of : (w : Place) (h : List Record) → On w h → (r : Record) (more : List Record) → IsOrder c scripts rs (h ++ r ∷ more) → Next w h r
   next_of w h on r more longer =
       let one = next_order c scripts rs valid h on.1.order r more longer in
-      let told = (on_next c scripts rs valid w h on r one).1 in
+      let report = (on_next c scripts rs valid w h on r one).1 in
       let end = at_end c scripts rs [] valid h [] r in
       let may : MayHappen c scripts rs h r.event = subst (λ x. MayHappen c scripts rs x r.event) end.1 (one.in_order (length h) r end.0) in
       let found = may_step c scripts rs [] w h on.0 on.1 r.event false may in
@@ -89,8 +89,8 @@ module _ (c : Setup) (scripts : List Steps) (rs : Rules) (valid : IsValid c) whe
         step_number = found.0;
         event_is = found.1;
         goes = goes_there w h on found.0 r.event found.1 found.2;
-        told_is = told;
-        on = subst (λ (x : Record). On (went w false (step listed w.machine r.event)) (h ++ x ∷ [])) (sym told) (on_more c scripts rs valid w h on found.0 r.event found.1);
+        report_is = report;
+        on = subst (λ (x : Record). On (went w false (step listed w.machine r.event)) (h ++ x ∷ [])) (sym report) (on_more c scripts rs valid w h on found.0 r.event found.1);
       }
 
   -- and so on
@@ -187,7 +187,7 @@ module _ (c : Setup) (scripts : List Steps) (rs : Rules) (valid : IsValid c) whe
             leads = first.leads;
             goes = one.goes;
             passes = same_test p so.before first.on one.step_number so.last.event one.event_is
-                ∙ subst (λ (x : Record). test (last_sight c rs (so.before ++ x ∷ []) x) ≡ true) one.told_is (subst (λ x. test (last_sight c rs x so.last) ≡ true) so.is so.stays.there);
+                ∙ subst (λ (x : Record). test (last_sight c rs (so.before ++ x ∷ []) x) ≡ true) one.report_is (subst (λ x. test (last_sight c rs x so.last) ≡ true) so.is so.stays.there);
             for_ever = λ steps t u s leads goes.
                 let led = run_leads c scripts rs [] valid steps v t h on_h.0 on_h.1 leads in
                 let on_t : On t (h ++ records v steps) = (led.1, subst (λ x. LeadsTo c scripts rs [] t x led.1) led.3 led.4) in
@@ -201,20 +201,20 @@ module _ (c : Setup) (scripts : List Steps) (rs : Rules) (valid : IsValid c) whe
     -- what is told along a run of one step more
     records_more : (steps : List ℕ) (s : ℕ) (w p : Place) (e : Event) (v : Place) → run after w steps ≡ Some p → event_of p s ≡ Some e → after p s ≡ Some v →
         records w (steps ++ s ∷ []) ≡ records w steps ++ (step listed p.machine e).1 ∷ []
-    unfolding told
+    unfolding report
     records_more [] s w p e v leads is goes =
         let same : w ≡ p = some_place w p leads in
-        subst (λ x. told_of w (event_of w s) ++ option_map_or (λ r. records r []) (after w s) [] ≡ (step listed x.machine e).1 ∷ []) same
-        (ap (λ o. told_of w o ++ option_map_or (λ r. records r []) (after w s) []) (subst (λ x. event_of x s ≡ Some e) (sym same) is)
+        subst (λ x. report_of w (event_of w s) ++ option_map_or (λ r. records r []) (after w s) [] ≡ (step listed x.machine e).1 ∷ []) same
+        (ap (λ o. report_of w o ++ option_map_or (λ r. records r []) (after w s) []) (subst (λ x. event_of x s ≡ Some e) (sym same) is)
         ∙ ap (λ o. (step listed w.machine e).1 ∷ option_map_or (λ r. records r []) o []) (subst (λ x. after x s ≡ Some v) (sym same) goes))
     records_more (a ∷ steps) s w p e v leads is goes = more (λ x on. records_more steps s x p e v on is goes) (after w a) leads
       where
         more : ((x : Place) → run after x steps ≡ Some p → records x (steps ++ s ∷ []) ≡ records x steps ++ (step listed p.machine e).1 ∷ []) →
             (o : Option Place) → option_and_then (λ r. run after r steps) o ≡ Some p →
-            told_of w (event_of w a) ++ option_map_or (λ r. records r (steps ++ s ∷ [])) o [] ≡ (told_of w (event_of w a) ++ option_map_or (λ r. records r steps) o []) ++ (step listed p.machine e).1 ∷ []
+            report_of w (event_of w a) ++ option_map_or (λ r. records r (steps ++ s ∷ [])) o [] ≡ (report_of w (event_of w a) ++ option_map_or (λ r. records r steps) o []) ++ (step listed p.machine e).1 ∷ []
         more rest None on = cc
         more rest (Some x) on =
-            ap (λ (h : List Record). told_of w (event_of w a) ++ h) (rest x on) ∙ sym (append_assoc (told_of w (event_of w a)) (records x steps) ((step listed p.machine e).1 ∷ []))
+            ap (λ (h : List Record). report_of w (event_of w a) ++ h) (rest x on) ∙ sym (append_assoc (report_of w (event_of w a)) (records x steps) ((step listed p.machine e).1 ∷ []))
 
     -- and a run that ends so is an order that does
     order_of : (steps : List ℕ) → EndsForEver after (step_test test) q steps → EndsSo c scripts rs test (records q steps) × (length (records q steps) ≡ length steps)
@@ -227,8 +227,8 @@ module _ (c : Setup) (scripts : List Steps) (rs : Rules) (valid : IsValid c) whe
         let did = step listed ends.place.machine made.event in
         let h = hb ++ did.1 ∷ [] in
         let is : records q steps ≡ h = ap (records q) ends.is ∙ records_more ends.before ends.last q ends.place made.event ends.next ends.leads made.event_is ends.goes in
-        let told : led.0 ≡ hb = led.3 in
-        let of_hb : length led.0 ≡ length hb = ap length told in
+        let report : led.0 ≡ hb = led.3 in
+        let of_hb : length led.0 ≡ length hb = ap length report in
         let of_led = led.2 in
         let long : length hb ≡ length ends.before = omega (arith, of_hb, of_led) in
         let many : length steps ≡ length ends.before + 1 = ap length ends.is ∙ grind (arith, common_steps) in
@@ -246,7 +246,7 @@ module _ (c : Setup) (scripts : List Steps) (rs : Rules) (valid : IsValid c) whe
                   let one = next_of first.place (h ++ more) first.on r [] order' in
                   let passes = ends.for_ever first.steps first.place (went first.place false (step listed first.place.machine r.event)) one.step_number first.leads one.goes in
                   let at = sym (same_test first.place (h ++ more) first.on one.step_number r.event one.event_is) ∙ passes in
-                  let own = subst (λ (x : Record). test (last_sight c rs ((h ++ more) ++ x ∷ []) x) ≡ true) (sym one.told_is) at in
+                  let own = subst (λ (x : Record). test (last_sight c rs ((h ++ more) ++ x ∷ []) x) ≡ true) (sym one.report_is) at in
                   subst (λ x. test (last_sight c rs ((x ++ more) ++ r ∷ []) r) ≡ true) (sym is) own;
             };
           },

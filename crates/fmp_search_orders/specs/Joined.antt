@@ -13,7 +13,7 @@ use Rattle.fmp_search_orders.specs.Places.{origin, after, records}
 use Rattle.fmp_search_orders.specs.Laws.{is_seen}
 
 -- an order of at most so many records that goes on from one of these and shows the question
-pub record ShowsBehind (c : Setup) (scripts : List Steps) (rules : Rules) (question : List Step) (histories : List (List Record)) (most : ℕ) : Type 0 where
+pub record ShowsAfter (c : Setup) (scripts : List Steps) (rules : Rules) (question : List Step) (histories : List (List Record)) (most : ℕ) : Type 0 where
   pub number : ℕ
   pub begun : List Record
   pub h : List Record
@@ -26,7 +26,7 @@ pub record ShowsBehind (c : Setup) (scripts : List Steps) (rules : Rules) (quest
 -- where an order shows the question, one that goes on from one of these does, and is no longer
 abbrev pub JoinsOrders : Setup → List Steps → Rules → List Step → List (List Record) → Type 0
 JoinsOrders c scripts rules question histories =
-    (h : List Record) → IsOrder c scripts rules h → Shows c rules question h → ShowsBehind c scripts rules question histories (length h)
+    (h : List Record) → IsOrder c scripts rules h → Shows c rules question h → ShowsAfter c scripts rules question histories (length h)
 
 -- orders of at most n records, from which all go on that show the question first. So what is known of the orders that go on from each of them is
 -- known of all: that none shows it, that none of so many records does, and that one which does is the shortest

@@ -11,7 +11,7 @@ use Rattle.fmp_rules.specs.World.{runner_of}
 use Rattle.fmp_smp_histories.specs.Histories.{state_after}
 use Rattle.fmp_smp_histories.specs.Positions.{function_of}
 use Rattle.fmp_smp_histories.specs.Scripted.{position_of}
-use Rattle.fmp_search.specs.Meeting.{IsTold, IsToldWithin}
+use Rattle.fmp_search.specs.Meeting.{IsReported, IsReportedWithin}
 use Rattle.fmp_search_orders.specs.declared.rules.Rules.{Rules}
 use Rattle.fmp_search_orders.specs.Orders.{IsOrder}
 use Rattle.fmp_search_orders.specs.Places.{Place, after, event_of, origin, position_at}
@@ -56,17 +56,17 @@ abbrev pub number_at_of : Place → Proc → Option Runner → ℕ
 number_at_of w p None = no_number
 number_at_of w p (Some r) = number_of_call (function_of w.config r) (position_at w p r)
 
-abbrev pub number_told : Place → Option Event → ℕ
-number_told w (Some (event.Call p call)) = number_at_of w p (runner_of w.machine p)
-number_told w other = no_number
+abbrev pub number_reported : Place → Option Event → ℕ
+number_reported w (Some (event.Call p call)) = number_at_of w p (runner_of w.machine p)
+number_reported w other = no_number
 
 -- the number of the call that a step from a place makes
 abbrev pub number_at : Place → ℕ → ℕ
-number_at w s = number_told w (event_of w s)
+number_at w s = number_reported w (event_of w s)
 
 -- what is told of the steps of runs over places is made in orders, and the other way round
 pub record MadeAnswer (c : Setup) (scripts : List Steps) (rules : Rules) : Type 0 where
-  pub made : (n : ℕ) → IsTold after number_at (origin c scripts rules []) n → IsMade c scripts rules n
-  pub told : (n : ℕ) → IsMade c scripts rules n → IsTold after number_at (origin c scripts rules []) n
-  pub made_within : (turns n : ℕ) → IsToldWithin after number_at (origin c scripts rules []) turns n → IsMadeWithin c scripts rules turns n
-  pub told_within : (turns n : ℕ) → IsMadeWithin c scripts rules turns n → IsToldWithin after number_at (origin c scripts rules []) turns n
+  pub made : (n : ℕ) → IsReported after number_at (origin c scripts rules []) n → IsMade c scripts rules n
+  pub report : (n : ℕ) → IsMade c scripts rules n → IsReported after number_at (origin c scripts rules []) n
+  pub made_within : (turns n : ℕ) → IsReportedWithin after number_at (origin c scripts rules []) turns n → IsMadeWithin c scripts rules turns n
+  pub report_within : (turns n : ℕ) → IsMadeWithin c scripts rules turns n → IsReportedWithin after number_at (origin c scripts rules []) turns n

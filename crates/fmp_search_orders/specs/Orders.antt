@@ -92,7 +92,7 @@ Happens c scripts rules h (event.Tick p) =
 abbrev pub MayHappen : Setup → List Steps → Rules → List Record → Event → Type 0
 MayHappen c scripts rules h e = ((processor_of e).number ≤ c.processors) × Happens c scripts rules h e
 
--- each record is of an event that may happen behind those before it
+-- each record is of an event that may happen after those before it
 abbrev pub AreInOrder : Setup → List Steps → Rules → List Record → Type 0
 AreInOrder c scripts rules h = (k : ℕ) (r : Record) → slice_get h k ≡ Some r → MayHappen c scripts rules (take k h) r.event
 

@@ -141,15 +141,15 @@ after w s = next_place w (is_marked s) (event_of w s)
 
 -- ---- what is told
 
-abbrev pub told_of : Place → Option Event → List Record
-told_of w None = []
-told_of w (Some e) = (step listed w.machine e).1 ∷ []
+abbrev pub report_of : Place → Option Event → List Record
+report_of w None = []
+report_of w (Some e) = (step listed w.machine e).1 ∷ []
 
 -- what the event of a step is told to have done, if there is one
-unfoldable pub told : Place → ℕ → List Record
-told w s = told_of w (event_of w s)
+unfoldable pub report : Place → ℕ → List Record
+report w s = report_of w (event_of w s)
 
 -- and so along a run
 abbrev pub records : Place → List ℕ → List Record
 records w [] = []
-records w (s ∷ steps) = told w s ++ option_map_or (λ r. records r steps) (after w s) []
+records w (s ∷ steps) = report w s ++ option_map_or (λ r. records r steps) (after w s) []

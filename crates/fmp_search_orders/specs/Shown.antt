@@ -1,5 +1,5 @@
 -- When an order shows what a question asks. Its records are marked: those with a mark are the moments of the question's steps, one
--- behind the other, and at one without a mark there is nothing that must not come before the step that is looked for.
+-- after the other, and at one without a mark there is nothing that must not come before the step that is looked for.
 use Rattle.std.specs.Prelude.{◌≡◌, ℕ, suc, ◌≤◌, Bool, true, List, take, length, Some, slice_get}
 use Rattle.fmp_codes.specs.declared.records.Record.{Record}
 use Rattle.fmp_text_scripts.specs.Scripts.{Steps}

@@ -23,7 +23,7 @@ unfoldable pub is_over : {Q : Type 0} → Setup → Rules → (ℕ → ℕ) → 
 is_over c rules count w =
     each (λ p. is_none (runner_of w p) && not (processor w p).latch) c.processors && (is_untimed w || is_out_of_time c rules count)
 
--- the lines of an event: its line of the trace, without the number and the blank behind it, those of the state after it, and `end`
+-- the lines of an event: its line of the trace, without the number and the blank after it, those of the state after it, and `end`
 -- where nothing can change any more
 unfoldable pub sight : {Q : Type 0} → Ordering Q → Setup → Rules → (ℕ → ℕ) → World Q → Record → List ℕ
 sight k c rules count w r =

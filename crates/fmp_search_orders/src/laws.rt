@@ -38,7 +38,7 @@ pub fn begun_answer()
 
 /// Where runs over places are joined by some of them, what is told along these joins all orders: what is known of the orders that go on from each is
 /// known of all.
-#[tactic(auto, using(crate::proofs::Behind::roots_answer))]
+#[tactic(auto, using(crate::proofs::Following::roots_answer))]
 pub fn roots_answer()
     ensures { (c : Setup) (scripts : List Steps) (rules : Rules) (question : List Step) → IsValid c → RootsAnswer c scripts rules question }
 {}

@@ -19,24 +19,24 @@ has_word word text = stand (word ∷ []) text
 
 -- ---- a part of a piece stands where the piece stands
 
-begins_part : (word behind : List ℕ) (test : List ℕ → Bool) (text : List ℕ) → begins (word ++ behind) test text ≡ true → begins word (stand []) text ≡ true
-begins_part [] behind test text h = refl
-begins_part (b ∷ word) behind test [] h = cc
-begins_part (b ∷ word) behind test (c ∷ text) h =
+begins_part : (word following : List ℕ) (test : List ℕ → Bool) (text : List ℕ) → begins (word ++ following) test text ≡ true → begins word (stand []) text ≡ true
+begins_part [] following test text h = refl
+begins_part (b ∷ word) following test [] h = cc
+begins_part (b ∷ word) following test (c ∷ text) h =
     let parts = both (b == c) _ h in
-    and_from (b == c) _ parts.0 (begins_part word behind test text parts.1)
+    and_from (b == c) _ parts.0 (begins_part word following test text parts.1)
 
-part_here : (before word behind : List ℕ) (test : List ℕ → Bool) (text : List ℕ) → begins (before ++ (word ++ behind)) test text ≡ true → has_word word text ≡ true
-part_here [] word behind test text h = some_first word [] text (begins_part word behind test text h)
-part_here (b ∷ before) word behind test [] h = cc
-part_here (b ∷ before) word behind test (c ∷ text) h = stand_later (word ∷ []) c text (part_here before word behind test text (both (b == c) _ h).1)
+part_here : (before word following : List ℕ) (test : List ℕ → Bool) (text : List ℕ) → begins (before ++ (word ++ following)) test text ≡ true → has_word word text ≡ true
+part_here [] word following test text h = some_first word [] text (begins_part word following test text h)
+part_here (b ∷ before) word following test [] h = cc
+part_here (b ∷ before) word following test (c ∷ text) h = stand_later (word ∷ []) c text (part_here before word following test text (both (b == c) _ h).1)
 
-part_somewhere : (before word behind : List ℕ) (test : List ℕ → Bool) (text : List ℕ) → somewhere (begins (before ++ (word ++ behind)) test) text ≡ true → has_word word text ≡ true
-part_somewhere before word behind test [] h = part_here before word behind test [] h
-part_somewhere before word behind test (c ∷ text) h =
-    elim (or_cases (begins (before ++ (word ++ behind)) test (c ∷ text)) (somewhere (begins (before ++ (word ++ behind)) test) text) h) [
-      | inl first ↦ part_here before word behind test (c ∷ text) first
-      | inr later ↦ stand_later (word ∷ []) c text (part_somewhere before word behind test text later)
+part_somewhere : (before word following : List ℕ) (test : List ℕ → Bool) (text : List ℕ) → somewhere (begins (before ++ (word ++ following)) test) text ≡ true → has_word word text ≡ true
+part_somewhere before word following test [] h = part_here before word following test [] h
+part_somewhere before word following test (c ∷ text) h =
+    elim (or_cases (begins (before ++ (word ++ following)) test (c ∷ text)) (somewhere (begins (before ++ (word ++ following)) test) text) h) [
+      | inl first ↦ part_here before word following test (c ∷ text) first
+      | inr later ↦ stand_later (word ∷ []) c text (part_somewhere before word following test text later)
     ]
 
 -- ---- the blanks beside a line have no word
@@ -50,15 +50,15 @@ module _ (b : ℕ) (word : List ℕ) (solid : is_solid (b ∷ word) ≡ true) wh
   not_blank : (test : List ℕ → Bool) (text : List ℕ) → begins (b ∷ word) test (space ∷ text) ≡ true → ⊥
   not_blank test text h = false≢true (sym (solid_parts b word solid).0 ∙ (both (b == space) _ h).0)
 
-  behind_blank : (text : List ℕ) → has_word (b ∷ word) (space ∷ text) ≡ true → has_word (b ∷ word) text ≡ true
-  behind_blank text h =
+  after_blank : (text : List ℕ) → has_word (b ∷ word) (space ∷ text) ≡ true → has_word (b ∷ word) text ≡ true
+  after_blank text h =
       elim (or_cases (begins (b ∷ word) (stand []) (space ∷ text)) (has_word (b ∷ word) text) h) [
         | inl first ↦ absurd (not_blank (stand []) text first)
         | inr later ↦ later
       ]
 
   blanks_alone : has_word (b ∷ word) (space ∷ space ∷ []) ≡ true → ⊥
-  blanks_alone h = let none = behind_blank [] (behind_blank (space ∷ []) h) in false≢true none
+  blanks_alone h = let none = after_blank [] (after_blank (space ∷ []) h) in false≢true none
 
 before_blank : (word text : List ℕ) (rest : List ℕ) → is_solid word ≡ true → begins word (stand []) (text ++ space ∷ rest) ≡ true → begins word (stand []) text ≡ true
 before_blank [] text rest solid h = refl
@@ -77,7 +77,7 @@ before_blanks b word (c ∷ line) solid h =
 
 in_line : (b : ℕ) (word line : List ℕ) → is_solid (b ∷ word) ≡ true → has_word (b ∷ word) (padded line) ≡ true → has_word (b ∷ word) line ≡ true
 in_line b word line solid h =
-    before_blanks b word line solid (behind_blank b word solid (line ++ space ∷ space ∷ []) (behind_blank b word solid (space ∷ line ++ space ∷ space ∷ []) h))
+    before_blanks b word line solid (after_blank b word solid (line ++ space ∷ space ∷ []) (after_blank b word solid (space ∷ line ++ space ∷ space ∷ []) h))
 
 -- ---- what stands in a line stands in the text
 
@@ -127,7 +127,7 @@ unfolding has_pattern
 no_line piece [] pieces text is none = absurd (false≢true (sym none ∙ empty_stands text))
 no_line piece (b ∷ word) pieces text is none =
     false_from_ne_true _ (λ h. false≢true (sym none ∙ in_some (b ∷ word) (λ line. stand (piece ∷ pieces) (padded line))
-    (λ line there. in_line b word line is.solid (part_somewhere is.before (b ∷ word) is.behind (stand pieces) (padded line)
+    (λ line there. in_line b word line is.solid (part_somewhere is.before (b ∷ word) is.following (stand pieces) (padded line)
     (subst (λ (p : List ℕ). somewhere (begins p (stand pieces)) (padded line) ≡ true) is.there there)))
     text h))
 
@@ -151,7 +151,7 @@ first_solid text =
     (and_parts (is_solid (cut_at space text).0) _ (subst (λ (ps : List (List ℕ)). list_all is_solid ps ≡ true) (pieces_of-cut space text) all)).0
 
 first_there : (piece text : List ℕ) → IsEndOf piece text → (o : Option (List ℕ)) → (cut_at space text).1 ≡ o →
-    (before : List ℕ) × (behind : List ℕ) × (piece ≡ before ++ ((cut_at space text).0 ++ behind))
+    (before : List ℕ) × (following : List ℕ) × (piece ≡ before ++ ((cut_at space text).0 ++ following))
 first_there piece text end None is =
     (end.0, [], end.1 ∙ ap (λ (t : List ℕ). end.0 ++ t) (sym (append-nil (cut_at space text).0 ∙ no_cut space text is)))
 first_there piece text end (Some rest) is =
@@ -160,7 +160,7 @@ first_there piece text end (Some rest) is =
 pub first_is : (piece text word : List ℕ) → IsEndOf piece text → word ≡ (cut_at space text).0 → IsWordIn piece word
 first_is piece text word end is =
     let parts = first_there piece text end (cut_at space text).1 refl in
-    rw is record { before = parts.0; behind = parts.1; there = parts.2; solid = first_solid text }
+    rw is record { before = parts.0; following = parts.1; there = parts.2; solid = first_solid text }
 
 left_end : (piece text : List ℕ) → IsEndOf piece text → (o : Option (List ℕ)) → (cut_at space text).1 ≡ o → IfSome o (IsEndOf piece)
 left_end piece text end None is = tt
@@ -178,6 +178,6 @@ lacks (p ∷ ps) piece word text first is none =
     let same : piece ≡ p = cc in
     no_line p word ps text (subst (λ (x : List ℕ). IsWordIn x word) same is) none
 
-pub nothing_behind : (o : Option (Bor (List ℕ))) (none : Bool) (test : List ℕ → Bool) → is_some o ≡ not none → none ≡ true → option_map_or test (option_copied o) false ≡ false
-nothing_behind None none test some is = refl
-nothing_behind (Some x) none test some is = absurd (false≢true (sym (ap not is) ∙ sym some))
+pub nothing_after : (o : Option (Bor (List ℕ))) (none : Bool) (test : List ℕ → Bool) → is_some o ≡ not none → none ≡ true → option_map_or test (option_copied o) false ≡ false
+nothing_after None none test some is = refl
+nothing_after (Some x) none test some is = absurd (false≢true (sym (ap not is) ∙ sym some))

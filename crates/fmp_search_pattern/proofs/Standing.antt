@@ -1,4 +1,4 @@
--- The first place of a piece is as good as any: what stands behind a later one stands behind it too.
+-- The first place of a piece is as good as any: what stands after a later one stands after it too.
 use Rattle.std.proofs.Common.{◌≡◌, ℕ, zero, suc, ◌+◌, ◌<◌, ◌≤◌, ◌==◌, ◌∙◌, Bool, true, false, ◌&&◌, ◌||◌, List, [], ◌∷◌, length, drop, None, Some, inl, inr, refl, ap, sym, subst, arith, slice_index}
 use Rattle.std.proofs.lemmas.Bool.{cases_Bool, eqb-true, eq-eqb, or_left, or_right, false_from_ne_true, and_parts, or_cases}
 use Rattle.std.proofs.lemmas.Grind.{common_steps}
@@ -43,10 +43,10 @@ occurs_begin b piece text h = record {
   reads_at zero lt = refl
   reads_at (suc j) lt = ap (slice_index (b ∷ text)) (sym (zero_later j)) ∙ h.reads j (grind (arith, common_steps))
 
-begins_behind : (piece : List ℕ) (test : List ℕ → Bool) (text : List ℕ) → begins piece test text ≡ true → test (drop (length piece) text) ≡ true
-begins_behind [] test text h = h
-begins_behind (b ∷ piece) test [] h = cc
-begins_behind (b ∷ piece) test (c ∷ text) h = begins_behind piece test text (and_parts (b == c) _ h).1
+begins_after : (piece : List ℕ) (test : List ℕ → Bool) (text : List ℕ) → begins piece test text ≡ true → test (drop (length piece) text) ≡ true
+begins_after [] test text h = h
+begins_after (b ∷ piece) test [] h = cc
+begins_after (b ∷ piece) test (c ∷ text) h = begins_after piece test text (and_parts (b == c) _ h).1
 
 begins_occurs : (piece : List ℕ) (test : List ℕ → Bool) (text : List ℕ) → begins piece test text ≡ true → OccursAt text piece 0
 begins_occurs [] test text h = record { fits = omega arith; reads = λ j lt. absurd (omega (arith, lt)) }
@@ -83,17 +83,17 @@ module _ (piece : List ℕ) (ps : List (List ℕ)) where
   abbrev here : List ℕ → Bool
   here = begins piece (stand ps)
 
-  behind_later : (n c : ℕ) (text : List ℕ) → stand ps (drop n text) ≡ true → stand ps (drop n (c ∷ text)) ≡ true
-  behind_later zero c text h = stand_later ps c text h
-  behind_later (suc n) c [] h = ap (stand ps) (drop-nil n) ∙ h
-  behind_later (suc n) c (d ∷ text) h = behind_later n d text h
+  after_later : (n c : ℕ) (text : List ℕ) → stand ps (drop n text) ≡ true → stand ps (drop n (c ∷ text)) ≡ true
+  after_later zero c text h = stand_later ps c text h
+  after_later (suc n) c [] h = ap (stand ps) (drop-nil n) ∙ h
+  after_later (suc n) c (d ∷ text) h = after_later n d text h
 
-  -- what stands behind any place of the piece stands behind the first place where it could stand
+  -- what stands after any place of the piece stands after the first place where it could stand
   any_place : (text : List ℕ) → somewhere here text ≡ true → stand ps (drop (length piece) text) ≡ true
-  any_place [] h = begins_behind piece (stand ps) [] h
+  any_place [] h = begins_after piece (stand ps) [] h
   any_place (c ∷ text) h = elim (or_cases (here (c ∷ text)) (somewhere here text) h) [
-    | inl first ↦ begins_behind piece (stand ps) (c ∷ text) first
-    | inr later ↦ behind_later (length piece) c text (any_place text later)
+    | inl first ↦ begins_after piece (stand ps) (c ∷ text) first
+    | inr later ↦ after_later (length piece) c text (any_place text later)
   ]
 
   pub some_first : (text : List ℕ) → here text ≡ true → somewhere here text ≡ true

@@ -1,4 +1,4 @@
--- When a pattern stands in a line. A pattern is kept as the pieces between its stars, the blanks before its first word and behind its last
+-- When a pattern stands in a line. A pattern is kept as the pieces between its stars, the blanks before its first word and after its last
 -- one with them, so that only whole words match.
 use Rattle.std.specs.Prelude.{◌≡◌, ℕ, ◌==◌, Bool, true, false, not, ◌&&◌, ◌||◌, List, [], ◌∷◌, ◌++◌}
 use Rattle.std.specs.List.{list_all}
@@ -25,7 +25,7 @@ abbrev pub somewhere : (List ℕ → Bool) → List ℕ → Bool
 somewhere test [] = test []
 somewhere test (c ∷ text) = test (c ∷ text) || somewhere test text
 
--- the pieces stand in a text one behind the other
+-- the pieces stand in a text one after the other
 abbrev pub stand : List (List ℕ) → List ℕ → Bool
 stand [] text = true
 stand (piece ∷ pieces) text = somewhere (begins piece (stand pieces)) text
@@ -41,6 +41,6 @@ has_pattern text pattern = any (λ line. stand pattern (padded line)) (pieces_of
 -- bytes that stand in a piece, without a blank
 pub record IsWordIn (piece word : List ℕ) : Type 0 where
   pub before : List ℕ
-  pub behind : List ℕ
-  pub there : piece ≡ before ++ (word ++ behind)
+  pub following : List ℕ
+  pub there : piece ≡ before ++ (word ++ following)
   pub solid : list_all (λ b. not (b == space)) word ≡ true

@@ -1,4 +1,4 @@
-//! What a question about runs is: patterns of lines, moments at which they stand or do not, and moments one behind the other; and when
+//! What a question about runs is: patterns of lines, moments at which they stand or do not, and moments one after the other; and when
 //! they are in the lines of an event.
 //!
 //! docs/FORMATS.md has what a question asks.

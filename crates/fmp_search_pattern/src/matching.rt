@@ -12,8 +12,8 @@ use fmp_bytes::cut;
 use memchr::memmem;
 use std::alloc::AllocError;
 
-/// The text behind the first place where a piece stands in it, and none where it stands nowhere. An empty piece stands at the front.
-fn behind_first<'a>(piece: &[u8], text: &'a [u8]) -> Option<&'a [u8]>
+/// The text after the first place where a piece stands in it, and none where it stands nowhere. An empty piece stands at the front.
+fn after_first<'a>(piece: &[u8], text: &'a [u8]) -> Option<&'a [u8]>
     ensures { (pieces : List (List ℕ)) → matching.stand (piece.now ∷ pieces) text.now ≡ option_map_or (matching.stand pieces) (option_copied result) false }
 {
     match memmem::find(text, piece) {
@@ -22,15 +22,15 @@ fn behind_first<'a>(piece: &[u8], text: &'a [u8]) -> Option<&'a [u8]>
     }
 }
 
-/// Whether the pieces stand in a text in order, without overlap. Any bytes may come before, between and behind them.
+/// Whether the pieces stand in a text in order, without overlap. Any bytes may come before, between and after them.
 fn stand(pattern: &Pattern, text: &[u8]) -> bool
     ensures { result ≡ matching.stand pattern.now text.now }
 {
     let mut rest = text;
     for piece in pattern.pieces() {
-        match behind_first(piece.bytes(), rest) {
+        match after_first(piece.bytes(), rest) {
             None => return false,
-            Some(behind) => rest = behind,
+            Some(following) => rest = following,
         }
     }
     true
@@ -68,7 +68,7 @@ fn lacks_word(text: &[u8], pattern: &Pattern) -> bool
 {
     match pattern.pieces().first() {
         None => false,
-        Some(piece) => behind_first(first_word(piece.bytes()), text).is_none(),
+        Some(piece) => after_first(first_word(piece.bytes()), text).is_none(),
     }
 }
 

@@ -45,7 +45,7 @@ impl Piece {
     }
 }
 
-/// A pattern of a line: its pieces stand in the line one behind the other.
+/// A pattern of a line: its pieces stand in the line one after the other.
 #[derive(Drop)]
 pub struct Pattern {
     pieces: Vec<Piece>,
@@ -157,7 +157,7 @@ impl Step {
     }
 }
 
-/// A question: steps whose moments come one behind the other.
+/// A question: steps whose moments come one after the other.
 #[derive(Drop)]
 pub struct Question {
     steps: Vec<Step>,

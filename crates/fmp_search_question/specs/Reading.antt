@@ -36,7 +36,7 @@ pub record Draft : Type 0 where
   pub parts : List (List Item)  -- the complete parts of the moment that is being read
   pub items : List Item  -- the complete items of its last part
   pub negated : Bool  -- `not` begins the item that is being read
-  pub pattern : List ℕ  -- the pattern that is being read: its words, each with a blank behind it, and one before the first
+  pub pattern : List ℕ  -- the pattern that is being read: its words, each with a blank after it, and one before the first
   pub spot : Spot  -- where in a line those words end
 
 abbrev pub nothing_read : Draft
@@ -119,7 +119,7 @@ abbrev pub limited : Result Draft QuestionFault → Result Draft QuestionFault
 limited (Err fault) = Err fault
 limited (Ok d) = if nat_le (length d.steps) most_steps then Ok d else Err TooLong
 
--- a word that may stand behind those before it in some line
+-- a word that may stand after those before it in some line
 abbrev pub at_spot : Draft → List ℕ → Option Spot → Result Draft QuestionFault
 at_spot d word None = Err NoLine
 at_spot d word (Some spot) = Ok (record d { pattern = longer d.pattern word; spot = spot })
@@ -159,9 +159,9 @@ result_then f (Ok a) = f a
 result_then f (Err e) = Err e
 
 -- what a fault of reading tells, where it is one of the text
-abbrev pub told : ReadFault → QuestionFault × ℕ
-told Memory = (BadWord, 0)
-told (Text fault place) = (fault, place)
+abbrev pub report : ReadFault → QuestionFault × ℕ
+report Memory = (BadWord, 0)
+report (Text fault place) = (fault, place)
 
 -- the last words of a text of so many bytes
 abbrev pub after_words : NameLists → ℕ → Draft → List (List ℕ) → Result Draft (QuestionFault × ℕ)
@@ -169,7 +169,7 @@ after_words names bytes d [] = Ok d
 after_words names bytes d (word ∷ words) =
     result_then (λ e. after_words names bytes e words) (at_place (bytes - length (join_with_byte space (word ∷ words))) (after_word names d word))
 
--- behind the last word a step is complete
+-- after the last word a step is complete
 abbrev pub ended : ℕ → Draft → Result (List Step) (QuestionFault × ℕ)
 ended bytes d = result_then (λ e. Ok e.steps) (at_place bytes (limited (or_form (with_step d))))
 

@@ -77,7 +77,7 @@ fn wanted_by(alloc: Global, words: &[u8]) -> Result<Option<Pattern>, AllocError>
     }
 }
 
-/// Puts so many copies of a step behind the others. The error is want of memory.
+/// Puts so many copies of a step after the others. The error is want of memory.
 fn add_times(alloc: Global, steps: &mut Vec<Step>, step: &Step, times: u8) -> Result<(), AllocError>
     ensures { OnOk result (steps.new.items ≡ steps.old.items ++ replicate times step.now) }
 {
@@ -116,7 +116,7 @@ impl Draft {
         }
     }
 
-    /// Puts the pattern behind the other items of its part. False where it has no word yet, or is a number alone. The error is want of memory.
+    /// Puts the pattern after the other items of its part. False where it has no word yet, or is a number alone. The error is want of memory.
     #[tactic(auto, unfolding(crate::specs::Reading::with_pattern))]
     pub(crate) fn end_pattern(&mut self) -> Result<bool, AllocError>
         ensures none { IfOk result (λ done. done ≡ is_some (spec.with_pattern self.old)) }
@@ -133,7 +133,7 @@ impl Draft {
         Ok(true)
     }
 
-    /// Puts the complete items behind the other parts of their moment. The error is want of memory.
+    /// Puts the complete items after the other parts of their moment. The error is want of memory.
     fn push_part(&mut self) -> Result<(), AllocError>
         ensures { OnOk result (self.new ≡ spec.part_ended self.old) }
     {
@@ -187,7 +187,7 @@ impl Draft {
         Ok(Moment::new(parts))
     }
 
-    /// Takes the step out of the draft. Where `without` was read, the parts behind it are the moment that must not come before the first.
+    /// Takes the step out of the draft. Where `without` was read, the parts after it are the moment that must not come before the first.
     fn take_step(&mut self) -> Step
         ensures is { result ≡ spec.step_of self.old.moment self.old.parts }
         ensures rest { self.new ≡ record self.old { moment = None; parts = [] } }
@@ -313,10 +313,10 @@ impl Draft {
     }
 
     /// Puts a word at the end of the pattern. The fault is `UnknownName` where a run of it is not fine, else `TooLong` where the pattern would
-    /// have more than 1,024 bytes, else `NoLine` where it can stand behind those before it in no line. The error is want of memory.
+    /// have more than 1,024 bytes, else `NoLine` where it can stand after those before it in no line. The error is want of memory.
     #[tactic(auto, unfolding(crate::specs::Reading::with_word))]
     fn add_word(&mut self, names: &Names, word: &[u8]) -> Result<Option<QuestionFault>, AllocError>
-        ensures told { IfOk result (λ fault. fault ≡ spec.fault_of (spec.with_word names.now self.old word.now)) }
+        ensures report { IfOk result (λ fault. fault ≡ spec.fault_of (spec.with_word names.now self.old word.now)) }
         ensures added { (d : spec.Draft) → spec.with_word names.now self.old word.now ≡ Ok d → OnOk result (self.new ≡ d) }
     {
         if !are_fine(names, word) {
@@ -339,7 +339,7 @@ impl Draft {
     /// Ends the step. The fault is `BadForm` where its last pattern has no word yet, and `TooLong` where there are more than 255 steps then.
     /// The error is want of memory.
     fn end_limited(&mut self) -> Result<Option<QuestionFault>, AllocError>
-        ensures told { IfOk result (λ fault. fault ≡ spec.fault_of (spec.limited (spec.or_form (spec.with_step self.old)))) }
+        ensures report { IfOk result (λ fault. fault ≡ spec.fault_of (spec.limited (spec.or_form (spec.with_step self.old)))) }
         ensures ended { (d : spec.Draft) → spec.limited (spec.or_form (spec.with_step self.old)) ≡ Ok d → OnOk result (self.new ≡ d) }
     {
         if !self.end_step()? {
@@ -359,7 +359,7 @@ impl Draft {
         names: &Names,
         word: &[u8],
     ) -> Result<Option<QuestionFault>, AllocError>
-        ensures told { IfOk result (λ fault. fault ≡ spec.fault_of (spec.after_word names.now self.old word.now)) }
+        ensures report { IfOk result (λ fault. fault ≡ spec.fault_of (spec.after_word names.now self.old word.now)) }
         ensures added { (d : spec.Draft) → spec.after_word names.now self.old word.now ≡ Ok d → OnOk result (self.new ≡ d) }
     {
         if !is_printed(word) {
@@ -392,7 +392,7 @@ impl Draft {
     /// The steps of the whole, where it is complete.
     pub(crate) fn end(mut self, text: &[u8]) -> Result<Question, ReadFault>
         ensures ok { IfOk result (λ q. spec.ended (length text.now) self ≡ Ok q) }
-        ensures err { IfErr result (λ fault. fault ≢ ReadFault.Memory → spec.ended (length text.now) self ≡ Err (spec.told fault)) }
+        ensures err { IfErr result (λ fault. fault ≢ ReadFault.Memory → spec.ended (length text.now) self ≡ Err (spec.report fault)) }
     {
         match self.end_limited() {
             Err(_) => Err(ReadFault::Memory),

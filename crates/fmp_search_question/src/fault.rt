@@ -11,7 +11,7 @@ pub enum QuestionFault {
     UnknownName,
     /// More than 255 steps, or a pattern of more than 1,024 bytes.
     TooLong,
-    /// A word that can stand behind those before it in no line of any event.
+    /// A word that can stand after those before it in no line of any event.
     NoLine,
 }
 
@@ -20,7 +20,7 @@ pub enum QuestionFault {
 pub enum ReadFault {
     /// Memory ran out.
     Memory,
-    /// The text is none, and this is its first fault: why, and the number of the byte from 0 at which the word begins, or of that behind the
+    /// The text is none, and this is its first fault: why, and the number of the byte from 0 at which the word begins, or of that after the
     /// last one.
     Text(QuestionFault, usize),
 }

@@ -104,7 +104,7 @@ fn may_wait(but: Option<&[u8]>, name: &[u8]) -> bool
     }
 }
 
-/// Puts that a task of this name waits behind the others, unless it may. The error is want of memory.
+/// Puts that a task of this name waits after the others, unless it may. The error is want of memory.
 fn add_unless(
     alloc: Global,
     lasting: &mut Vec<Lasting>,
@@ -170,7 +170,7 @@ impl Model for Parts {
     ghost view = { λ d. record { lasting = d.lasting.items; negated = d.negated; draft = d.draft; stage = d.stage } };
 }
 
-/// Whether a word has no place in a part: one of other questions, or `&` behind `not`.
+/// Whether a word has no place in a part: one of other questions, or `&` after `not`.
 fn is_elsewhere(negated: bool, word: &[u8]) -> bool
     ensures { result ≡ spec.is_elsewhere negated word.now }
 {
@@ -205,7 +205,7 @@ impl Parts {
 
     /// `for` after the last word of a pattern.
     fn add_for(&mut self) -> Result<Option<QuestionFault>, AllocError>
-        ensures told { IfOk result (λ fault. fault ≡ spec.fault_of (spec.before_ever self.old (reading.with_pattern self.old.draft))) }
+        ensures report { IfOk result (λ fault. fault ≡ spec.fault_of (spec.before_ever self.old (reading.with_pattern self.old.draft))) }
         ensures added { (d : spec.Parts) → spec.before_ever self.old (reading.with_pattern self.old.draft) ≡ Ok d → OnOk result (self.new ≡ d) }
     {
         if self.draft.end_pattern()? {
@@ -249,7 +249,7 @@ impl Parts {
         names: &Names,
         word: &[u8],
     ) -> Result<Option<QuestionFault>, AllocError>
-        ensures told { IfOk result (λ fault. fault ≡ spec.fault_of (spec.in_part names.now self.old word.now)) }
+        ensures report { IfOk result (λ fault. fault ≡ spec.fault_of (spec.in_part names.now self.old word.now)) }
         ensures added { (d : spec.Parts) → spec.in_part names.now self.old word.now ≡ Ok d → OnOk result (self.new ≡ d) }
     {
         if word == b"for".as_slice() {
@@ -279,7 +279,7 @@ impl Parts {
         names: &Names,
         word: &[u8],
     ) -> Result<Option<QuestionFault>, AllocError>
-        ensures told { IfOk result (λ fault. fault ≡ spec.fault_of (spec.with_draft self.old (reading.after_word names.now self.old.draft word.now))) }
+        ensures report { IfOk result (λ fault. fault ≡ spec.fault_of (spec.with_draft self.old (reading.after_word names.now self.old.draft word.now))) }
         ensures added { (d : spec.Parts) → spec.with_draft self.old (reading.after_word names.now self.old.draft word.now) ≡ Ok d → OnOk result (self.new ≡ d) }
     {
         self.draft.add(names, word)
@@ -287,7 +287,7 @@ impl Parts {
 
     /// The names of those that may wait.
     fn add_names(&mut self, names: &Names, word: &[u8]) -> Result<Option<QuestionFault>, AllocError>
-        ensures told { IfOk result (λ fault. fault ≡ spec.fault_of (spec.in_stage names.now self.old word.now Stage.But)) }
+        ensures report { IfOk result (λ fault. fault ≡ spec.fault_of (spec.in_stage names.now self.old word.now Stage.But)) }
         ensures added { (d : spec.Parts) → spec.in_stage names.now self.old word.now Stage.But ≡ Ok d → OnOk result (self.new ≡ d) }
     {
         if !are_tasks(names, word) {
@@ -299,7 +299,7 @@ impl Parts {
 
     /// Goes on to a stage where a word is the one that has to stand there.
     fn expect(&mut self, is: bool, stage: Stage) -> Option<QuestionFault>
-        ensures told { result ≡ spec.fault_of (spec.expected self.old is stage) }
+        ensures report { result ≡ spec.fault_of (spec.expected self.old is stage) }
         ensures added { (d : spec.Parts) → spec.expected self.old is stage ≡ Ok d → self.new ≡ d }
     {
         if !is {
@@ -311,7 +311,7 @@ impl Parts {
 
     /// The word `ever` after `for`.
     fn add_ever(&mut self, word: &[u8]) -> Result<Option<QuestionFault>, AllocError>
-        ensures told { IfOk result (λ fault. fault ≡ spec.fault_of (spec.ever_in self.old word.now)) }
+        ensures report { IfOk result (λ fault. fault ≡ spec.fault_of (spec.ever_in self.old word.now)) }
         ensures added { (d : spec.Parts) → spec.ever_in self.old word.now ≡ Ok d → OnOk result (self.new ≡ d) }
     {
         if word != b"ever".as_slice() {
@@ -324,7 +324,7 @@ impl Parts {
     /// Adds a word, and tells its fault, if it has one.
     #[tactic(auto, unfolding(crate::specs::Lasting::after_word))]
     fn add(&mut self, names: &Names, word: &[u8]) -> Result<Option<QuestionFault>, AllocError>
-        ensures told { IfOk result (λ fault. fault ≡ spec.fault_of (spec.after_word names.now self.old word.now)) }
+        ensures report { IfOk result (λ fault. fault ≡ spec.fault_of (spec.after_word names.now self.old word.now)) }
         ensures added { (d : spec.Parts) → spec.after_word names.now self.old word.now ≡ Ok d → OnOk result (self.new ≡ d) }
     {
         if !is_printed(word) {
@@ -353,7 +353,7 @@ impl Parts {
     /// The parts of the whole, where it is complete.
     fn end(self, text: &[u8]) -> Result<Vec<Lasting>, ReadFault>
         ensures ok { IfOk result (λ v. spec.ended (length text.now) self ≡ Ok v.items) }
-        ensures err { IfErr result (λ fault. fault ≢ ReadFault.Memory → spec.ended (length text.now) self ≡ Err (reading.told fault)) }
+        ensures err { IfErr result (λ fault. fault ≢ ReadFault.Memory → spec.ended (length text.now) self ≡ Err (reading.report fault)) }
         ensures few { IfOk result (λ v. length v.items ≤ 64) }
     {
         if !self.may_end() {
@@ -370,7 +370,7 @@ impl Parts {
 #[tactic(auto, unfolding(crate::specs::Lasting::lasting_in))]
 pub fn read_lasting(alloc: Global, names: &Names, text: &[u8]) -> Result<Vec<Lasting>, ReadFault>
     ensures ok { IfOk result (λ v. spec.lasting_in names.now text.now ≡ Ok v.items) }
-    ensures err { IfErr result (λ fault. fault ≢ ReadFault.Memory → spec.lasting_in names.now text.now ≡ Err (reading.told fault)) }
+    ensures err { IfErr result (λ fault. fault ≢ ReadFault.Memory → spec.lasting_in names.now text.now ≡ Err (reading.report fault)) }
     ensures few { IfOk result (λ v. length v.items ≤ 64) }
 {
     let mut parts = Parts::new(alloc);

@@ -13,7 +13,7 @@ use std::alloc::Global;
 #[tactic(auto, unfolding(crate::specs::Reading::question_in))]
 pub fn read_question(alloc: Global, names: &Names, text: &[u8]) -> Result<Question, ReadFault>
     ensures ok { IfOk result (λ q. spec.question_in names.now text.now ≡ Ok q) }
-    ensures err { IfErr result (λ fault. fault ≢ ReadFault.Memory → spec.question_in names.now text.now ≡ Err (spec.told fault)) }
+    ensures err { IfErr result (λ fault. fault ≢ ReadFault.Memory → spec.question_in names.now text.now ≡ Err (spec.report fault)) }
 {
     let mut draft = Draft::new(alloc);
     let mut rest = Some(text);

@@ -86,26 +86,26 @@ module _ (drawing : Drawing) (seed : ℕ) (c : Setup) (scripts : List Steps) (ti
     so_more e w' d' more rest goes are is =
         let there : (marks : List Bool) × LeadsTo c scripts rules [] w far.records marks = (far.marks, far.leads) in
         let drawn = step_of (event_of w) (next_step d w) e goes.1 in
-        let told : Record = (step listed w.machine e).1 in
+        let report : Record = (step listed w.machine e).1 in
         let on = on_more c scripts rules valid w far.records there drawn.0 e drawn.1 in
-        let event : told.event ≡ e = on_event c scripts rules valid w far.records there drawn.0 e drawn.1 in
+        let event : report.event ≡ e = on_event c scripts rules valid w far.records there drawn.0 e drawn.1 in
         let least = goes.0 in
         let one : left ≡ suc rest = omega (arith, least, is) in
         let count = far.count in
-        let behind : List Event × Place = walk rest d' w' in
-        let next : walk left d w ≡ (e ∷ behind.0, behind.1) =
+        let following : List Event × Place = walk rest d' w' in
+        let next : walk left d w ≡ (e ∷ following.0, following.1) =
         ap (λ (n : ℕ). walk n d w) one ∙ one_goes rest d w e goes.1 ∙ ap (λ (x : Draws). (e ∷ (walk rest x (gone w e)).0, (walk rest x (gone w e)).1)) (sym goes.3)
         ∙ ap (λ (x : Place). (e ∷ (walk rest d' x).0, (walk rest d' x).1)) (sym goes.2) in
-        let together : events ++ e ∷ behind.0 ≡ more ++ behind.0 = sym (append_assoc events (e ∷ []) behind.0) ∙ ap (λ (es : List Event). es ++ behind.0) (sym are) in
+        let together : events ++ e ∷ following.0 ≡ more ++ following.0 = sym (append_assoc events (e ∷ []) following.0) ∙ ap (λ (es : List Event). es ++ following.0) (sym are) in
         record {
-          records = far.records ++ told ∷ [];
+          records = far.records ++ report ∷ [];
           marks = on.0;
-          leads = subst (λ (x : Place). LeadsTo c scripts rules [] x (far.records ++ told ∷ []) on.0) (sym goes.2) on.1;
+          leads = subst (λ (x : Place). LeadsTo c scripts rules [] x (far.records ++ report ∷ []) on.0) (sym goes.2) on.1;
           events_are =
               are ∙ ap (λ (es : List Event). es ++ e ∷ []) far.events_are ∙ ap (λ (x : Event). events_of far.records ++ x ∷ []) (sym event)
-              ∙ sym (events_more far.records told);
+              ∙ sym (events_more far.records report);
           count = let long = ap length are in omega (arith, count, one, long, length-append events (e ∷ []));
-          walked = far.walked ∙ ap (joined events) next ∙ ap (λ (es : List Event). (es, behind.1)) together;
+          walked = far.walked ∙ ap (joined events) next ∙ ap (λ (es : List Event). (es, following.1)) together;
         }
 
     -- and none more

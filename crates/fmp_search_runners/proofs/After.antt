@@ -21,6 +21,6 @@ module _ (c : Setup) (given : List Event) (e : Event) where
   pub stands_after : (k : World Queues) → Stands k (step numbered m e).0 → Stands k (replay numbered (booted c) (given ++ e ∷ []))
   stands_after k stands = subst (Stands k) (sym (replay_more (booted c) given e)) stands
 
-  -- the calls of its answer come behind those before it
+  -- the calls of its answer come after those before it
   pub made_after : made_in (answers numbered (booted c) (given ++ e ∷ [])) ≡ made_in (answers numbered (booted c) given) ++ made_by (step numbered m e).1.runner (step numbered m e).1.event
   made_after = ap (λ (rs : List Record). made_in rs) (answers_more (booted c) given e) ∙ made_in-more (answers numbered (booted c) given) (step numbered m e).1

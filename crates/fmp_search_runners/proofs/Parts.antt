@@ -9,9 +9,9 @@ part_of_itself [] = tt
 part_of_itself (x ∷ xs) = inl (refl, part_of_itself xs)
 
 -- a part of the rest is a part of the list
-pub part_behind : {X : Type 0} (y : X) (xs ys : List X) → IsPartOf xs ys → IsPartOf xs (y ∷ ys)
-part_behind y [] ys part = tt
-part_behind y (x ∷ xs) ys part = inr part
+pub part_after : {X : Type 0} (y : X) (xs ys : List X) → IsPartOf xs ys → IsPartOf xs (y ∷ ys)
+part_after y [] ys part = tt
+part_after y (x ∷ xs) ys part = inr part
 
 pub part_of_part : {X : Type 0} (xs part whole : List X) → IsPartOf xs part → IsPartOf part whole → IsPartOf xs whole
 part_of_part [] part whole a b = tt
@@ -24,8 +24,8 @@ part_of_part (x ∷ xs) (p ∷ part) (w ∷ whole) a (inr there) = inr (part_of_
 -- without its first item it is a part, too
 part_of_tail : {X : Type 0} (x : X) (xs ys : List X) → IsPartOf (x ∷ xs) ys → IsPartOf xs ys
 part_of_tail x xs [] part = absurd part
-part_of_tail x xs (y ∷ ys) (inl here) = part_behind y xs ys here.1
-part_of_tail x xs (y ∷ ys) (inr there) = part_behind y xs ys (part_of_tail x xs ys there)
+part_of_tail x xs (y ∷ ys) (inl here) = part_after y xs ys here.1
+part_of_tail x xs (y ∷ ys) (inr there) = part_after y xs ys (part_of_tail x xs ys there)
 
 -- an item that both begin with may go from both
 pub both_go : {X : Type 0} (x y : X) (xs ys : List X) → x ≡ y → IsPartOf (x ∷ xs) (y ∷ ys) ↔ IsPartOf xs ys

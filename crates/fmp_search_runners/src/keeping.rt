@@ -57,7 +57,7 @@ fn is_made(runner: Runner, call: Call, made: Made) -> bool
     is_same(runner, made.runner) && is_same_call(call, made.call)
 }
 
-/// Whether a runner's calls in the one list are among its calls in the other, in their order. Each is looked for behind the one before it.
+/// Whether a runner's calls in the one list are among its calls in the other, in their order. Each is looked for after the one before it.
 fn is_kept(runner: Runner, made: &[Made], given: &[Made]) -> bool
     ensures { IsTrue result ↔ IsPartOf (calls_by runner made.now) (calls_by runner given.now) }
 {

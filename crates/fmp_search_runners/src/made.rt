@@ -19,10 +19,10 @@ pub struct Made {
 }
 
 /// Adds the call of a record, where somebody makes it.
-fn put_made(all: &mut Vec<Made>, told: &Record) -> Result<(), AllocError>
-    ensures { OnOk result (all.new.items ≡ all.old.items ++ made_by told.now.runner told.now.event) }
+fn put_made(all: &mut Vec<Made>, report: &Record) -> Result<(), AllocError>
+    ensures { OnOk result (all.new.items ≡ all.old.items ++ made_by report.now.runner report.now.event) }
 {
-    if let (Some(runner), Event::Call(_, call)) = (told.runner, told.event) {
+    if let (Some(runner), Event::Call(_, call)) = (report.runner, report.event) {
         all.push(Made { runner, call })?;
     }
     Ok(())
@@ -34,11 +34,11 @@ pub fn made_calls(alloc: Global, config: &Config, events: &[Event]) -> Result<Ve
     ensures { IfOk result (λ all. all.items ≡ made_in (answers numbered (booted config.now) events.now)) }
 {
     let mut kernel = Kernel::boot(config)?;
-    let mut told = Record::answer(Event::Tick(Proc::new(1)), None, Answer::Nothing);
+    let mut report = Record::answer(Event::Tick(Proc::new(1)), None, Answer::Nothing);
     let mut all = Vec::new(alloc);
     for event in events {
-        kernel.step_into(*event, &mut told);
-        put_made(&mut all, &told)?;
+        kernel.step_into(*event, &mut report);
+        put_made(&mut all, &report)?;
     }
     Ok(all)
 }

@@ -27,12 +27,12 @@ use Rattle.fmp_search_orders.proofs.Longer.{counts_same, taken_moved}
 use Rattle.fmp_search_orders.proofs.Runs.{no_count}
 use Rattle.fmp_search_kernel.specs.Walked.{count_in}
 use Rattle.fmp_search_showing.specs.Seen.{AreNext, AreSeen, is_seen}
-use Rattle.fmp_search_showing.proofs.Seeing.{seen_behind}
+use Rattle.fmp_search_showing.proofs.Seeing.{seen_after}
 
 -- the records of answers are of the events
-events_told : (m : State) (es : List Event) → events_of (answers numbered m es) ≡ es
-events_told m [] = refl
-events_told m (e ∷ es) = let did = step numbered m e in ap (λ x. x ∷ events_of (answers numbered did.0 es)) (step_event m e) ∙ ap (λ l. e ∷ l) (events_told did.0 es)
+events_reported : (m : State) (es : List Event) → events_of (answers numbered m es) ≡ es
+events_reported m [] = refl
+events_reported m (e ∷ es) = let did = step numbered m e in ap (λ x. x ∷ events_of (answers numbered did.0 es)) (step_event m e) ∙ ap (λ l. e ∷ l) (events_reported did.0 es)
 
 -- ---- the ticks that were taken
 
@@ -69,35 +69,35 @@ module _ (c : Setup) (rules : Rules) (question : List Step) (given : List Event)
   unfolding state_after
   last_state =
       ap (λ rs. replay numbered (booted c) (events_of rs)) (sym (answers_more (booted c) given e))
-      ∙ ap (replay numbered (booted c)) (events_told (booted c) (given ++ e ∷ []))
+      ∙ ap (replay numbered (booted c)) (events_reported (booted c) (given ++ e ∷ []))
       ∙ replay_more (booted c) given e
 
   -- the ticks that were taken
-  pub taken_next : (ns ms : List ℕ) (told : Record) → told ≡ r → ms ≡ moved_taken rules ns told.event told.answer → TakenAre rules ns h → length ns ≡ 8 →
+  pub taken_next : (ns ms : List ℕ) (report : Record) → report ≡ r → ms ≡ moved_taken rules ns report.event report.answer → TakenAre rules ns h → length ns ≡ 8 →
       TakenAre rules ms (answers numbered (booted c) (given ++ e ∷ []))
-  taken_next ns ms told is moved are long =
+  taken_next ns ms report is moved are long =
       let taken_is : ms ≡ moved_taken rules ns r.event r.answer = moved ∙ ap (λ (x : Record). moved_taken rules ns x.event x.answer) is in
       let there = subst (λ (l : List ℕ). TakenAre rules l (h ++ r ∷ [])) (sym taken_is) (taken_moved rules ns h r are long) in
       subst (λ rs. TakenAre rules ms rs) (sym (answers_more (booted c) given e)) there
 
   -- the kernel's lines are those of the model
-  same_lines : (ns : List ℕ) (k : World Queues) (told : Record) → TakenAre rules ns (h ++ r ∷ []) → Stands k (step numbered m e).0 → told ≡ r →
-      sight listed c rules (count_in ns) k told ≡ last_sight c rules (h ++ r ∷ []) r
-  same_lines ns k told are stands is =
+  same_lines : (ns : List ℕ) (k : World Queues) (report : Record) → TakenAre rules ns (h ++ r ∷ []) → Stands k (step numbered m e).0 → report ≡ r →
+      sight listed c rules (count_in ns) k report ≡ last_sight c rules (h ++ r ∷ []) r
+  same_lines ns k report are stands is =
       let count = counted rules (h ++ r ∷ []) in
-      sight_same c rules (count_in ns) count (counts_same rules (record (origin c [] rules question) { taken = ns }) (h ++ r ∷ []) are) k (step numbered m e).0 told stands
+      sight_same c rules (count_in ns) count (counts_same rules (record (origin c [] rules question) { taken = ns }) (h ++ r ∷ []) are) k (step numbered m e).0 report stands
       ∙ ap (λ x. sight numbered c rules count (step numbered m e).0 x) is
       ∙ ap (λ s. sight numbered c rules count s r) (sym last_state)
 
   -- the numbers of steps that may have been seen in the answers
-  pub seen_next : (ns : List ℕ) (k : World Queues) (told : Record) (numbers next : List Bool) → TakenAre rules ns (answers numbered (booted c) (given ++ e ∷ [])) →
-      Stands k (step numbered m e).0 → told ≡ r → AreSeen c rules question h numbers → AreNext question (sight listed c rules (count_in ns) k told) numbers next →
+  pub seen_next : (ns : List ℕ) (k : World Queues) (report : Record) (numbers next : List Bool) → TakenAre rules ns (answers numbered (booted c) (given ++ e ∷ [])) →
+      Stands k (step numbered m e).0 → report ≡ r → AreSeen c rules question h numbers → AreNext question (sight listed c rules (count_in ns) k report) numbers next →
       AreSeen c rules question (answers numbered (booted c) (given ++ e ∷ [])) next
-  seen_next ns k told numbers next taken_are stands is before are =
+  seen_next ns k report numbers next taken_are stands is before are =
       let longer = answers_more (booted c) given e in
-      let lines = same_lines ns k told (subst (TakenAre rules ns) longer taken_are) stands is in
+      let lines = same_lines ns k report (subst (TakenAre rules ns) longer taken_are) stands is in
       subst (λ rs. AreSeen c rules question rs next) (sym longer)
-      (seen_behind c rules question h r numbers before next (λ n small. are n small ∙ ap (λ l. is_seen question l numbers n) lines))
+      (seen_after c rules question h r numbers before next (λ n small. are n small ∙ ap (λ l. is_seen question l numbers n) lines))
 
   pub stands_next : (k : World Queues) → Stands k (step numbered m e).0 → Stands k (replay numbered (booted c) (given ++ e ∷ []))
   stands_next k stands = subst (Stands k) (sym (replay_more (booted c) given e)) stands

@@ -1,4 +1,4 @@
--- How many steps of a question may have been seen behind one event more.
+-- How many steps of a question may have been seen after one event more.
 use Rattle.std.proofs.Common.{◌≡◌, ℕ, zero, suc, ◌+◌, ◌<◌, ◌≤◌, Bool, true, false, ◌||◌, cond, List, [], ◌∷◌, ◌++◌, length, take, replicate, Some, refl, sym, ap, ◌∙◌, subst, inl, inr, arith}
 use Rattle.std.specs.Prelude.{slice_index_or, slice_get}
 use Rattle.std.proofs.lemmas.Grind.{common_steps}
@@ -105,7 +105,7 @@ module _ (c : Setup) (rules : Rules) (question : List Step) (h : List Record) (r
       fewer : (front : List Bool) (m : Bool) → seen front ≤ seen (front ++ m ∷ [])
       fewer front m = let least = cond_more m (seen front) in rw (seen_more front m) least
 
-  -- behind the event so many steps may have been seen
+  -- after the event so many steps may have been seen
   forth : (n : ℕ) → n ≤ length question → is_seen question text numbers n ≡ true → MaySee c rules question (h ++ r ∷ []) n
   forth zero small is = gone_on zero false small is
   forth (suc n) small is =
@@ -136,9 +136,9 @@ module _ (c : Setup) (rules : Rules) (question : List Step) (h : List Record) (r
       let parts = last_of (length h) may.0 long in
       back_from n small parts.0 parts.1 (subst (IsMarked c rules question (h ++ r ∷ [])) parts.2 may.1) (subst (λ l. seen l ≡ n) parts.2 may.2)
 
-  -- the numbers that come next are those behind one record more
-  pub seen_behind : (next : List Bool) → AreNext question text numbers next → AreSeen c rules question (h ++ r ∷ []) next
-  seen_behind next is = λ n small. (
+  -- the numbers that come next are those after one record more
+  pub seen_after : (next : List Bool) → AreNext question text numbers next → AreSeen c rules question (h ++ r ∷ []) next
+  seen_after next is = λ n small. (
     λ there. forth n small (sym (is n small) ∙ there),
     λ may. is n small ∙ back n small may,
   )

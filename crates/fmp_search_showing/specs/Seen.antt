@@ -34,12 +34,12 @@ pub record Watches (c : Setup) (rules : Rules) (question : List Step) (given : L
 abbrev pub goes_on : List Step → List ℕ → List Bool → ℕ → Bool → Bool
 goes_on question text numbers n marked = slice_index_or numbers n false && allows question n marked text
 
--- so many steps may have been seen behind such an event
+-- so many steps may have been seen after such an event
 abbrev pub is_seen : List Step → List ℕ → List Bool → ℕ → Bool
 is_seen question text numbers zero = goes_on question text numbers zero false
 is_seen question text numbers (suc n) = goes_on question text numbers (suc n) false || goes_on question text numbers n true
 
--- the numbers of steps that may have been seen behind an event with these lines, where these may have been seen before
+-- the numbers of steps that may have been seen after an event with these lines, where these may have been seen before
 abbrev pub AreNext : List Step → List ℕ → List Bool → List Bool → Type 0
 AreNext question text numbers next = (n : ℕ) → n ≤ length question → slice_index_or next n false ≡ is_seen question text numbers n
 

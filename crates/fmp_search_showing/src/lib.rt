@@ -1,7 +1,7 @@
 //! Whether what a machine answers to events shows what a question asks.
 //!
 //! [`shows`] is what there is to call, and [`shown_at`], which says after which event. Both are exact for `Shows` of `fmp_search_orders`: begin
-//! there. How many steps may have been seen behind an event is in `specs/Seen`.
+//! there. How many steps may have been seen after an event is in `specs/Seen`.
 #![tactic(auto)]
 
 mod showing;

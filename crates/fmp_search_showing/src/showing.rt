@@ -47,7 +47,7 @@ fn goes_on(
     look(line, text, question, seen, marked)
 }
 
-/// Whether so many steps may have been seen behind an event with these lines.
+/// Whether so many steps may have been seen after an event with these lines.
 fn is_seen(
     line: &mut Vec<u8>,
     text: &[u8],
@@ -67,7 +67,7 @@ fn is_seen(
     goes_on(line, text, question, numbers, at - 1, true)
 }
 
-/// The numbers of steps that may have been seen behind an event with these lines, where these may have been seen before.
+/// The numbers of steps that may have been seen after an event with these lines, where these may have been seen before.
 fn all_seen(
     line: &mut Vec<u8>,
     text: &[u8],
@@ -143,7 +143,7 @@ impl Watch {
         Ok(())
     }
 
-    /// Sees how many steps may have been seen behind the last answer. Its lines are printed only where that depends on them.
+    /// Sees how many steps may have been seen after the last answer. Its lines are printed only where that depends on them.
     fn see(&mut self, config: &Config, rules: Rules, question: &Question) -> Result<(), AllocError>
         requires { length question.now ≤ 255 }
         ensures next { OnOk result (AreNext question.now

@@ -5,14 +5,14 @@ use Rattle.std.proofs.lemmas.List.Elements.{All-append, All-drop, All-take}
 use Rattle.fmp_codes.specs.Records.{AreOn, processor_of}
 use Rattle.fmp_codes.specs.declared.records.Event.{Event}
 use Rattle.fmp_search_runners.specs.Runners.{IsPartOf}
-use Rattle.fmp_search_runners.proofs.Parts.{part_all, part_behind, part_of_itself}
+use Rattle.fmp_search_runners.proofs.Parts.{part_all, part_after, part_of_itself}
 use Rattle.fmp_search_shrink.specs.Shrinking.{without}
 
 -- the end of a list is a part of it
 drop_is_part : (n : ℕ) (es : List Event) → IsPartOf (drop n es) es
 drop_is_part zero es = part_of_itself es
 drop_is_part (suc n) [] = tt
-drop_is_part (suc n) (e ∷ es) = part_behind e (drop n es) es (drop_is_part n es)
+drop_is_part (suc n) (e ∷ es) = part_after e (drop n es) es (drop_is_part n es)
 
 -- what is left without events in a row is a part
 pub without_is_part : (es : List Event) (from to : ℕ) → from ≤ to → IsPartOf (without es from to) es

@@ -3,7 +3,7 @@ use Rattle.std.specs.Prelude.{ℕ, Bool, false, not, ◌&&◌, ◌||◌, ◌==�
 use Rattle.std.specs.List.{list_any}
 use Rattle.std.specs.Option.{option_map_or, option_or}
 use Rattle.std.specs.Str.{bytes_eq}
-use Rattle.fmp_bytes.specs.Bytes.{behind, close_parenthesis, colon, comma, cut_at, equals_sign, minus_sign, open_parenthesis}
+use Rattle.fmp_bytes.specs.Bytes.{following, close_parenthesis, colon, comma, cut_at, equals_sign, minus_sign, open_parenthesis}
 use Rattle.fmp_bytes.specs.Numerals.{are_digits}
 use Rattle.fmp_calls.specs.Table.{is_bare, kinds_of, named}
 use Rattle.fmp_calls.specs.declared.kinds.ArgumentKind.{ArgumentKind}
@@ -30,13 +30,13 @@ word_rows = map (λ row. (row.0.now, row.1)) WORD_SPOTS
 abbrev pub key_rows : List (List ℕ × Spot)
 key_rows = map (λ row. (row.0.now, row.1)) KEY_SPOTS
 
--- a number in decimal, behind a `-` or not
+-- a number in decimal, after a `-` or not
 abbrev pub is_number : List ℕ → Bool
-is_number word = option_map_or (are_digits 10) (behind minus_sign word) (are_digits 10 word)
+is_number word = option_map_or (are_digits 10) (following minus_sign word) (are_digits 10 word)
 
 -- an answer to a call: a code; `E_OK` may have a value
 abbrev pub code_spot : List ℕ → Option (List ℕ) → Option Spot
-code_spot code (Some value) = if bytes_eq code (codes "E_OK") && is_number value then Some spot.Told else None
+code_spot code (Some value) = if bytes_eq code (codes "E_OK") && is_number value then Some spot.Report else None
 code_spot code None = if bytes_eq code (codes "E_OK") then Some spot.Accepted else (if is_code code then Some spot.Answer else None)
 
 abbrev pub answer_spot : List ℕ → Option Spot
@@ -60,7 +60,7 @@ object_spot names word =
 abbrev pub name_spot : NameLists → List ℕ → Spot
 name_spot names word = if is_some (plain_spot word) then spot.Anything else object_spot names word
 
--- what may stand behind a `=`: a name and a code with a colon between, a processor, names, or numbers
+-- what may stand after a `=`: a name and a code with a colon between, a processor, names, or numbers
 abbrev pub is_value : NameLists → Spot → List ℕ → Bool
 is_value names spot.Release value = is_some (cut_at colon value).1
 is_value names spot.Held value = is_processor names.processors value
@@ -96,28 +96,28 @@ has_first names kind (Some word) = is_first names kind word
 
 -- a call that tells a value wherever it answers `E_OK`, or none
 abbrev pub called : Bool → Spot
-called telling = if telling then spot.CalledTold else spot.Called
+called telling = if telling then spot.CalledReported else spot.Called
 
 abbrev pub begun : Bool → Spot
-begun telling = if telling then spot.BegunTold else spot.Begun
+begun telling = if telling then spot.BegunReported else spot.Begun
 
 abbrev pub is_telling : List ℕ → Bool
 is_telling name = list_any (λ w. bytes_eq w.now name) TELLING
 
--- a call, by the kinds of its arguments and what stands behind its `(` in the word: all of one argument, or the first of several
+-- a call, by the kinds of its arguments and what stands after its `(` in the word: all of one argument, or the first of several
 abbrev pub arguments_spot : NameLists → List ArgumentKind → Bool → List ℕ → Option Spot
-arguments_spot names [] telling behind = if bytes_eq behind (codes ")") then Some (called telling) else None
-arguments_spot names (kind ∷ []) telling behind = if has_first names kind (ended close_parenthesis behind) then Some (called telling) else None
-arguments_spot names (kind ∷ second ∷ kinds) telling behind = if has_first names kind (ended comma behind) then Some (begun telling) else None
+arguments_spot names [] telling following = if bytes_eq following (codes ")") then Some (called telling) else None
+arguments_spot names (kind ∷ []) telling following = if has_first names kind (ended close_parenthesis following) then Some (called telling) else None
+arguments_spot names (kind ∷ second ∷ kinds) telling following = if has_first names kind (ended comma following) then Some (begun telling) else None
 
 abbrev pub form_spot : NameLists → List ℕ → List ℕ → Option Call → Option Spot
-form_spot names word behind None = None
-form_spot names word behind (Some call) = if is_bare call then None else arguments_spot names (kinds_of call) (is_telling word) behind
+form_spot names word following None = None
+form_spot names word following (Some call) = if is_bare call then None else arguments_spot names (kinds_of call) (is_telling word) following
 
 abbrev pub call_spot : NameLists → List ℕ → List ℕ → Option Spot
-call_spot names word behind = form_spot names word behind (named word)
+call_spot names word following = form_spot names word following (named word)
 
--- an argument behind the first one: a number or a mode
+-- an argument after the first one: a number or a mode
 abbrev pub is_further : Option (List ℕ) → Bool
 is_further None = false
 is_further (Some word) = bytes_eq word (codes "TWF_ANDW") || bytes_eq word (codes "TWF_ORW") || is_number word
@@ -129,7 +129,7 @@ argument_spot word =
 -- a word with a `=`, one with a `(`, or an argument
 abbrev pub cut_spot : NameLists → List ℕ → List ℕ × Option (List ℕ) → List ℕ × Option (List ℕ) → Option Spot
 cut_spot names word (key, Some value) call = key_spot names key value
-cut_spot names word (key, None) (call, Some behind) = call_spot names call behind
+cut_spot names word (key, None) (call, Some following) = call_spot names call following
 cut_spot names word (key, None) (call, None) = argument_spot word
 
 abbrev pub made_spot : NameLists → List ℕ → Option Spot

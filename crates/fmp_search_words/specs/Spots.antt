@@ -1,9 +1,9 @@
--- Where in a line a word stands, and which words may stand one behind the other. docs/FORMATS.md has the forms of a line of a trace and of a state.
+-- Where in a line a word stands, and which words may stand one after the other. docs/FORMATS.md has the forms of a line of a trace and of a state.
 use Rattle.std.specs.Prelude.{ℕ, Bool, true, false, ◌==◌, List, [], ◌∷◌, Option, None, Some, if◌then◌else◌}
 use Rattle.std.specs.List.{list_any}
 use Rattle.fmp_search_words.specs.declared.spot.Spot.{Spot}
 use Rattle.fmp_search_words.specs.declared.spot.Spot.TheVariants.{Front, Anything, Number, Whole, Processor, Nobody, Task, Handler, Object, Lock, Timer, Return, Begun}
-use Rattle.fmp_search_words.specs.declared.spot.Spot.TheVariants.{BegunSome, BegunTold, Called, CalledSome, CalledTold, Argument, LastArgument, Taken, Accepted, Told}
+use Rattle.fmp_search_words.specs.declared.spot.Spot.TheVariants.{BegunSome, BegunReported, Called, CalledSome, CalledReported, Argument, LastArgument, Taken, Accepted, Report}
 use Rattle.fmp_search_words.specs.declared.spot.Spot.TheVariants.{Answer, Release, Lost, Run, Requests, Ready, Locked, Disabled, Latch, Due, Suspended, Waits, Sleep}
 use Rattle.fmp_search_words.specs.declared.spot.Spot.TheVariants.{WaitsFor, Left, Priority, Activated, Wakeups, Fact, Stopped, Held, End}
 
@@ -23,15 +23,15 @@ number Timer = 10
 number Return = 11
 number Begun = 12
 number BegunSome = 13
-number BegunTold = 14
+number BegunReported = 14
 number Called = 15
 number CalledSome = 16
-number CalledTold = 17
+number CalledReported = 17
 number Argument = 18
 number LastArgument = 19
 number Taken = 20
 number Accepted = 21
-number Told = 22
+number Report = 22
 number Answer = 23
 number Release = 24
 number Lost = 25
@@ -69,19 +69,19 @@ before Object = WaitsFor ∷ []
 before Timer = Nobody ∷ Task ∷ Handler ∷ []
 before Return = Nobody ∷ Task ∷ Handler ∷ []
 before Begun = Nobody ∷ Task ∷ Handler ∷ []
-before BegunTold = Nobody ∷ Task ∷ Handler ∷ []
+before BegunReported = Nobody ∷ Task ∷ Handler ∷ []
 before Called = Nobody ∷ Task ∷ Handler ∷ []
-before CalledTold = Nobody ∷ Task ∷ Handler ∷ []
-before Argument = Begun ∷ BegunSome ∷ BegunTold ∷ []
-before LastArgument = Begun ∷ BegunSome ∷ BegunTold ∷ []
+before CalledReported = Nobody ∷ Task ∷ Handler ∷ []
+before Argument = Begun ∷ BegunSome ∷ BegunReported ∷ []
+before LastArgument = Begun ∷ BegunSome ∷ BegunReported ∷ []
 before Taken = Timer ∷ []
 before Accepted = Return ∷ Called ∷ CalledSome ∷ []
-before Told = CalledSome ∷ CalledTold ∷ []
-before Answer = Return ∷ Called ∷ CalledSome ∷ CalledTold ∷ []
-before Release = Taken ∷ Accepted ∷ Told ∷ Answer ∷ Release ∷ []
-before Lost = Taken ∷ Accepted ∷ Told ∷ Answer ∷ Release ∷ []
-before Run = Processor ∷ Taken ∷ Accepted ∷ Told ∷ Answer ∷ Release ∷ Lost ∷ []
-before Requests = Taken ∷ Accepted ∷ Told ∷ Answer ∷ Release ∷ Lost ∷ Run ∷ []
+before Report = CalledSome ∷ CalledReported ∷ []
+before Answer = Return ∷ Called ∷ CalledSome ∷ CalledReported ∷ []
+before Release = Taken ∷ Accepted ∷ Report ∷ Answer ∷ Release ∷ []
+before Lost = Taken ∷ Accepted ∷ Report ∷ Answer ∷ Release ∷ []
+before Run = Processor ∷ Taken ∷ Accepted ∷ Report ∷ Answer ∷ Release ∷ Lost ∷ []
+before Requests = Taken ∷ Accepted ∷ Report ∷ Answer ∷ Release ∷ Lost ∷ Run ∷ []
 before Ready = Run ∷ []
 before Locked = Run ∷ Ready ∷ []
 before Disabled = Run ∷ Ready ∷ Locked ∷ []
@@ -100,7 +100,7 @@ before Stopped = Handler ∷ []
 before Held = Lock ∷ []
 before other = []
 
--- a word may stand behind another
+-- a word may stand after another
 unfoldable pub may_follow : Spot → Spot → Bool
 may_follow Front next = true
 may_follow Number next = false
@@ -113,10 +113,10 @@ may_follow place next = list_any (λ s. number s == number place) (before next)
 -- where the words so far end: an argument belongs to the call that begins before it
 abbrev pub ended_by : Spot → Spot → Spot
 ended_by Begun Argument = Begun
-ended_by BegunTold Argument = BegunTold
+ended_by BegunReported Argument = BegunReported
 ended_by place Argument = BegunSome
 ended_by Begun LastArgument = Called
-ended_by BegunTold LastArgument = CalledTold
+ended_by BegunReported LastArgument = CalledReported
 ended_by place LastArgument = CalledSome
 ended_by place next = next
 

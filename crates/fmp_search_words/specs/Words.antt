@@ -39,7 +39,7 @@ begins_with_digit (b ∷ run) = is_ascii_digit b
 abbrev pub is_outside : ℕ → Bool
 is_outside b = not (is_of Word b || b == star)
 
--- the letters, digits, `_` and stars at the front of a word, and what follows the byte behind them
+-- the letters, digits, `_` and stars at the front of a word, and what follows the byte after them
 unfoldable pub cut_run : List ℕ → List ℕ × Option (List ℕ)
 cut_run word = option_map_or (λ i. (take i word, Some (drop (i + 1) word))) (position is_outside word) (word, None)
 

@@ -5,7 +5,7 @@ ghost use Rattle.fmp_search_words.specs.Forms as spec;
 
 use crate::spot::Spot;
 use crate::words::{has_star, has_word, is_processor};
-use fmp_bytes::{are_digits, behind, cut};
+use fmp_bytes::{are_digits, cut, following};
 use fmp_calls::{ArgumentKind, NameKind, ObjectKind, find_call, form};
 use fmp_names::Names;
 use fmp_search_pattern::is_code;
@@ -99,7 +99,7 @@ fn answer_spot(word: &[u8]) -> Option<Spot>
 {
     let (code, value) = cut(b':', word);
     match value {
-        Some(value) if code == b"E_OK".as_slice() && is_number(value) => Some(Spot::Told),
+        Some(value) if code == b"E_OK".as_slice() && is_number(value) => Some(Spot::Report),
         Some(_) => None,
         None if code == b"E_OK".as_slice() => Some(Spot::Accepted),
         None if is_code(code) => Some(Spot::Answer),
@@ -107,11 +107,11 @@ fn answer_spot(word: &[u8]) -> Option<Spot>
     }
 }
 
-/// Whether a word is a number in decimal, behind a `-` or not.
+/// Whether a word is a number in decimal, after a `-` or not.
 fn is_number(word: &[u8]) -> bool
     ensures { result ≡ spec.is_number word.now }
 {
-    match behind(b'-', word) {
+    match following(b'-', word) {
         Some(digits) => are_digits(10, digits),
         None => are_digits(10, word),
     }
@@ -160,8 +160,8 @@ fn name_spot(names: &Names, name: &[u8]) -> Spot
     }
 }
 
-/// Whether what stands behind a `=` may stand there: a release has a code behind a colon, a lock is held by a processor, names stand behind `run`,
-/// `ready` and `due`, and numbers behind the other words.
+/// Whether what stands after a `=` may stand there: a release has a code after a colon, a lock is held by a processor, names stand after `run`,
+/// `ready` and `due`, and numbers after the other words.
 fn is_value(names: &Names, spot: Spot, value: &[u8]) -> bool
     ensures { result ≡ spec.is_value names.now spot value.now }
 {
@@ -214,19 +214,19 @@ fn has_first(names: &Names, kind: ArgumentKind, argument: Option<&[u8]>) -> bool
     }
 }
 
-/// Where a call stands with what comes behind its `(` in a word, by the kinds of its arguments.
+/// Where a call stands with what comes after its `(` in a word, by the kinds of its arguments.
 fn arguments_spot(
     names: &Names,
     kinds: &[ArgumentKind],
     telling: bool,
-    behind: &[u8],
+    following: &[u8],
 ) -> Option<Spot>
-    ensures { result ≡ spec.arguments_spot names.now kinds.now telling behind.now }
+    ensures { result ≡ spec.arguments_spot names.now kinds.now telling following.now }
 {
     match kinds {
-        [] if behind == b")".as_slice() => Some(called(telling)),
-        [kind] if has_first(names, *kind, ended(b')', behind)) => Some(called(telling)),
-        [kind, _, ..] if has_first(names, *kind, ended(b',', behind)) => Some(begun(telling)),
+        [] if following == b")".as_slice() => Some(called(telling)),
+        [kind] if has_first(names, *kind, ended(b')', following)) => Some(called(telling)),
+        [kind, _, ..] if has_first(names, *kind, ended(b',', following)) => Some(begun(telling)),
         _ => None,
     }
 }
@@ -236,7 +236,7 @@ fn called(telling: bool) -> Spot
     ensures { result ≡ spec.called telling }
 {
     if telling {
-        Spot::CalledTold
+        Spot::CalledReported
     } else {
         Spot::Called
     }
@@ -247,25 +247,25 @@ fn begun(telling: bool) -> Spot
     ensures { result ≡ spec.begun telling }
 {
     if telling {
-        Spot::BegunTold
+        Spot::BegunReported
     } else {
         Spot::Begun
     }
 }
 
-/// Where a call stands that has this name, with what comes behind its `(` in a word.
-fn call_spot(names: &Names, name: &[u8], behind: &[u8]) -> Option<Spot>
-    ensures { result ≡ spec.call_spot names.now name.now behind.now }
+/// Where a call stands that has this name, with what comes after its `(` in a word.
+fn call_spot(names: &Names, name: &[u8], following: &[u8]) -> Option<Spot>
+    ensures { result ≡ spec.call_spot names.now name.now following.now }
 {
     let form = form(find_call(name)?);
     if form.bare {
         None
     } else {
-        arguments_spot(names, form.kinds, has_word(&TELLING, name), behind)
+        arguments_spot(names, form.kinds, has_word(&TELLING, name), following)
     }
 }
 
-/// Whether a word may be an argument behind the first one: a number or a mode.
+/// Whether a word may be an argument after the first one: a number or a mode.
 fn is_further(argument: Option<&[u8]>) -> bool
     ensures { result ≡ spec.is_further (option_copied argument.entry) }
 {
@@ -279,7 +279,7 @@ fn is_further(argument: Option<&[u8]>) -> bool
     }
 }
 
-/// Where an argument behind the first one stands.
+/// Where an argument after the first one stands.
 fn argument_spot(word: &[u8]) -> Option<Spot>
     ensures { result ≡ spec.argument_spot word.now }
 {
@@ -298,7 +298,7 @@ fn made_spot(names: &Names, word: &[u8]) -> Option<Spot>
 {
     match (cut(b'=', word), cut(b'(', word)) {
         ((key, Some(value)), _) => key_spot(names, key, value),
-        (_, (name, Some(behind))) => call_spot(names, name, behind),
+        (_, (name, Some(following))) => call_spot(names, name, following),
         _ => argument_spot(word),
     }
 }

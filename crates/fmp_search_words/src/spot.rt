@@ -37,14 +37,14 @@ pub enum Spot {
     /// The same of some call, which may tell one.
     BegunSome,
     /// The same of one that tells one.
-    BegunTold,
+    BegunReported,
     /// A call with all its arguments, and which tells no value where it is accepted.
     Called,
     /// The same of some call, which may tell one.
     CalledSome,
     /// The same of one that tells one.
-    CalledTold,
-    /// An argument with a comma behind it.
+    CalledReported,
+    /// An argument with a comma after it.
     Argument,
     /// The last one of several arguments.
     LastArgument,
@@ -53,14 +53,14 @@ pub enum Spot {
     /// `E_OK`.
     Accepted,
     /// `E_OK` with a value.
-    Told,
+    Report,
     /// Another answer to a call.
     Answer,
     /// ` rel=`.
     Release,
     /// ` lost=`.
     Lost,
-    /// ` run=`, behind a processor too.
+    /// ` run=`, after a processor too.
     Run,
     /// ` ipi=`.
     Requests,
@@ -111,15 +111,17 @@ impl Spot {
         match self {
             Nobody | Task | Handler => &[Processor],
             Object => &[WaitsFor],
-            Timer | Return | Begun | BegunTold | Called | CalledTold => &[Nobody, Task, Handler],
-            Argument | LastArgument => &[Begun, BegunSome, BegunTold],
+            Timer | Return | Begun | BegunReported | Called | CalledReported => &[
+                Nobody, Task, Handler,
+            ],
+            Argument | LastArgument => &[Begun, BegunSome, BegunReported],
             Taken => &[Timer],
             Accepted => &[Return, Called, CalledSome],
-            Told => &[CalledSome, CalledTold],
-            Answer => &[Return, Called, CalledSome, CalledTold],
-            Release | Lost => &[Taken, Accepted, Told, Answer, Release],
-            Run => &[Processor, Taken, Accepted, Told, Answer, Release, Lost],
-            Requests => &[Taken, Accepted, Told, Answer, Release, Lost, Run],
+            Report => &[CalledSome, CalledReported],
+            Answer => &[Return, Called, CalledSome, CalledReported],
+            Release | Lost => &[Taken, Accepted, Report, Answer, Release],
+            Run => &[Processor, Taken, Accepted, Report, Answer, Release, Lost],
+            Requests => &[Taken, Accepted, Report, Answer, Release, Lost, Run],
             Ready => &[Run],
             Locked => &[Run, Ready],
             Disabled => &[Run, Ready, Locked],
@@ -153,7 +155,7 @@ impl Spot {
         spots.iter().any(|spot| spot.number() == self.number())
     }
 
-    /// Whether a word may stand behind this one.
+    /// Whether a word may stand after this one.
     #[tactic(auto, unfolding(crate::specs::Spots::may_follow))]
     fn may_precede(self, next: Spot) -> bool
         ensures { result ≡ spec.may_follow self next }
@@ -172,10 +174,10 @@ impl Spot {
     {
         match (self, next) {
             (Begun, Argument) => Begun,
-            (BegunTold, Argument) => BegunTold,
+            (BegunReported, Argument) => BegunReported,
             (_, Argument) => BegunSome,
             (Begun, LastArgument) => Called,
-            (BegunTold, LastArgument) => CalledTold,
+            (BegunReported, LastArgument) => CalledReported,
             (_, LastArgument) => CalledSome,
             (_, next) => next,
         }

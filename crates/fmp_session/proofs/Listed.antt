@@ -16,7 +16,7 @@ pub if_none : {X P Q : Type 0} (o : Option X) → (P → Q) → IfNone o P → I
 if_none None f p = f p
 if_none (Some x) f p = tt
 
--- those behind the first one, as they are taken
+-- those after the first one, as they are taken
 rest_is : {X : Type 0} (x : X) (xs : List X) → take (length (x ∷ xs) - 1) (drop 1 (x ∷ xs)) ≡ xs
 rest_is x xs =
     let count : length (x ∷ xs) - 1 ≡ length xs = omega arith in
@@ -29,7 +29,7 @@ added old v None new is = is
 added old v (Some vs) new is = ap Some (sym (append_assoc old (v ∷ []) vs)) ∙ is
 
 module _ (v : Value) where
-  -- those behind the first one
+  -- those after the first one
   values_next : (ks : List ArgumentKind) (ns : List ℤ) → 1 ≤ length ks → 1 ≤ length ns → value_from (get_or ks 0 (kinds.Object Task)) (get_or ns 0 (pos 0)) ≡ Some v
       → values_from ks ns ≡ option_map (λ vs. v ∷ vs) (values_from (take (length ks - 1) (drop 1 ks)) (take (length ns - 1) (drop 1 ns)))
   values_next [] ns some more is = absurd (omega (arith, some))

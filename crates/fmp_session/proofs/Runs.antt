@@ -26,28 +26,28 @@ last_more m (x ∷ []) e = refl
 last_more m (x ∷ y ∷ es) e = last_more (step numbered m x).0 (y ∷ es) e
 
 -- at boot
-pub is_at_boot : (s : Session) (c : Setup) → s.config ≡ c → Stands s.kernel (booted c) → s.count ≡ 0 → s.is_told ≡ false → IsAt s c []
-is_at_boot s c config stands count told = record { config = config; stands = stands; count = count; told = λ is. absurd (false≢true (sym told ∙ is)) }
+pub is_at_boot : (s : Session) (c : Setup) → s.config ≡ c → Stands s.kernel (booted c) → s.count ≡ 0 → s.is_reported ≡ false → IsAt s c []
+is_at_boot s c config stands count report = record { config = config; stands = stands; count = count; report = λ is. absurd (false≢true (sym report ∙ is)) }
 
--- behind one event more
+-- after one event more
 pub is_at_next : (a b : Session) (c : Setup) (es : List Event) (e : Event) → IsAt a c es → b.config ≡ a.config
-    → ((m : State) → Stands a.kernel m → Stands b.kernel (step numbered m e).0) → ((m : State) → Stands a.kernel m → b.told ≡ (step numbered m e).1)
+    → ((m : State) → Stands a.kernel m → Stands b.kernel (step numbered m e).0) → ((m : State) → Stands a.kernel m → b.report ≡ (step numbered m e).1)
     → b.count ≡ a.count + 1 → IsAt b c (es ++ e ∷ [])
-is_at_next a b c es e at config stands told count = record {
+is_at_next a b c es e at config stands report count = record {
   config = config ∙ at.config;
   stands = rw (replay_more numbered (booted c) es e) (stands _ at.stands);
   count = rw (count, at.count, length-append) refl;
-  told = λ is. last_more (booted c) es e ∙ ap Some (sym (told _ at.stands));
+  report = λ is. last_more (booted c) es e ∙ ap Some (sym (report _ at.stands));
 }
 
 -- as another one is
 pub is_at_copy : (a b : Session) (c : Setup) (es : List Event) → IsAt a c es
-    → b.config ≡ a.config → b.kernel ≡ a.kernel → b.count ≡ a.count → b.is_told ≡ false → IsAt b c es
-is_at_copy a b c es at config kernel count told = record {
+    → b.config ≡ a.config → b.kernel ≡ a.kernel → b.count ≡ a.count → b.is_reported ≡ false → IsAt b c es
+is_at_copy a b c es at config kernel count report = record {
   config = config ∙ at.config;
   stands = rw kernel at.stands;
   count = count ∙ at.count;
-  told = λ is. absurd (false≢true (sym told ∙ is));
+  report = λ is. absurd (false≢true (sym report ∙ is));
 }
 
 abbrev given : Record → Option Record → Record
@@ -55,12 +55,12 @@ given r None = r
 given r (Some x) = x
 
 -- the record that a session keeps
-pub told_is : (r s : Record) → Some r ≡ Some s → r ≡ s
-told_is r s is = ap (given r) is
+pub report_is : (r s : Record) → Some r ≡ Some s → r ≡ s
+report_is r s is = ap (given r) is
 
 -- its line
-pub line_is : (s : Session) (c : Setup) (es : List Event) (r : Record) → IsAt s c es → last_record c es ≡ Some r → s.is_told ≡ true
-    → line_text s.config.names s.count s.told ≡ line_text c.names (length es) r
+pub line_is : (s : Session) (c : Setup) (es : List Event) (r : Record) → IsAt s c es → last_record c es ≡ Some r → s.is_reported ≡ true
+    → line_text s.config.names s.count s.report ≡ line_text c.names (length es) r
 line_is s c es r at last is =
-    ap (λ (x : Setup). line_text x.names s.count s.told) at.config ∙ ap (λ (n : ℕ). line_text c.names n s.told) at.count
-    ∙ ap (line_text c.names (length es)) (told_is s.told r (sym (at.told is) ∙ last))
+    ap (λ (x : Setup). line_text x.names s.count s.report) at.config ∙ ap (λ (n : ℕ). line_text c.names n s.report) at.count
+    ∙ ap (line_text c.names (length es)) (report_is s.report r (sym (at.report is) ∙ last))

@@ -81,7 +81,7 @@ value_from kinds.Pattern n = option_map values.Pattern (bits_from n)
 value_from kinds.Mode n = option_map values.Mode (option_and_then mode_numbered (bits_from n))
 value_from _ n = option_map values.Number (number_from n)
 
--- those of arguments of these kinds. Numbers behind them say nothing
+-- those of arguments of these kinds. Numbers after them say nothing
 abbrev pub values_from : List ArgumentKind → List ℤ → Option (List Value)
 values_from [] numbers = Some []
 values_from (kind ∷ kinds) [] = None

@@ -1,4 +1,4 @@
--- The machine of a configuration behind a list of events.
+-- The machine of a configuration after a list of events.
 use Rattle.std.specs.Prelude.{◌≡◌, ℕ, ◌^◌, ◌-◌, ◌==◌, true, List, [], ◌∷◌, ◌++◌, Option, None, Some, Result, Ok, Err, length, drop, nat_lt, if◌then◌else◌}
 use Rattle.fmp_codes.specs.Records.{processor_of}
 use Rattle.fmp_codes.specs.declared.records.Event.{Event}
@@ -13,7 +13,7 @@ use Rattle.fmp_session.specs.declared.refused.Refused.{Refused}
 use Rattle.fmp_session.specs.declared.refused.Refused.TheVariants as refused
 use Rattle.fmp_session.specs.declared.session.Session.{Session}
 
--- the state of the model behind these events
+-- the state of the model after these events
 abbrev pub state_after : Setup → List Event → State
 state_after config events = replay numbered (booted config) events
 
@@ -31,12 +31,12 @@ last_from m (event ∷ other ∷ events) = last_from (step numbered m event).0 (
 abbrev pub last_record : Setup → List Event → Option Record
 last_record config events = last_from (booted config) events
 
--- A session is the machine of this configuration behind these events. Where it keeps a record, that is the last one's.
+-- A session is the machine of this configuration after these events. Where it keeps a record, that is the last one's.
 pub record IsAt (s : Session) (c : Setup) (events : List Event) : Type 0 where
   pub config : s.config ≡ c
   pub stands : Stands s.kernel (state_after c events)
   pub count : s.count ≡ length events
-  pub told : s.is_told ≡ true → last_record c events ≡ Some s.told
+  pub report : s.is_reported ≡ true → last_record c events ≡ Some s.report
 
 -- the greatest number of events that a session counts
 abbrev pub most_counted : ℕ

@@ -2,7 +2,7 @@
 //!
 //! A [`Session`] is made of a text, answers events, tells the line of the last one and the state, and becomes as another one is.
 //! Events come as values, as lines of text ([`Session::event_in`]), or as numbers ([`event_of`]), in the order of `fmpsim list`.
-//! What it has to be behind each call is `IsAt` in `specs/Sessions`: the machine of a configuration behind a list of events.
+//! What it has to be after each call is `IsAt` in `specs/Sessions`: the machine of a configuration after a list of events.
 #![tactic(auto)]
 
 mod numbers;

@@ -142,7 +142,7 @@ pub fn value_of(kind: ArgumentKind, number: i64) -> Option<Value>
     }
 }
 
-/// Adds the values of arguments of these kinds. Numbers behind them say nothing.
+/// Adds the values of arguments of these kinds. Numbers after them say nothing.
 fn put_values(kinds: &[ArgumentKind], numbers: &[i64], values: &mut Values) -> Option<()>
     requires { array_vec_len values.old + length kinds.now ≤ MOST_ARGUMENTS }
     ensures some { OnSome result (option_map (λ vs. values.old.items ++ vs) (spec.values_from kinds.now numbers.now) ≡ Some values.new.items) }

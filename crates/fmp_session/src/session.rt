@@ -26,16 +26,16 @@ use std::alloc::{AllocError, Global};
 /// The room that a session takes for a line before the first event: no line of a trace has more bytes.
 const LINE_ROOM: usize = 10_394;
 
-/// The machine of a configuration behind some events. It takes its memory when it is made; a step takes none.
+/// The machine of a configuration after some events. It takes its memory when it is made; a step takes none.
 #[derive(Drop)]
 pub struct Session {
     config: Config,
     kernel: Kernel,
     /// How many events it has answered.
     count: u32,
-    /// What the last of them did, where `is_told` says that it was answered here.
-    told: Record,
-    is_told: bool,
+    /// What the last of them did, where `is_reported` says that it was answered here.
+    report: Record,
+    is_reported: bool,
     text: Vec<u8>,
 }
 
@@ -57,15 +57,15 @@ impl Session {
     #[tactic(auto, using(crate::proofs::Runs::is_at_boot))]
     pub fn boot(alloc: Global, config: Config) -> Result<Session, AllocError>
         ensures at { IfOk result (λ s. IsAt s config []) }
-        ensures fresh { IfOk result (λ s. s.is_told ≡ false) }
+        ensures fresh { IfOk result (λ s. s.is_reported ≡ false) }
     {
         let kernel = Kernel::boot(&config)?;
         Ok(Session {
             config,
             kernel,
             count: 0,
-            told: Record::answer(Event::Tick(Proc::new(1)), None, Answer::Nothing),
-            is_told: false,
+            report: Record::answer(Event::Tick(Proc::new(1)), None, Answer::Nothing),
+            is_reported: false,
             text: Vec::with_capacity(alloc, LINE_ROOM)?,
         })
     }
@@ -74,7 +74,7 @@ impl Session {
     pub fn read(alloc: Global, text: &[u8]) -> Result<Session, ConfigFault>
         ensures says { IfOk result (λ s. config_in text.now ≡ Ok s.config) }
         ensures at { IfOk result (λ s. IsAt s s.config []) }
-        ensures fresh { IfOk result (λ s. s.is_told ≡ false) }
+        ensures fresh { IfOk result (λ s. s.is_reported ≡ false) }
         ensures fault { IfErr result (IsFirstFault text.now) }
     {
         let config = read_config(alloc, text)?;
@@ -92,19 +92,23 @@ impl Session {
     }
 
     /// What the last event did, where it was answered here.
-    pub fn told(&self) -> Option<&Record>
-        ensures told { IfSome result (λ r. r.now ≡ self.now.told) }
-        ensures is_told { is_some result ≡ self.now.is_told }
+    pub fn report(&self) -> Option<&Record>
+        ensures report { IfSome result (λ r. r.now ≡ self.now.report) }
+        ensures is_reported { is_some result ≡ self.now.is_reported }
     {
-        if self.is_told { Some(&self.told) } else { None }
+        if self.is_reported {
+            Some(&self.report)
+        } else {
+            None
+        }
     }
 
     /// The end of a wait that the last event brought, at a place from 0.
     pub fn release(&self, place: usize) -> Option<Release>
-        ensures { result ≡ (if self.now.is_told then slice_get self.now.told.releases place else None) }
+        ensures { result ≡ (if self.now.is_reported then slice_get self.now.report.releases place else None) }
     {
-        if self.is_told {
-            self.told.releases.get(place)
+        if self.is_reported {
+            self.report.releases.get(place)
         } else {
             None
         }
@@ -112,10 +116,10 @@ impl Session {
 
     /// The processor that the last event asks, at a place from 0.
     pub fn request(&self, place: usize) -> Option<Proc>
-        ensures { result ≡ (if self.now.is_told then slice_get self.now.told.requests place else None) }
+        ensures { result ≡ (if self.now.is_reported then slice_get self.now.report.requests place else None) }
     {
-        if self.is_told {
-            self.told.requests.as_slice().get(place).copied()
+        if self.is_reported {
+            self.report.requests.as_slice().get(place).copied()
         } else {
             None
         }
@@ -140,8 +144,8 @@ impl Session {
     pub fn step(&mut self, event: Event) -> Result<(), Refused>
         ensures allowed { result ≡ spec.allowed (length self.old.kernel.processors) self.old.count event }
         ensures at { (c : Setup) (es : List AnyEvent) → IsAt self.old c es → OnOk result (IsAt self.new c (es ++ event ∷ [])) }
-        ensures record { (c : Setup) (es : List AnyEvent) → IsAt self.old c es → OnOk result (self.new.told ≡ spec.record_after c es event) }
-        ensures told { OnOk result (self.new.is_told ≡ true) }
+        ensures record { (c : Setup) (es : List AnyEvent) → IsAt self.old c es → OnOk result (self.new.report ≡ spec.record_after c es event) }
+        ensures report { OnOk result (self.new.is_reported ≡ true) }
         ensures same { OnErr result (self.new ≡ self.old) }
     {
         if self.kernel.processors() < usize::from(event.processor().number) {
@@ -150,30 +154,37 @@ impl Session {
         if self.count == u32::MAX {
             return Err(Refused::Full);
         }
-        self.kernel.step_into(event, &mut self.told);
+        self.kernel.step_into(event, &mut self.report);
         self.count += 1;
-        self.is_told = true;
+        self.is_reported = true;
         Ok(())
     }
 
     /// Writes the line of the last event at the beginning of a room, and says how many bytes it has.
     #[tactic(auto, using(crate::proofs::Runs::line_is))]
     pub fn put_line(&mut self, room: &mut [u8]) -> Result<usize, Refused>
-        ensures ok { OnOk result (room.new ≡ spec.written_over (line_text self.old.config.names self.old.count self.old.told) room.old) }
-        ensures length { IfOk result (λ n. n ≡ length (line_text self.old.config.names self.old.count self.old.told)) }
-        ensures small { result ≡ Err Refused.Room → length room.old < length (line_text self.old.config.names self.old.count self.old.told) }
+        ensures ok { OnOk result (room.new ≡ spec.written_over (line_text self.old.config.names self.old.count self.old.report) room.old) }
+        ensures length { IfOk result (λ n. n ≡ length (line_text self.old.config.names self.old.count self.old.report)) }
+        ensures small { result ≡ Err Refused.Room → length room.old < length (line_text self.old.config.names self.old.count self.old.report) }
 
         // The same, of the model.
         ensures model { (c : Setup) (es : List AnyEvent) (r : AnyRecord) → IsAt self.old c es → spec.last_record c es ≡ Some r
             → OnOk result (room.new ≡ spec.written_over (line_text c.names (length es) r) room.old) }
-        ensures told { (result ≡ Err Refused.Nothing) ↔ (self.old.is_told ≡ false) }
+        ensures report { (result ≡ Err Refused.Nothing) ↔ (self.old.is_reported ≡ false) }
         ensures same { OnErr result (room.new ≡ room.old) }
         ensures session { self.new ≡ record self.old { text = self.new.text } }
     {
-        if !self.is_told {
+        if !self.is_reported {
             return Err(Refused::Nothing);
         }
-        if trace_line(self.count, &self.told, self.config.names(), &mut self.text).is_err() {
+        if trace_line(
+            self.count,
+            &self.report,
+            self.config.names(),
+            &mut self.text,
+        )
+        .is_err()
+        {
             return Err(Refused::Memory);
         }
         put(self.text.as_slice(), room)
@@ -202,7 +213,7 @@ impl Session {
     pub fn copy_from(&mut self, other: &Session) -> Result<(), Refused>
         ensures at { (c : Setup) (es : List AnyEvent) → IsAt other.now c es → OnOk result (IsAt self.new c es) }
         ensures ok { OnOk result ((self.new.config ≡ other.now.config) × (self.new.kernel ≡ other.now.kernel) × (self.new.count ≡ other.now.count)) }
-        ensures told { OnOk result (self.new.is_told ≡ false) }
+        ensures report { OnOk result (self.new.is_reported ≡ false) }
         ensures alike { IsOk result ↔ ((self.old.config ≡ other.now.config) × AreAlike self.old.kernel other.now.kernel) }
         ensures error { IfErr result (λ e. e ≡ Refused.Different) }
         ensures same { OnErr result (self.new ≡ self.old) }
@@ -214,7 +225,7 @@ impl Session {
             return Err(Refused::Different);
         }
         self.count = other.count;
-        self.is_told = false;
+        self.is_reported = false;
         Ok(())
     }
 }

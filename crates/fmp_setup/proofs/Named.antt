@@ -53,7 +53,7 @@ with_one-lengths [] place name = refl
 with_one-lengths (l ∷ ls) zero name = ap (λ (n : ℕ). n ∷ map length ls) (length-append l (name ∷ []))
 with_one-lengths (l ∷ ls) (suc place) name = ap (λ (ns : List ℕ). length l ∷ ns) (with_one-lengths ls place name)
 
--- a list that lacks a name lacks it behind another one
+-- a list that lacks a name lacks it after another one
 still_lacks : (list : List (List ℕ)) (name other : List ℕ) → bytes_eq other name ≡ false → has_name list other ≡ false → has_name (list ++ name ∷ []) other ≡ false
 still_lacks list name other differs none = list_any-append (bytes_eq other) list (name ∷ []) ∙ rw (none, differs) refl
 

@@ -10,7 +10,7 @@ use Rattle.fmp_law_lists.specs.Stands.{Stands}
 use Rattle.fmp_show_life.specs.declared.things.Thing.{Thing}
 use Rattle.fmp_show_life.specs.declared.things.Thing.TheVariants as thing
 use Rattle.fmp_show_life.specs.Lines.{thing_line}
-use Rattle.fmp_show_life.specs.Lives.{Seen, renewed, told_since}
+use Rattle.fmp_show_life.specs.Lives.{Seen, renewed, report_since}
 
 module _ (k : World Queues) (m : State) (h : Stands k m) (lists : NameLists) where
   line_alike : (ticks : Bool) (x : Thing) → thing_line lists ticks k x ≡ thing_line lists ticks m x
@@ -23,12 +23,12 @@ module _ (k : World Queues) (m : State) (h : Stands k m) (lists : NameLists) whe
   line_alike ticks (thing.Alarm a) = ap (λ (w : World Queues). thing_line lists ticks w (thing.Alarm a)) h.same
   line_alike ticks (thing.SpinLock l) = ap (λ (w : World Queues). thing_line lists ticks w (thing.SpinLock l)) h.same
 
-  since_alike : (s : Seen) → told_since lists k s ≡ told_since lists m s
+  since_alike : (s : Seen) → report_since lists k s ≡ report_since lists m s
   since_alike s = ap₂ (λ (key line : List ℕ). cond (bytes_eq key s.text) [] line) (line_alike false s.thing) (line_alike true s.thing)
 
-  pub told_alike : (seen : List Seen) → flat_map (told_since lists k) seen ≡ flat_map (told_since lists m) seen
-  told_alike [] = refl
-  told_alike (s ∷ seen) = ap₂ (λ (line rest : List ℕ). line ++ rest) (since_alike s) (told_alike seen)
+  pub report_alike : (seen : List Seen) → flat_map (report_since lists k) seen ≡ flat_map (report_since lists m) seen
+  report_alike [] = refl
+  report_alike (s ∷ seen) = ap₂ (λ (line rest : List ℕ). line ++ rest) (since_alike s) (report_alike seen)
 
   pub renewed_alike : (seen : List Seen) → map (renewed lists k) seen ≡ map (renewed lists m) seen
   renewed_alike [] = refl

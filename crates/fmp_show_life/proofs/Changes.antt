@@ -7,14 +7,14 @@ use Rattle.fmp_names.specs.Names.{NameLists}
 use Rattle.fmp_show_state.specs.Changes.{object_text}
 use Rattle.fmp_show_life.specs.declared.things.Thing.{Thing}
 use Rattle.fmp_show_life.specs.declared.things.Thing.TheVariants as thing
-use Rattle.fmp_show_life.specs.Lines.{handler_told, lock_told, queue_told, task_told, thing_line}
-use Rattle.fmp_show_life.specs.Lives.{Seen, change_of, changes_of, lines_of, renewed, told_since, unseen}
+use Rattle.fmp_show_life.specs.Lines.{handler_reported, lock_reported, queue_reported, task_reported, thing_line}
+use Rattle.fmp_show_life.specs.Lives.{Seen, change_of, changes_of, lines_of, renewed, report_since, unseen}
 
 module _ {P Q : Type 0} (lists : NameLists) (before : World P) (after : World Q) where
   -- what is told since a state is what changed since then
-  pub told_changes : (seen : List Seen) → flat_map (told_since lists after) (map (renewed lists before) seen) ≡ changes_of lists before after (map (λ s. s.thing) seen)
-  told_changes [] = refl
-  told_changes (s ∷ seen) = ap (λ (rest : List ℕ). change_of lists before after s.thing ++ rest) (told_changes seen)
+  pub report_changes : (seen : List Seen) → flat_map (report_since lists after) (map (renewed lists before) seen) ≡ changes_of lists before after (map (λ s. s.thing) seen)
+  report_changes [] = refl
+  report_changes (s ∷ seen) = ap (λ (rest : List ℕ). change_of lists before after s.thing ++ rest) (report_changes seen)
 
   -- only the last state is kept in mind
   pub renewed_again : (seen : List Seen) → map (renewed lists after) (map (renewed lists before) seen) ≡ map (renewed lists after) seen
@@ -24,7 +24,7 @@ module _ {P Q : Type 0} (lists : NameLists) (before : World P) (after : World Q)
 module _ {Q : Type 0} (lists : NameLists) (w : World Q) where
   -- no line is empty
   some_line : (x : Thing) → bytes_eq (thing_line lists false w x) [] ≡ false
-  unfolding task_told queue_told lock_told handler_told object_text
+  unfolding task_reported queue_reported lock_reported handler_reported object_text
   some_line (thing.Task t) = refl
   some_line (thing.Semaphore s) = refl
   some_line (thing.Eventflag f) = refl
@@ -34,13 +34,13 @@ module _ {Q : Type 0} (lists : NameLists) (w : World Q) where
   some_line (thing.Alarm a) = refl
   some_line (thing.SpinLock l) = refl
 
-  told_first : (x : Thing) → told_since lists w (unseen x) ≡ thing_line lists true w x
-  told_first x = rw (some_line x) refl
+  report_first : (x : Thing) → report_since lists w (unseen x) ≡ thing_line lists true w x
+  report_first x = rw (some_line x) refl
 
   -- where nothing was told yet, all is told
-  pub first_told : (xs : List Thing) → flat_map (told_since lists w) (map unseen xs) ≡ lines_of lists w xs
-  first_told [] = refl
-  first_told (x ∷ xs) = ap₂ (λ (line rest : List ℕ). line ++ rest) (told_first x) (first_told xs)
+  pub first_reported : (xs : List Thing) → flat_map (report_since lists w) (map unseen xs) ≡ lines_of lists w xs
+  first_reported [] = refl
+  first_reported (x ∷ xs) = ap₂ (λ (line rest : List ℕ). line ++ rest) (report_first x) (first_reported xs)
 
 pub things_again : (xs : List Thing) → map (λ (s : Seen). s.thing) (map unseen xs) ≡ xs
 things_again [] = refl

@@ -12,13 +12,13 @@ use Rattle.fmp_show_life.specs.Watches.{seen_of}
 use Rattle.fmp_show_life.specs.Things.{before_others, thing_named, things_from}
 
 -- the things so far, before those that are still to come
-abbrev pub behind_these : List Thing → Result (List Thing) ℕ → Result (List Thing) ℕ
-behind_these xs (Ok ys) = Ok (xs ++ ys)
-behind_these xs (Err i) = Err i
+abbrev pub after_these : List Thing → Result (List Thing) ℕ → Result (List Thing) ℕ
+after_these xs (Ok ys) = Ok (xs ++ ys)
+after_these xs (Err i) = Err i
 
-behind_one : (xs : List Thing) (x : Thing) (i : ℕ) (r : Result (List Thing) ℕ) → behind_these xs (before_others (Some x) i r) ≡ behind_these (xs ++ x ∷ []) r
-behind_one xs x i (Ok ys) = ap Ok (sym (append_assoc xs (x ∷ []) ys))
-behind_one xs x i (Err j) = refl
+after_one : (xs : List Thing) (x : Thing) (i : ℕ) (r : Result (List Thing) ℕ) → after_these xs (before_others (Some x) i r) ≡ after_these (xs ++ x ∷ []) r
+after_one xs x i (Ok ys) = ap Ok (sym (append_assoc xs (x ∷ []) ys))
+after_one xs x i (Err j) = refl
 
 module _ (lists : NameLists) (i : ℕ) (text : List ℕ) where
   cut_one : (found : Option Thing) → found ≡ thing_named lists (cut_at 44 text).0
@@ -27,15 +27,15 @@ module _ (lists : NameLists) (i : ℕ) (text : List ℕ) where
 
   -- the first name of what is left names this thing
   pub one_more : (xs : List Thing) (x : Thing) (all : Result (List Thing) ℕ) → Some x ≡ thing_named lists (cut_at 44 text).0
-      → behind_these xs (things_from lists i (pieces_of 44 text)) ≡ all
-      → behind_these (xs ++ x ∷ []) (things_from lists (i + 1) (pieces_left 44 (cut_at 44 text).1)) ≡ all
+      → after_these xs (things_from lists i (pieces_of 44 text)) ≡ all
+      → after_these (xs ++ x ∷ []) (things_from lists (i + 1) (pieces_left 44 (cut_at 44 text).1)) ≡ all
   one_more xs x all is before =
-      sym (behind_one xs x i (things_from lists (i + 1) (pieces_left 44 (cut_at 44 text).1))) ∙ (ap (behind_these xs) (sym (cut_one (Some x) is)) ∙ before)
+      sym (after_one xs x i (things_from lists (i + 1) (pieces_left 44 (cut_at 44 text).1))) ∙ (ap (after_these xs) (sym (cut_one (Some x) is)) ∙ before)
 
   -- or it names nothing
   pub none_there : (xs : List Thing) (all : Result (List Thing) ℕ) → None ≡ thing_named lists (cut_at 44 text).0
-      → behind_these xs (things_from lists i (pieces_of 44 text)) ≡ all → all ≡ Err i
-  none_there xs all is before = sym before ∙ ap (behind_these xs) (cut_one None is)
+      → after_these xs (things_from lists i (pieces_of 44 text)) ≡ all → all ≡ Err i
+  none_there xs all is before = sym before ∙ ap (after_these xs) (cut_one None is)
 
 -- one thing more is watched, of which nothing was told yet
 pub watch_more : (old new : List Watched) (x : Watched) (t : Thing) → new ≡ old ++ x ∷ [] → seen_of x ≡ unseen t → map seen_of old ≡ map unseen (map (λ (y : Watched). y.thing) old)

@@ -6,7 +6,7 @@ use Rattle.std.proofs.lemmas.Grind.{drop_more_same}
 use Rattle.fmp_rules.specs.World.{World}
 use Rattle.fmp_names.specs.Names.{NameLists}
 use Rattle.fmp_show_life.specs.declared.life.Watched.{Watched}
-use Rattle.fmp_show_life.specs.Lives.{Seen, renewed, told_since}
+use Rattle.fmp_show_life.specs.Lives.{Seen, renewed, report_since}
 use Rattle.fmp_show_life.specs.Watches.{seen_of}
 
 module _ {Q : Type 0} (lists : NameLists) (w : World Q) (all first : List Watched) (i : ℕ) (d : Watched) (lt : i < length all) (lt_first : i < length first) where
@@ -19,14 +19,14 @@ module _ {Q : Type 0} (lists : NameLists) (w : World Q) (all first : List Watche
   pub rest_same : (x : Watched) → drop i all ≡ drop i first → drop (i + 1) (set all i x) ≡ drop (i + 1) first
   rest_same x same = drop-set-lt (i + 1) all i x (omega arith) ∙ drop_more_same all first i same
 
-  pub one_told : (out new whole : List ℕ) → drop i all ≡ drop i first → new ≡ out ++ told_since lists w (seen_of (get_or all i d))
-      → out ++ flat_map (told_since lists w) (map seen_of (drop i first)) ≡ whole
-      → new ++ flat_map (told_since lists w) (map seen_of (drop (i + 1) first)) ≡ whole
-  one_told out new whole same written before =
-      let rest = flat_map (told_since lists w) (map seen_of (drop (i + 1) first)) in
-      let line = told_since lists w (seen_of (get_or first i d)) in
-      ap (λ (bytes : List ℕ). bytes ++ rest) (written ∙ ap (λ (x : Watched). out ++ told_since lists w (seen_of x)) (same_here same))
-      ∙ (append_assoc out line rest ∙ (ap (λ (xs : List Watched). out ++ flat_map (told_since lists w) (map seen_of xs)) (sym (drop_more first i d lt_first)) ∙ before))
+  pub one_reported : (out new whole : List ℕ) → drop i all ≡ drop i first → new ≡ out ++ report_since lists w (seen_of (get_or all i d))
+      → out ++ flat_map (report_since lists w) (map seen_of (drop i first)) ≡ whole
+      → new ++ flat_map (report_since lists w) (map seen_of (drop (i + 1) first)) ≡ whole
+  one_reported out new whole same written before =
+      let rest = flat_map (report_since lists w) (map seen_of (drop (i + 1) first)) in
+      let line = report_since lists w (seen_of (get_or first i d)) in
+      ap (λ (bytes : List ℕ). bytes ++ rest) (written ∙ ap (λ (x : Watched). out ++ report_since lists w (seen_of x)) (same_here same))
+      ∙ (append_assoc out line rest ∙ (ap (λ (xs : List Watched). out ++ flat_map (report_since lists w) (map seen_of xs)) (sym (drop_more first i d lt_first)) ∙ before))
 
   pub one_seen : (x : Watched) → drop i all ≡ drop i first → seen_of x ≡ renewed lists w (seen_of (get_or all i d))
       → map seen_of (take i all) ≡ map (renewed lists w) (map seen_of (take i first))

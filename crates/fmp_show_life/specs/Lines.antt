@@ -25,11 +25,11 @@ abbrev pub left_by : Bool → Option ℕ → Option ℕ
 left_by true left = left
 left_by false left = option_map (λ n. 0) left
 
--- a processor behind its word
+-- a processor after its word
 abbrev pub on_text : List ℕ → Proc → List ℕ
 on_text word p = word ++ decimal p.number
 
--- that a task runs, is ready or is dormant, and where it runs or is ready. Of one that waits or is suspended that is told behind it
+-- that a task runs, is ready or is dormant, and where it runs or is ready. Of one that waits or is suspended that is told after it
 abbrev pub doing_text : Bool → TaskRecord → List ℕ
 doing_text runs x =
     if runs then on_text (codes " running P") x.assigned
@@ -44,28 +44,28 @@ counts_text x = if x.active then numbers_text x else []
 unfoldable pub rest_text : NameLists → TaskRecord → Option ℕ → List ℕ
 rest_text lists x left = flag_text x.suspended (codes " suspended") ++ waiting_text lists x.wait ++ left_text left ++ counts_text x
 
-unfoldable pub task_told : NameLists → Task → Bool → TaskRecord → Option ℕ → List ℕ
-task_told lists t runs x left = codes "  " ++ task_text lists t ++ doing_text runs x ++ rest_text lists x left ++ codes "\n"
+unfoldable pub task_reported : NameLists → Task → Bool → TaskRecord → Option ℕ → List ℕ
+task_reported lists t runs x left = codes "  " ++ task_text lists t ++ doing_text runs x ++ rest_text lists x left ++ codes "\n"
 
 -- a data queue without values is empty
 abbrev pub contents_text : List ℤ → List ℕ
 contents_text [] = codes " empty"
 contents_text (v ∷ vs) = values_from 0 (v ∷ vs)
 
-unfoldable pub queue_told : NameLists → Object → List ℤ → List ℕ
-queue_told lists d vs = codes "  " ++ named lists objects.DataQueue d.number ++ contents_text vs ++ codes "\n"
+unfoldable pub queue_reported : NameLists → Object → List ℤ → List ℕ
+queue_reported lists d vs = codes "  " ++ named lists objects.DataQueue d.number ++ contents_text vs ++ codes "\n"
 
 -- the processor that holds a spin lock, or that it is free
 abbrev pub holder_text : Option Proc → List ℕ
 holder_text None = codes " free"
 holder_text (Some p) = on_text (codes " held=P") p
 
-unfoldable pub lock_told : NameLists → Object → Option Proc → List ℕ
-lock_told lists l p = codes "  " ++ named lists objects.SpinLock l.number ++ holder_text p ++ codes "\n"
+unfoldable pub lock_reported : NameLists → Object → Option Proc → List ℕ
+lock_reported lists l p = codes "  " ++ named lists objects.SpinLock l.number ++ holder_text p ++ codes "\n"
 
 -- a handler with its ticks left, or that it is stopped, and that it is due
-unfoldable pub handler_told : NameLists → ObjectKind → Object → Option ℕ → Bool → List ℕ
-handler_told lists kind o left due = codes "  " ++ named lists kind o.number ++ ticks_text left ++ flag_text due (codes " due") ++ codes "\n"
+unfoldable pub handler_reported : NameLists → ObjectKind → Object → Option ℕ → Bool → List ℕ
+handler_reported lists kind o left due = codes "  " ++ named lists kind o.number ++ ticks_text left ++ flag_text due (codes " due") ++ codes "\n"
 
 -- these are the same handler
 abbrev pub is_handler : Runner → Runner → Bool
@@ -87,11 +87,11 @@ runs w t = is_running (processor w (task w t).assigned).running t
 
 -- the line of a thing, with the ticks that it has left or without how many they are
 abbrev pub thing_line : {Q : Type 0} → NameLists → Bool → World Q → Thing → List ℕ
-thing_line lists ticks w (thing.Task t) = task_told lists t (runs w t) (task w t) (left_by ticks (item None w.waits_left t.number))
+thing_line lists ticks w (thing.Task t) = task_reported lists t (runs w t) (task w t) (left_by ticks (item None w.waits_left t.number))
 thing_line lists ticks w (thing.Semaphore s) = object_text lists objects.Semaphore s (codes " count=") (semaphore w s).count
 thing_line lists ticks w (thing.Eventflag f) = object_text lists objects.Eventflag f (codes " pattern=") (eventflag w f).pattern
-thing_line lists ticks w (thing.DataQueue d) = queue_told lists d (values w d)
+thing_line lists ticks w (thing.DataQueue d) = queue_reported lists d (values w d)
 thing_line lists ticks w (thing.Pool m) = object_text lists objects.Pool m (codes " free=") (free_blocks (pool w m))
-thing_line lists ticks w (thing.Cyclic c) = handler_told lists objects.Cyclic c (left_by ticks (item None w.cyclics_left c.number)) (is_due w (runner.Cyclic c))
-thing_line lists ticks w (thing.Alarm a) = handler_told lists objects.Alarm a (left_by ticks (item None w.alarms_left a.number)) (is_due w (runner.Alarm a))
-thing_line lists ticks w (thing.SpinLock l) = lock_told lists l (holder w l)
+thing_line lists ticks w (thing.Cyclic c) = handler_reported lists objects.Cyclic c (left_by ticks (item None w.cyclics_left c.number)) (is_due w (runner.Cyclic c))
+thing_line lists ticks w (thing.Alarm a) = handler_reported lists objects.Alarm a (left_by ticks (item None w.alarms_left a.number)) (is_due w (runner.Alarm a))
+thing_line lists ticks w (thing.SpinLock l) = lock_reported lists l (holder w l)

@@ -25,14 +25,14 @@ module _ {Q : Type 0} (lists : NameLists) (w : World Q) where
   renewed s = seen_in s.thing
 
   -- its line, where something else is told of it now
-  abbrev pub told_since : Seen → List ℕ
-  told_since s = if bytes_eq (thing_line lists false w s.thing) s.text then [] else thing_line lists true w s.thing
+  abbrev pub report_since : Seen → List ℕ
+  report_since s = if bytes_eq (thing_line lists false w s.thing) s.text then [] else thing_line lists true w s.thing
 
 -- what is told of these things
 abbrev pub lines_of : {Q : Type 0} → NameLists → World Q → List Thing → List ℕ
 lines_of lists w xs = flat_map (thing_line lists true w) xs
 
--- the line of a thing behind a change, where what is told of it changed by more than ticks that count down
+-- the line of a thing after a change, where what is told of it changed by more than ticks that count down
 abbrev pub change_of : {P Q : Type 0} → NameLists → World P → World Q → Thing → List ℕ
 change_of lists before after x =
     if bytes_eq (thing_line lists false after x) (thing_line lists false before x) then [] else thing_line lists true after x

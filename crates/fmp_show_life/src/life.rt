@@ -59,7 +59,7 @@ fn put_change(
     names: &Names,
     kernel: &Kernel,
 ) -> Result<(), AllocError>
-    ensures told { OnOk result (out.new.items ≡ out.old.items ++ spec.told_since names.now kernel.now (seen_of watched.old)) }
+    ensures report { OnOk result (out.new.items ≡ out.old.items ++ spec.report_since names.now kernel.now (seen_of watched.old)) }
     ensures seen { OnOk result (seen_of watched.new ≡ spec.renewed names.now kernel.now (seen_of watched.old)) }
 {
     fresh.clear();
@@ -79,7 +79,7 @@ fn put_all(
     names: &Names,
     kernel: &Kernel,
 ) -> Result<(), AllocError>
-    ensures told { OnOk result (out.new.items ≡ out.old.items ++ flat_map (spec.told_since names.now kernel.now) (map seen_of all.old)) }
+    ensures report { OnOk result (out.new.items ≡ out.old.items ++ flat_map (spec.report_since names.now kernel.now) (map seen_of all.old)) }
     ensures seen { OnOk result (map seen_of all.new ≡ map (spec.renewed names.now kernel.now) (map seen_of all.old)) }
 {
     for watched in all.iter_mut() {
@@ -106,7 +106,7 @@ impl Life {
         names: &Names,
         kernel: &Kernel,
     ) -> Result<(), AllocError>
-        ensures told { OnOk result (out.new.items ≡ out.old.items ++ flat_map (spec.told_since names.now kernel.now) self.old) }
+        ensures report { OnOk result (out.new.items ≡ out.old.items ++ flat_map (spec.report_since names.now kernel.now) self.old) }
         ensures seen { OnOk result (self.new ≡ map (spec.renewed names.now kernel.now) self.old) }
     {
         put_all(
@@ -127,9 +127,9 @@ impl Life {
         names: &Names,
         kernel: &Kernel,
     ) -> Result<(), AllocError>
-        ensures lists { OnOk result (out.new.items ≡ out.old.items ++ flat_map (spec.told_since names.now kernel.now) self.old) }
+        ensures lists { OnOk result (out.new.items ≡ out.old.items ++ flat_map (spec.report_since names.now kernel.now) self.old) }
         ensures seen { OnOk result (self.new ≡ map (spec.renewed names.now kernel.now) self.old) }
-        ensures model { (m : State) → Stands kernel.now m → OnOk result (out.new.items ≡ out.old.items ++ flat_map (spec.told_since names.now m) self.old) }
+        ensures model { (m : State) → Stands kernel.now m → OnOk result (out.new.items ≡ out.old.items ++ flat_map (spec.report_since names.now m) self.old) }
         ensures seen_model { (m : State) → Stands kernel.now m → OnOk result (self.new ≡ map (spec.renewed names.now m) self.old) }
     {
         self.put_lists(out, names, kernel)

@@ -44,7 +44,7 @@ fn is_runnable(task: &TaskRecord) -> bool
     task.active && !task.wait.is_some() && !task.suspended
 }
 
-/// Adds a processor behind its word.
+/// Adds a processor after its word.
 fn put_processor(out: &mut Vec<u8>, word: &[u8], p: Proc) -> Result<(), AllocError>
     ensures { OnOk result (out.new.items ≡ out.old.items ++ spec.on_text word.now p) }
 {
@@ -92,7 +92,7 @@ fn put_rest(
 }
 
 /// Adds the line of a task.
-#[tactic(auto, unfolding(crate::specs::Lines::task_told))]
+#[tactic(auto, unfolding(crate::specs::Lines::task_reported))]
 fn put_task_line(
     out: &mut Vec<u8>,
     names: &Names,
@@ -101,7 +101,7 @@ fn put_task_line(
     task: &TaskRecord,
     left: Option<u64>,
 ) -> Result<(), AllocError>
-    ensures { OnOk result (out.new.items ≡ out.old.items ++ spec.task_told names.now t runs task.now left) }
+    ensures { OnOk result (out.new.items ≡ out.old.items ++ spec.task_reported names.now t runs task.now left) }
 {
     out.extend_from_slice(b"  ")?;
     put_task(out, names, t)?;
@@ -122,9 +122,9 @@ fn put_contents(out: &mut Vec<u8>, kernel: &Kernel, d: Object) -> Result<(), All
 }
 
 /// Adds the line of a data queue.
-#[tactic(auto, unfolding(crate::specs::Lines::queue_told))]
+#[tactic(auto, unfolding(crate::specs::Lines::queue_reported))]
 fn put_queue(out: &mut Vec<u8>, names: &Names, kernel: &Kernel, d: Object) -> Result<(), AllocError>
-    ensures { OnOk result (out.new.items ≡ out.old.items ++ spec.queue_told names.now d (values kernel.now d)) }
+    ensures { OnOk result (out.new.items ≡ out.old.items ++ spec.queue_reported names.now d (values kernel.now d)) }
 {
     out.extend_from_slice(b"  ")?;
     put_named(out, names, ObjectKind::DataQueue, usize::from(d.number))?;
@@ -144,14 +144,14 @@ fn put_holder(out: &mut Vec<u8>, holder: Option<Proc>) -> Result<(), AllocError>
 }
 
 /// Adds the line of a spin lock.
-#[tactic(auto, unfolding(crate::specs::Lines::lock_told))]
+#[tactic(auto, unfolding(crate::specs::Lines::lock_reported))]
 fn put_lock(
     out: &mut Vec<u8>,
     names: &Names,
     l: Object,
     holder: Option<Proc>,
 ) -> Result<(), AllocError>
-    ensures { OnOk result (out.new.items ≡ out.old.items ++ spec.lock_told names.now l holder) }
+    ensures { OnOk result (out.new.items ≡ out.old.items ++ spec.lock_reported names.now l holder) }
 {
     out.extend_from_slice(b"  ")?;
     put_named(out, names, ObjectKind::SpinLock, usize::from(l.number))?;
@@ -161,7 +161,7 @@ fn put_lock(
 }
 
 /// Adds the line of a handler: its ticks left or that it is stopped, and that it is due.
-#[tactic(auto, unfolding(crate::specs::Lines::handler_told))]
+#[tactic(auto, unfolding(crate::specs::Lines::handler_reported))]
 fn put_handler(
     out: &mut Vec<u8>,
     names: &Names,
@@ -170,7 +170,7 @@ fn put_handler(
     left: Option<u64>,
     due: bool,
 ) -> Result<(), AllocError>
-    ensures { OnOk result (out.new.items ≡ out.old.items ++ spec.handler_told names.now kind handler left due) }
+    ensures { OnOk result (out.new.items ≡ out.old.items ++ spec.handler_reported names.now kind handler left due) }
 {
     out.extend_from_slice(b"  ")?;
     put_named(out, names, kind, usize::from(handler.number))?;

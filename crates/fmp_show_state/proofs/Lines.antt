@@ -32,6 +32,6 @@ pub value_added : (vs : List ℤ) (i : ℕ) (v : Option ℤ) (out new all : List
     → new ≡ out ++ value_text i v → new ++ values_from (i + 1) (drop (i + 1) vs) ≡ all
 value_added vs i v out new all h is before written =
     let rest = values_from (i + 1) (drop (i + 1) vs) in
-    let told : v ≡ Some (get_or vs i (pos 0)) = is ∙ slice_get-get_or vs i (pos 0) h in
-    ap (λ (xs : List ℕ). xs ++ rest) (written ∙ ap (λ (x : Option ℤ). out ++ value_text i x) told)
+    let report : v ≡ Some (get_or vs i (pos 0)) = is ∙ slice_get-get_or vs i (pos 0) h in
+    ap (λ (xs : List ℕ). xs ++ rest) (written ∙ ap (λ (x : Option ℤ). out ++ value_text i x) report)
     ∙ append_assoc out (value_text i (Some (get_or vs i (pos 0)))) rest ∙ ap (λ (xs : List ℕ). out ++ xs) (sym (value_more vs i h)) ∙ before

@@ -35,10 +35,10 @@ module _ {Q : Type 0} (w : World Q) where
   no_wait_yet lists old = sym (ap (λ xs. old ++ xs) (waits_none lists) ∙ append-nil old)
 
   -- what was written, and what is told of one task more
-  pub wait_told : (lists : NameLists) (n : ℕ) (t : Task) (x : TaskRecord) (left : Option ℕ) (old between new : List ℕ)
+  pub wait_reported : (lists : NameLists) (n : ℕ) (t : Task) (x : TaskRecord) (left : Option ℕ) (old between new : List ℕ)
       → t ≡ as_task (n + 1) → x ≡ task w t → left ≡ item None w.waits_left t.number
       → between ≡ old ++ waits_text lists w n → new ≡ between ++ wait_line lists t x left → new ≡ old ++ waits_text lists w (n + 1)
-  wait_told lists n t x left old between new number record_is left_is before line =
+  wait_reported lists n t x left old between new number record_is left_is before line =
       let same : wait_line lists t x left ≡ wait_line lists (as_task (n + 1)) (task w (as_task (n + 1))) (item None w.waits_left (as_task (n + 1)).number) =
       rw (record_is, left_is, number) refl in
       line ∙ ap₂ ◌++◌ before same ∙ append_assoc old _ _ ∙ ap (λ xs. old ++ xs) (sym (waits_more lists n))
@@ -62,23 +62,23 @@ front_empty : (xs ys : List ℕ) → xs ++ ys ≡ [] → xs ≡ []
 front_empty [] ys none = refl
 front_empty (x ∷ xs) ys none = cc
 
-behind_empty : (xs ys : List ℕ) → xs ++ ys ≡ [] → ys ≡ []
-behind_empty [] ys none = none
-behind_empty (x ∷ xs) ys none = cc
+after_empty : (xs ys : List ℕ) → xs ++ ys ≡ [] → ys ≡ []
+after_empty [] ys none = none
+after_empty (x ∷ xs) ys none = cc
 
 -- what is told of a task has a line feed at least
 words_some : (lists : NameLists) (t : Task) (x : TaskRecord) (left : Option ℕ) → task_words lists t x left ≢ []
 unfolding task_words
 words_some lists t x left none =
-    let told = task_text lists t ++ flag_text x.suspended (codes " suspended") ++ waiting_text lists x.wait ++ left_text left ++ numbers_text x in
-    let feed : codes "\n" ≡ [] = behind_empty told (codes "\n") none in
+    let report = task_text lists t ++ flag_text x.suspended (codes " suspended") ++ waiting_text lists x.wait ++ left_text left ++ numbers_text x in
+    let feed : codes "\n" ≡ [] = after_empty report (codes "\n") none in
     cc
 
 no_line : (lists : NameLists) (t : Task) (x : TaskRecord) (left : Option ℕ) (o : Option Wait) → x.wait ≡ o → wait_line lists t x left ≡ [] → x.wait ≡ None
 no_line lists t x left None is none = is
 no_line lists t x left (Some w) is none =
-    let told : wait_line lists t x left ≡ task_words lists t x left = ap (λ (o : Option Wait). if is_some o then task_words lists t x left else []) is in
-    absurd (words_some lists t x left (sym told ∙ none))
+    let report : wait_line lists t x left ≡ task_words lists t x left = ap (λ (o : Option Wait). if is_some o then task_words lists t x left else []) is in
+    absurd (words_some lists t x left (sym report ∙ none))
 
 line_of_none : (lists : NameLists) (t : Task) (x : TaskRecord) (left : Option ℕ) → x.wait ≡ None → wait_line lists t x left ≡ []
 line_of_none lists t x left is = ap (λ (o : Option Wait). if is_some o then task_words lists t x left else []) is
@@ -92,7 +92,7 @@ module _ {Q : Type 0} (w : World Q) (lists : NameLists) where
         | inl less ↦ none_to n (front_empty _ _ parts) k less
         | inr past ↦
             let last : suc n ≡ k + 1 = omega arith in
-            let here = no_line lists (as_task (suc n)) (task w (as_task (suc n))) (item None w.waits_left (as_task (suc n)).number) _ refl (behind_empty _ _ parts) in
+            let here = no_line lists (as_task (suc n)) (task w (as_task (suc n))) (item None w.waits_left (as_task (suc n)).number) _ refl (after_empty _ _ parts) in
             rw (← last) here
       ]
 

@@ -21,9 +21,9 @@ use Rattle.fmp_rules.specs.Objects.{blank_eventflag, blank_pool, blank_semaphore
 use Rattle.fmp_rules.specs.World.{World, item}
 use Rattle.fmp_trace.specs.Values.{named}
 
--- a number behind its word, where it is told
+-- a number after its word, where it is told
 abbrev pub number_text : Bool → List ℕ → ℕ → List ℕ
-number_text told word n = if told then word ++ decimal n else []
+number_text report word n = if report then word ++ decimal n else []
 
 -- a task has another priority than the configuration gives it
 abbrev pub has_moved : TaskRecord → Bool
@@ -42,7 +42,7 @@ numbers_text x =
 abbrev pub has_changed : TaskRecord → Bool
 has_changed x = x.active && (has_moved x || is_queued x.activations || is_queued x.wakeups)
 
--- an object, and a number behind its word
+-- an object, and a number after its word
 unfoldable pub object_text : NameLists → ObjectKind → Object → List ℕ → ℕ → List ℕ
 object_text lists kind o word n = codes "  " ++ named lists kind o.number ++ word ++ decimal n ++ codes "\n"
 

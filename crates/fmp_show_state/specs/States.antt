@@ -112,15 +112,15 @@ task_words lists t x left =
     task_text lists t ++ flag_text x.suspended (codes " suspended") ++ waiting_text lists x.wait ++ left_text left ++ numbers_text x ++ codes "\n"
 
 -- the line of a task of which something is told
-unfoldable pub told_text : NameLists → Task → TaskRecord → Option ℕ → List ℕ
-told_text lists t x left = codes "  " ++ task_words lists t x left
+unfoldable pub report_text : NameLists → Task → TaskRecord → Option ℕ → List ℕ
+report_text lists t x left = codes "  " ++ task_words lists t x left
 
 -- a task that neither waits nor is suspended, and of which nothing else is another than at boot, has no line
-abbrev pub is_told : TaskRecord → Bool
-is_told x = is_some x.wait || x.suspended || has_changed x
+abbrev pub is_reported : TaskRecord → Bool
+is_reported x = is_some x.wait || x.suspended || has_changed x
 
 abbrev pub task_line : NameLists → Task → TaskRecord → Option ℕ → List ℕ
-task_line lists t x left = if is_told x then told_text lists t x left else []
+task_line lists t x left = if is_reported x then report_text lists t x left else []
 
 -- the lines of the first n tasks
 unfoldable pub tasks_text : {Q : Type 0} → NameLists → World Q → ℕ → List ℕ

@@ -12,7 +12,7 @@ use fmp_rules::{Eventflag, Pool, Semaphore};
 use fmp_trace::{put_named, put_number, put_signed};
 use std::alloc::AllocError;
 
-/// Adds the line of an object, with a number behind its word.
+/// Adds the line of an object, with a number after its word.
 #[tactic(auto, unfolding(crate::specs::Changes::object_text))]
 pub fn put_object(
     out: &mut Vec<u8>,
@@ -75,7 +75,7 @@ fn put_value_lead(out: &mut Vec<u8>, index: usize) -> Result<(), AllocError>
     }
 }
 
-/// Adds the value at an index behind what stands before it, where there is one.
+/// Adds the value at an index after what stands before it, where there is one.
 fn put_value(out: &mut Vec<u8>, index: usize, value: Option<i64>) -> Result<(), AllocError>
     ensures { OnOk result (out.new.items ≡ out.old.items ++ spec.value_text index value) }
 {

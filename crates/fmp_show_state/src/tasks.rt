@@ -80,17 +80,17 @@ fn has_changed(task: &TaskRecord) -> bool
 }
 
 /// Whether there is something to be told of a task.
-fn is_told(task: &TaskRecord) -> bool
-    ensures { result ≡ spec.is_told task.now }
+fn is_reported(task: &TaskRecord) -> bool
+    ensures { result ≡ spec.is_reported task.now }
 {
     task.wait.is_some() || task.suspended || has_changed(task)
 }
 
-/// Adds a number behind its word, where it is told.
-fn put_told(out: &mut Vec<u8>, told: bool, word: &[u8], number: u64) -> Result<(), AllocError>
-    ensures { OnOk result (out.new.items ≡ out.old.items ++ changes.number_text told word.now number) }
+/// Adds a number after its word, where it is told.
+fn put_reported(out: &mut Vec<u8>, report: bool, word: &[u8], number: u64) -> Result<(), AllocError>
+    ensures { OnOk result (out.new.items ≡ out.old.items ++ changes.number_text report word.now number) }
 {
-    if told {
+    if report {
         out.extend_from_slice(word)?;
         put_number(out, number)?;
     }
@@ -105,9 +105,9 @@ pub fn put_numbers(out: &mut Vec<u8>, task: &TaskRecord) -> Result<(), AllocErro
     let priority = u64::from(task.priority.number);
     let activations = u64::from(task.activations);
     let wakeups = u64::from(task.wakeups);
-    put_told(out, has_moved(task), b" pri=", priority)?;
-    put_told(out, activations != 0, b" act=", activations)?;
-    put_told(out, wakeups != 0, b" wup=", wakeups)
+    put_reported(out, has_moved(task), b" pri=", priority)?;
+    put_reported(out, activations != 0, b" act=", activations)?;
+    put_reported(out, wakeups != 0, b" wup=", wakeups)
 }
 
 /// Adds a task, what is told of it, and a line feed.
@@ -131,7 +131,7 @@ pub(crate) fn put_task_words(
 }
 
 /// Adds the line of a task of which something is told.
-#[tactic(auto, unfolding(crate::specs::States::told_text))]
+#[tactic(auto, unfolding(crate::specs::States::report_text))]
 fn put_task_line(
     out: &mut Vec<u8>,
     names: &Names,
@@ -139,7 +139,7 @@ fn put_task_line(
     task: &TaskRecord,
     left: Option<u64>,
 ) -> Result<(), AllocError>
-    ensures { OnOk result (out.new.items ≡ out.old.items ++ spec.told_text names.now t task.now left) }
+    ensures { OnOk result (out.new.items ≡ out.old.items ++ spec.report_text names.now t task.now left) }
 {
     out.extend_from_slice(b"  ")?;
     put_task_words(out, names, t, task, left)
@@ -155,7 +155,7 @@ fn put_line(
 ) -> Result<(), AllocError>
     ensures { OnOk result (out.new.items ≡ out.old.items ++ spec.task_line names.now t task.now left) }
 {
-    if is_told(task) {
+    if is_reported(task) {
         put_task_line(out, names, t, task, left)?;
     }
     Ok(())

@@ -21,14 +21,14 @@ use Rattle.fmp_smp.specs.declared.seeded.Mover.{Mover}
 use Rattle.fmp_smp.specs.declared.seeded.Mover.TheVariants.{Cpu, Clock}
 use Rattle.fmp_smp.specs.Rounds.{Rounds, first_ticked, ticked, rounds_of, is_over, next_of, after_record, ticks_taken}
 use Rattle.fmp_smp.specs.Seeds.{state_at, number_at, cpu_of, cpus_of, movers, drawn, event_of, event_drawn, IsInOrderOf, CanMove, Moves, Goes, GoesOn}
-use Rattle.fmp_smp.proofs.Moving.{choice_own, told_event, order_more}
+use Rattle.fmp_smp.proofs.Moving.{choice_own, report_event, order_more}
 use Rattle.fmp_smp.proofs.Shares.{share}
 use Rattle.fmp_smp_histories.specs.Counted as history
 use Rattle.fmp_smp_histories.specs.Counted.{taken}
 use Rattle.fmp_smp_histories.specs.Histories.{state_after, IsRunOf}
 use Rattle.fmp_smp_histories.specs.Positions.{is_tick_of}
 use Rattle.fmp_smp_histories.specs.Scripted.{choice}
-use Rattle.fmp_world.specs.Turns.{opening, told_after}
+use Rattle.fmp_world.specs.Turns.{opening, report_after}
 use Rattle.fmp_world.specs.Views.{History}
 use Rattle.fmp_smp_histories.proofs.Histories.{run_more}
 use Rattle.fmp_world.proofs.Receipts.{taken_more}
@@ -104,8 +104,8 @@ counts_of r e made same (inr tick) =
       | inr held ↦ inl (rw is held, λ n. rw is (and_right ((next_of r).number == n) (is_taken made.answer) held))
     ]
 
-counts : (w : History) (r : Rounds) (e : Event) → IsMade r e → Counts r (told_after w e)
-counts w r e made = counts_of r e (told_after w e) (told_event w e) made
+counts : (w : History) (r : Rounds) (e : Event) → IsMade r e → Counts r (report_after w e)
+counts w r e made = counts_of r e (report_after w e) (report_event w e) made
 
 -- ---- between two records
 
@@ -190,8 +190,8 @@ unfolding state_at number_at
 after_move seed ticks w x m w' r' x' valid so draws moves next =
     let r = rounds_of w.config ticks (ticks_taken w.records) in
     let e = moves.event in
-    let made = told_after w e in
-    let is : made.event ≡ e = told_event w e in
+    let made = report_after w e in
+    let is : made.event ≡ e = report_event w e in
     let can : CanMove w r m = drawn_can w r (mix_u64 x).0 m (next_so w r seed ticks x valid so) draws in
     let by = made_by w r m e can moves.does in
     let on = counts_on w.config ticks w.records made (refl, so.given, so.shares) (counts w r e by.1) in
@@ -244,7 +244,7 @@ carries seed ticks w r x true w' r' x' is valid so goes =
       scripted = ap (λ (v : History). v.scripts) moves.history;
       turns = ap (λ (v : History). v.turns) moves.history;
       room = moves.room;
-      longer = ap (λ (v : History). length v.records) moves.history ∙ length_more w.records (told_after w moves.event);
+      longer = ap (λ (v : History). length v.records) moves.history ∙ length_more w.records (report_after w moves.event);
       follows = follows_on seed ticks w r x goes.0 w' r' x' valid so goes.1 moves goes.3;
     }
 carries seed ticks w r x false w' r' x' is valid so goes = cc

@@ -21,7 +21,7 @@ set_same xs i x y same at = ap (set xs i) (same ∙ at) ∙ set-get_or xs i x
 module _ (w : History) (r : Rounds) (cpus : List Seat) (clock : ClockSeat) (seated : AreSeated w cpus clock) where
   pub tick_goes : (t : Turn) (w' : History) (r' : Rounds) (clock' : ClockSeat) → CanMove w r Clock → Gives r w clock t r' w' clock'
       → Goes w r Clock (is_recorded t) w' r' × AreSeated w' cpus clock'
-  tick_goes (Made told) w' r' clock' can gives = (tick_moves w r clock told w' r' clock' gives, tick_seated w cpus clock seated (next_of r) told w' clock' gives.2)
+  tick_goes (Made report) w' r' clock' can gives = (tick_moves w r clock report w' r' clock' gives, tick_seated w cpus clock seated (next_of r) report w' clock' gives.2)
   tick_goes Nothing w' r' clock' can gives = let left = can.0 in let none = gives.0 in cc
   tick_goes Full w' r' clock' can gives = elim gives.1 [
     | inl past ↦ let here = can.1 in absurd (omega (arith, past, here))
@@ -39,7 +39,7 @@ module _ (w : History) (r : Rounds) (cpus : List Seat) (clock : ClockSeat) (seat
       own = seat_own w cpus clock seated p s within at
 
       went : (t : Turn) → Turns w s t w' s' → Goes w r (Cpu p) (is_recorded t) w' r × AreSeated w' (set cpus (p.number - 1) s') clock
-      went (Made told) turns = (turn_moves w r p s told w' s' turns own, turn_seated w cpus clock seated p s told w' s' within at turns)
+      went (Made report) turns = (turn_moves w r p s report w' s' turns own, turn_seated w cpus clock seated p s report w' s' within at turns)
       went Nothing turns =
           let has : is_some (choice w.config w.scripts w.records p) ≡ true = can.0 in
           let none : choice w.config w.scripts w.records p ≡ None = subst (λ q. choice w.config w.scripts w.records q ≡ None) own turns.1 in

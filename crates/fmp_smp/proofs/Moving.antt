@@ -18,7 +18,7 @@ use Rattle.fmp_world.specs.Ends.{is_of_cpu}
 use Rattle.fmp_smp_histories.specs.Histories.{state_after}
 use Rattle.fmp_smp_histories.specs.Positions.{is_tick_of}
 use Rattle.fmp_smp_histories.specs.Scripted.{choice, next_call, asked_at, position_of}
-use Rattle.fmp_world.specs.Turns.{told_after, Turns}
+use Rattle.fmp_world.specs.Turns.{report_after, Turns}
 use Rattle.fmp_world.specs.Views.{History, Seat, ClockSeat}
 use Rattle.fmp_world.specs.Findings.{is_taken_tick}
 
@@ -44,44 +44,44 @@ choice_own c scripts h p e picked = picked_own p _ _ e (next_own c scripts h p _
 -- ---- moves
 
 -- the record of an event is of that event
-pub told_event : (w : History) (e : Event) → (told_after w e).event ≡ e
-told_event w e = step_event (state_after w.config w.records) e
+pub report_event : (w : History) (e : Event) → (report_after w e).event ≡ e
+report_event w e = step_event (state_after w.config w.records) e
 
 -- the clock stands still where the record is of no tick
-pub clock_rests : (w : History) (r : Rounds) (e : Event) → is_tick e ≡ false → after_record r (told_after w e) ≡ r
-clock_rests w r e timed = let is = told_event w e in rw (is, timed) refl
+pub clock_rests : (w : History) (r : Rounds) (e : Event) → is_tick e ≡ false → after_record r (report_after w e) ≡ r
+clock_rests w r e timed = let is = report_event w e in rw (is, timed) refl
 
-pub turn_moves : (w : History) (r : Rounds) (p : Proc) (s : Seat) (told : Receipt) (w' : History) (s' : Seat) → Turns w s (Made told) w' s' → s.processor ≡ p → Moves w r (Cpu p) w' r
-turn_moves w r p s told w' s' takes is =
-    let picks : choice w.config w.scripts w.records p ≡ Some told.event = ap (λ q. choice w.config w.scripts w.records q) (sym is) ∙ takes.1 in
+pub turn_moves : (w : History) (r : Rounds) (p : Proc) (s : Seat) (report : Receipt) (w' : History) (s' : Seat) → Turns w s (Made report) w' s' → s.processor ≡ p → Moves w r (Cpu p) w' r
+turn_moves w r p s report w' s' takes is =
+    let picks : choice w.config w.scripts w.records p ≡ Some report.event = ap (λ q. choice w.config w.scripts w.records q) (sym is) ∙ takes.1 in
     record {
-      event = told.event;
+      event = report.event;
       does = picks;
       room = takes.0.0;
       history = takes.2.history;
-      rounds = sym (clock_rests w r told.event (choice_own w.config w.scripts w.records p told.event picks).1);
+      rounds = sym (clock_rests w r report.event (choice_own w.config w.scripts w.records p report.event picks).1);
     }
 
 -- the clock goes on by the record of its tick
-pub tick_counts : (w : History) (r : Rounds) (s : ClockSeat) (told : Receipt) (w' : History) (r' : Rounds) (s' : ClockSeat) → Gives r w s (Made told) r' w' s'
-    → r' ≡ after_record r (told_after w (event.Tick (next_of r)))
-tick_counts w r s told w' r' s' gives =
+pub tick_counts : (w : History) (r : Rounds) (s : ClockSeat) (report : Receipt) (w' : History) (r' : Rounds) (s' : ClockSeat) → Gives r w s (Made report) r' w' s'
+    → r' ≡ after_record r (report_after w (event.Tick (next_of r)))
+tick_counts w r s report w' r' s' gives =
     let e : Event = event.Tick (next_of r) in
-    let made : Record = told_after w e in
+    let made : Record = report_after w e in
     let ticks = gives.2 in
-    let answered : told.answer ≡ made.answer = rw ticks.2.receipt refl in
-    let counts : is_taken_tick made ≡ is_taken made.answer = rw (told_event w e) refl in
+    let answered : report.answer ≡ made.answer = rw ticks.2.receipt refl in
+    let counts : is_taken_tick made ≡ is_taken made.answer = rw (report_event w e) refl in
     gives.3 ∙ ap (λ b. cond b (record r { given = r.given + 1 }) r) (ap is_taken answered ∙ sym counts)
 
-pub tick_moves : (w : History) (r : Rounds) (s : ClockSeat) (told : Receipt) (w' : History) (r' : Rounds) (s' : ClockSeat) → Gives r w s (Made told) r' w' s' → Moves w r Clock w' r'
-tick_moves w r s told w' r' s' gives =
+pub tick_moves : (w : History) (r : Rounds) (s : ClockSeat) (report : Receipt) (w' : History) (r' : Rounds) (s' : ClockSeat) → Gives r w s (Made report) r' w' s' → Moves w r Clock w' r'
+tick_moves w r s report w' r' s' gives =
     let ticks = gives.2 in
     record {
       event = event.Tick (next_of r);
       does = refl;
       room = ticks.0.0;
       history = ticks.2.history;
-      rounds = tick_counts w r s told w' r' s' gives;
+      rounds = tick_counts w r s report w' r' s' gives;
     }
 
 -- ---- a history one record longer

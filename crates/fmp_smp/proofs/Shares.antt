@@ -31,7 +31,7 @@ module _ (first count : ℕ) (least : 1 ≤ first) (most : first + count ≤ 9) 
   pub number_of : (k j : ℕ) → j < count → (as_proc (first + (k * count + j) % count)).number ≡ first + j
   number_of k j small = rw (in_round count k j small) (omega (arith, least, most, small))
 
-  -- a processor before the first or behind the last has none
+  -- a processor before the first or after the last has none
   out_of_rounds : (n g : ℕ) → (n < first) ⊎ (first + count ≤ n) → share first count n g ≡ 0
   unfolding share
   out_of_rounds n zero out = refl
@@ -39,7 +39,7 @@ module _ (first count : ℕ) (least : 1 ≤ first) (most : first + count ≤ 9) 
       let below = mod_below g count some in
       let other : (as_proc (first + g % count)).number ≡ n → ⊥ = λ is. elim out [
         | inl before ↦ omega (arith, is, before, below, least, most)
-        | inr behind ↦ omega (arith, is, behind, below, least, most)
+        | inr following ↦ omega (arith, is, following, below, least, most)
       ] in
       share_miss first count n g other ∙ out_of_rounds n g out
 
@@ -52,19 +52,19 @@ module _ (first count : ℕ) (least : 1 ≤ first) (most : first + count ≤ 9) 
         let other : (as_proc (first + (k * count + j) % count)).number ≡ first + i → ⊥ = λ is. omega (arith, is, number, small) in
         ap (share first count (first + i)) next ∙ share_miss first count (first + i) (k * count + j) other ∙ before_place k j (omega (arith, small))
 
-    behind_place : (k d : ℕ) → i + d < count → share first count (first + i) (k * count + (i + 1 + d)) ≡ share first count (first + i) (k * count) + 1
-    behind_place k zero small =
+    after_place : (k d : ℕ) → i + d < count → share first count (first + i) (k * count + (i + 1 + d)) ≡ share first count (first + i) (k * count) + 1
+    after_place k zero small =
         let next : k * count + (i + 1 + 0) ≡ suc (k * count + i) = omega arith in
         ap (share first count (first + i)) next
         ∙ share_hit first count (first + i) (k * count + i) (number_of k i within)
         ∙ ap (λ x. x + 1) (before_place k i (omega arith))
-    behind_place k (suc d) small =
+    after_place k (suc d) small =
         let next : k * count + (i + 1 + suc d) ≡ suc (k * count + (i + 1 + d)) = omega arith in
         let number = number_of k (i + 1 + d) (omega (arith, small)) in
         let other : (as_proc (first + (k * count + (i + 1 + d)) % count)).number ≡ first + i → ⊥ = λ is. omega (arith, is, number) in
         ap (share first count (first + i)) next
         ∙ share_miss first count (first + i) (k * count + (i + 1 + d)) other
-        ∙ behind_place k d (omega (arith, small))
+        ∙ after_place k d (omega (arith, small))
 
     -- one tick in each round
     whole_rounds : (k : ℕ) → share first count (first + i) (k * count) ≡ k
@@ -73,7 +73,7 @@ module _ (first count : ℕ) (least : 1 ≤ first) (most : first + count ≤ 9) 
     whole_rounds (suc k) =
         let round : suc k * count ≡ k * count + (i + 1 + (count - 1 - i)) =
         let one = suc-mul k count in omega (arith, one, within) in
-        let last : share first count (first + i) (k * count + (i + 1 + (count - 1 - i))) ≡ share first count (first + i) (k * count) + 1 = behind_place k (count - 1 - i) (omega (arith, within)) in
+        let last : share first count (first + i) (k * count + (i + 1 + (count - 1 - i))) ≡ share first count (first + i) (k * count) + 1 = after_place k (count - 1 - i) (omega (arith, within)) in
         let before = whole_rounds k in
         ap (share first count (first + i)) round ∙ omega (arith, last, before)
 
@@ -101,6 +101,6 @@ module _ (first count : ℕ) (least : 1 ≤ first) (most : first + count ≤ 9) 
           let grows : share first count n g ≤ share first count n (k * count) = subst (λ x. share first count n g ≤ share first count n x) rest (share_grows n g (k * count - g)) in
           let all = share_all n k least_n most_n in
           omega (arith, grows, all)
-      | inr behind ↦ let none = out_of_rounds n g (inr behind) in omega (arith, none)
+      | inr following ↦ let none = out_of_rounds n g (inr following) in omega (arith, none)
     ]
   ]

@@ -12,11 +12,11 @@ use Rattle.fmp_smp.specs.declared.seeded.Mover.{Mover}
 use Rattle.fmp_smp.specs.declared.seeded.Mover.TheVariants.{Cpu, Clock}
 use Rattle.fmp_smp.specs.Rounds.{Rounds, rounds_of, next_of, after_record, ticks_taken, Gives, Takes, IsDue, TicksInTurn, AreInTurn}
 use Rattle.fmp_smp.specs.Seeds.{movers, drawn, event_of, number_at, IsInOrderOf}
-use Rattle.fmp_smp.proofs.Moving.{IsOwn, choice_own, told_event, clock_rests, tick_counts, below_or_last}
+use Rattle.fmp_smp.proofs.Moving.{IsOwn, choice_own, report_event, clock_rests, tick_counts, below_or_last}
 use Rattle.fmp_smp.proofs.Following.{ticks_more, drawn_can, next_within}
 use Rattle.fmp_world.specs.declared.seats.Turn.{Turn}
 use Rattle.fmp_world.specs.declared.seats.Turn.TheVariants.{Made, Nothing, Full}
-use Rattle.fmp_world.specs.Turns.{told_after}
+use Rattle.fmp_world.specs.Turns.{report_after}
 use Rattle.fmp_world.specs.Views.{History, Seat, ClockSeat}
 use Rattle.fmp_world.specs.Findings.{is_taken_tick}
 
@@ -46,15 +46,15 @@ unfolding TicksInTurn ticks_taken
 in_turn_at_first ticks w c r configured none fresh = rw (fresh, none, configured) (refl, λ k x p at is. cc)
 
 in_turn_more : (ticks : ℕ) (w : History) (r : Rounds) (e : Event) → AreInTurn ticks w r → ((p : Proc) → e ≡ Tick p → IsDue r p)
-    → AreInTurn ticks (record w { records = w.records ++ told_after w e ∷ [] }) (after_record r (told_after w e))
+    → AreInTurn ticks (record w { records = w.records ++ report_after w e ∷ [] }) (after_record r (report_after w e))
 in_turn_more ticks w r e so last =
-    let made = told_after w e in
+    let made = report_after w e in
     let due : (p : Proc) → made.event ≡ Tick p → IsDue (rounds_of w.config ticks (ticks_taken w.records)) p =
-    λ p is. subst (λ q. IsDue q p) so.0 (last p (sym (told_event w e) ∙ is)) in
+    λ p is. subst (λ q. IsDue q p) so.0 (last p (sym (report_event w e) ∙ is)) in
     (ap (λ q. after_record q made) so.0 ∙ rounds_more w.config ticks w.records made, ticked_more w.config ticks w.records made so.1 due)
 
-made_in_turn : (ticks : ℕ) (w : History) (r : Rounds) (e : Event) (w' : History) (r' : Rounds) → AreInTurn ticks w r → w' ≡ record w { records = w.records ++ told_after w e ∷ [] }
-    → r' ≡ after_record r (told_after w e) → ((p : Proc) → e ≡ Tick p → IsDue r p) → AreInTurn ticks w' r'
+made_in_turn : (ticks : ℕ) (w : History) (r : Rounds) (e : Event) (w' : History) (r' : Rounds) → AreInTurn ticks w r → w' ≡ record w { records = w.records ++ report_after w e ∷ [] }
+    → r' ≡ after_record r (report_after w e) → ((p : Proc) → e ≡ Tick p → IsDue r p) → AreInTurn ticks w' r'
 made_in_turn ticks w r e w' r' so history rounds last = rw (history, rounds) (in_turn_more ticks w r e so last)
 
 no_tick : (e : Event) (p : Proc) → is_tick e ≡ false → e ≡ Tick p → ⊥
@@ -65,17 +65,17 @@ same_tick p q is = cc
 
 -- a turn is no tick
 pub turn_in_turn : (ticks : ℕ) (w : History) (r : Rounds) (s : Seat) (t : Turn) (w' : History) (s' : Seat) → AreInTurn ticks w r → Takes w s t w' s' → AreInTurn ticks w' r
-turn_in_turn ticks w r s (Made told) w' s' so takes =
-    let own : IsOwn s.processor told.event = choice_own w.config w.scripts w.records s.processor told.event takes.1.1 in
-    made_in_turn ticks w r told.event w' r so takes.1.2.history (sym (clock_rests w r told.event own.1)) (λ p is. absurd (no_tick told.event p own.1 is))
+turn_in_turn ticks w r s (Made report) w' s' so takes =
+    let own : IsOwn s.processor report.event = choice_own w.config w.scripts w.records s.processor report.event takes.1.1 in
+    made_in_turn ticks w r report.event w' r so takes.1.2.history (sym (clock_rests w r report.event own.1)) (λ p is. absurd (no_tick report.event p own.1 is))
 turn_in_turn ticks w r s Nothing w' s' so takes = rw takes.1.2 so
 turn_in_turn ticks w r s Full w' s' so takes = rw takes.1 so
 
 -- a tick is the one that is due
 pub tick_in_turn : (ticks : ℕ) (w : History) (r : Rounds) (s : ClockSeat) (t : Turn) (w' : History) (r' : Rounds) (s' : ClockSeat) → AreInTurn ticks w r → Gives r w s t r' w' s'
     → AreInTurn ticks w' r'
-tick_in_turn ticks w r s (Made told) w' r' s' so gives =
-    made_in_turn ticks w r (Tick (next_of r)) w' r' so gives.2.2.history (tick_counts w r s told w' r' s' gives) (λ p is. (gives.0, same_tick p (next_of r) is))
+tick_in_turn ticks w r s (Made report) w' r' s' so gives =
+    made_in_turn ticks w r (Tick (next_of r)) w' r' so gives.2.2.history (tick_counts w r s report w' r' s' gives) (λ p is. (gives.0, same_tick p (next_of r) is))
 tick_in_turn ticks w r s Nothing w' r' s' so gives = rw (gives.2, gives.1) so
 tick_in_turn ticks w r s Full w' r' s' so gives = rw (gives.3, gives.2) so
 

@@ -59,15 +59,15 @@ Gives r w s Full r' w' s' =
     (is_over r ≡ false)
     × ((w.config.processors < (next_of r).number) ⊎ Ticks w s (next_of r) Full w' s')
     × (r' ≡ r) × (w' ≡ w) × (s' ≡ s)
-Gives r w s (Made told) r' w' s' =
+Gives r w s (Made report) r' w' s' =
     (is_over r ≡ false)
     × ((next_of r).number ≤ w.config.processors)
-    × Ticks w s (next_of r) (Made told) w' s'
-    × (r' ≡ after_tick r told.answer)
+    × Ticks w s (next_of r) (Made report) w' s'
+    × (r' ≡ after_tick r report.answer)
 
 -- the turn made a tick that was taken
 abbrev pub is_taken_turn : Turn → Bool
-is_taken_turn (Made told) = is_taken told.answer
+is_taken_turn (Made report) = is_taken report.answer
 is_taken_turn other = false
 
 -- a turn of a seat, and `Full` too where the world has no such processor
@@ -87,13 +87,13 @@ ticks_taken h = count_by is_taken_tick h
 abbrev pub IsDue : Rounds → Proc → Type 0
 IsDue r p = (is_over r ≡ false) × (p ≡ next_of r)
 
--- each tick of a history is the one that was due behind the records before it: only ticks that were taken count, so a held one is
+-- each tick of a history is the one that was due after the records before it: only ticks that were taken count, so a held one is
 -- due again before any other
 unfoldable pub TicksInTurn : Setup → ℕ → List Record → Type 0
 TicksInTurn c rounds h =
     (k : ℕ) (r : Record) (p : Proc) → slice_get h k ≡ Some r → r.event ≡ Tick p → IsDue (rounds_of c rounds (ticks_taken (take k h))) p
 
--- so many rounds go on behind the records of the world, whose ticks are in turn
+-- so many rounds go on after the records of the world, whose ticks are in turn
 abbrev pub AreInTurn : ℕ → History → Rounds → Type 0
 AreInTurn rounds w r = (r ≡ rounds_of w.config rounds (ticks_taken w.records)) × TicksInTurn w.config rounds w.records
 

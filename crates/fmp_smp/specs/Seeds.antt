@@ -14,11 +14,11 @@ use Rattle.fmp_world.specs.declared.seats.Turn.{Turn}
 use Rattle.fmp_world.specs.declared.seats.Turn.TheVariants.{Made}
 use Rattle.fmp_world.specs.Ends.{AreSeats}
 use Rattle.fmp_smp_histories.specs.Scripted.{choice}
-use Rattle.fmp_world.specs.Turns.{is_full, told_after}
+use Rattle.fmp_world.specs.Turns.{is_full, report_after}
 use Rattle.fmp_world.specs.Views.{History, Seat, ClockSeat}
 use Rattle.rand_xoshiro.specs.SplitMix64.{mix_u64, next_state}
 
--- the state of SplitMix64 from a seed after n numbers, and the number behind them
+-- the state of SplitMix64 from a seed after n numbers, and the number after them
 unfoldable pub state_at : ℕ → ℕ → ℕ
 state_at seed zero = seed
 state_at seed (suc n) = next_state (state_at seed n)
@@ -35,7 +35,7 @@ unfoldable pub cpus_of : Setup → List Steps → List Record → ℕ → List M
 cpus_of c scripts h zero = []
 cpus_of c scripts h (suc n) = cpus_of c scripts h n ++ cpu_of c scripts h (suc n)
 
--- those that can make the next record: the processors that have something to do, and behind them the clock while it has ticks to
+-- those that can make the next record: the processors that have something to do, and after them the clock while it has ticks to
 -- give
 unfoldable pub movers : Setup → List Steps → List Record → Rounds → List Mover
 movers c scripts h r = cpus_of c scripts h c.processors ++ (if is_over r then [] else (Clock ∷ []))
@@ -56,7 +56,7 @@ event_drawn c scripts rounds h number =
     let r = rounds_of c rounds (ticks_taken h) in
     event_of c scripts h r (drawn (movers c scripts h r) number)
 
--- each record is of the event that the seed's number draws behind those before it
+-- each record is of the event that the seed's number draws after those before it
 abbrev pub IsInOrderOf : ℕ → Setup → List Steps → ℕ → List Record → Type 0
 IsInOrderOf seed c scripts rounds h =
     (k : ℕ) (r : Record) → slice_get h k ≡ Some r → event_drawn c scripts rounds (take k h) (number_at seed k) ≡ Some r.event
@@ -74,7 +74,7 @@ pub record AreSeated (w : History) (cpus : List Seat) (clock : ClockSeat) : Type
 
 -- a turn that made a record
 abbrev pub is_recorded : Turn → Bool
-is_recorded (Made told) = true
+is_recorded (Made report) = true
 is_recorded other = false
 
 -- the history has one more record, that of what this mover does, and the clock goes on by it
@@ -82,8 +82,8 @@ pub record Moves (w : History) (r : Rounds) (m : Mover) (w' : History) (r' : Rou
   pub event : Event
   pub does : event_of w.config w.scripts w.records r (Some m) ≡ Some event
   pub room : length w.records < w.turns
-  pub history : w' ≡ record w { records = w.records ++ told_after w event ∷ [] }
-  pub rounds : r' ≡ after_record r (told_after w event)
+  pub history : w' ≡ record w { records = w.records ++ report_after w event ∷ [] }
+  pub rounds : r' ≡ after_record r (report_after w event)
 
 -- the mover made its record, or the history is full and nothing changed
 abbrev pub Goes : History → Rounds → Mover → Bool → History → Rounds → Type 0

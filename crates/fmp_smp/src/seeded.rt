@@ -18,7 +18,7 @@ use std::alloc::{AllocError, Global};
 
 /// Plays all processors and the clock on one thread, in an order that the seed gives: the same seed gives the same run.
 ///
-/// Before each record those are listed that can make one: the processors that have something to do, in their order, and behind
+/// Before each record those are listed that can make one: the processors that have something to do, in their order, and after
 /// them the clock, as long as it has ticks to give. Then the next number of SplitMix64 from the seed, modulo the length of this
 /// list, is the place in it, from 0, of the one that does: a processor takes its turn, the clock gives its next tick. So there is
 /// one number for each record, also where only one can make it. The clock gives its ticks as [`run_smp`](crate::run_smp) does:
@@ -89,7 +89,7 @@ fn cpus_of(alloc: Global, world: &World<'_>) -> ArrayVec<Mover, 9, Global>
     movers
 }
 
-/// Those that can make a record: the processors in their order, and the clock behind them.
+/// Those that can make a record: the processors in their order, and the clock after them.
 #[tactic(auto, unfolding(crate::specs::Seeds::movers))]
 fn movers(alloc: Global, world: &World<'_>, rounds: &Rounds) -> ArrayVec<Mover, 9, Global>
     ensures { result.items ≡ spec.movers world.now.config world.now.scripts world.now.records rounds.now }

@@ -26,7 +26,7 @@ use Rattle.fmp_smp_histories.specs.Positions.{is_task, is_handler, is_return, is
 use Rattle.fmp_smp_histories.specs.Places.{called_tasks, released_task, released_tasks, renewed, moved_tasks, handler_moved, moved_handlers}
 use Rattle.fmp_smp_histories.specs.Counted.{TasksAre, HandlersAre}
 
--- ---- a position is at most the length of the history, or the greatest number of steps behind a jump
+-- ---- a position is at most the length of the history, or the greatest number of steps after a jump
 
 -- neither a way nor a release goes farther than the steps of a script
 place_le : (n x : ℕ) (w : Option Way) → n ≤ x → 256 ≤ x → place_of n w ≤ x
@@ -122,7 +122,7 @@ module _ (c : Setup) (scripts : List Steps) where
   released_long ps [] = refl
   released_long ps (r ∷ rs) = released_long (released_task c scripts ps r) rs ∙ length-set ps _ _
 
-  -- a position behind a release
+  -- a position after a release
   release_at : (ps : List ℕ) (r : Release) (i : ℕ) → i < length ps
       → slice_index (released_task c scripts ps r) i ≡ cond (r.task.number == i + 1) (onward (ways_of_task c scripts (i + 1)) (slice_index ps i) r.code r.value) (slice_index ps i)
   release_at ps r i small = go (r.task.number == i + 1) refl
@@ -146,7 +146,7 @@ module _ (c : Setup) (scripts : List Steps) where
       released_at (released_task c scripts ps r) rs i (omega (arith, small, length-set ps (r.task.number - 1) (onward (ways_of_task c scripts r.task.number) (slice_index ps (r.task.number - 1)) r.code r.value)))
       ∙ ap (released (i + 1) (ways_of_task c scripts (i + 1)) rs) (release_at ps r i small)
 
-  -- behind releases there is still room for one more
+  -- after releases there is still room for one more
   pub released_room : (ps qs : List ℕ) (rs : List Release) → qs ≡ released_tasks c scripts ps rs → length qs ≡ 64 → ((i : ℕ) → i < 64 → slice_index ps i + 1 < 2 ^ 32)
       → (i : ℕ) → i < 64 → slice_index qs i + 1 < 2 ^ 32
   released_room ps qs rs is long room i small =
@@ -157,7 +157,7 @@ module _ (c : Setup) (scripts : List Steps) where
       omega (arith, at, le)
 
 module _ (c : Setup) (scripts : List Steps) (ps : List ℕ) (h : List Record) (r : Record) where
-  -- the positions behind the releases of the record
+  -- the positions after the releases of the record
   abbrev freed : List ℕ
   freed = released_tasks c scripts ps r.releases
 

@@ -1,4 +1,4 @@
--- The positions behind the releases of a record, one after the other.
+-- The positions after the releases of a record, one after the other.
 use Rattle.std.proofs.Common.{◌≡◌, ℕ, zero, suc, ◌+◌, ◌<◌, ◌≤◌, ◌∙◌, List, [], ◌∷◌, length, drop, slice_get, Option, Some, None, refl, ap, sym, add-one, arith}
 use Rattle.std.proofs.Math.Seq.{drop-cons}
 use Rattle.std.proofs.lemmas.Option.{slice_get_within, get_or_from_slice_get}
@@ -19,7 +19,7 @@ module _ (c : Setup) (scripts : List Steps) (whole : List ℕ) (ps : List ℕ) (
   pub release_ends : drop k rs ≡ [] → whole ≡ ps
   release_ends none = so_far ∙ ap (released_tasks c scripts ps) none
 
--- behind the last release there is none
+-- after the last release there is none
 pub none_past : (rs : List Release) (k : ℕ) → slice_get rs k ≡ None → length rs ≤ k
 none_past [] k none = omega arith
 none_past (r ∷ rs) zero none = absurd cc

@@ -15,7 +15,7 @@ use Rattle.fmp_text_scripts.specs.Ways.{onward}
 use Rattle.fmp_setup.specs.Setup.{Setup}
 use Rattle.fmp_smp_histories.specs.Positions.{called, is_handler, is_spin, is_return, terminated, ways_of_runner, ways_of_task}
 
--- the positions of all tasks behind a release, and behind several
+-- the positions of all tasks after a release, and after several
 abbrev pub released_task : Setup → List Steps → List ℕ → Release → List ℕ
 released_task c scripts ps r =
     let place = r.task.number - 1 in

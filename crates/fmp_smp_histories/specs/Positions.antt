@@ -95,8 +95,8 @@ ways_of_runner c scripts (Some r) = ways_of_option scripts (function_of c r)
 abbrev pub past : Bool → ℕ → ℕ
 past made n = if made then n + 1 else n
 
--- where a script goes on that has come behind a call with this answer. What a call returned decides it at once; a call that waits leaves it open: the
--- script stands behind it until the wait ends
+-- where a script goes on that has come after a call with this answer. What a call returned decides it at once; a call that waits leaves it open: the
+-- script stands after it until the wait ends
 abbrev pub answered : List Way → Answer → ℕ → ℕ
 answered ways (answer.Done code value) at = onward ways at code value
 answered ways other at = at
@@ -105,7 +105,7 @@ answered ways other at = at
 abbrev pub called : List Way → Bool → Answer → ℕ → ℕ
 called ways made a at = if made then answered ways a (at + 1) else at
 
--- the position of the task of this number behind releases: the end of its wait decides where its script goes on behind the call that made it wait
+-- the position of the task of this number after releases: the end of its wait decides where its script goes on after the call that made it wait
 abbrev pub released : ℕ → List Way → List Release → ℕ → ℕ
 released n ways [] at = at
 released n ways (r ∷ rs) at = released n ways rs (if r.task.number == n then onward ways at r.code r.value else at)

@@ -54,6 +54,6 @@ IsTick other = ⊥
 abbrev pub IsScripted : Setup → List Steps → List Record → Event → Type 0
 IsScripted c scripts h e = IsTick e ⊎ (choice c scripts h (processor_of e) ≡ Some e)
 
--- each record is of a tick, or of what its processor picked behind those before it
+-- each record is of a tick, or of what its processor picked after those before it
 abbrev pub Scripted : Setup → List Steps → List Record → Type 0
 Scripted c scripts h = (k : ℕ) (r : Record) → slice_get h k ≡ Some r → IsScripted c scripts (take k h) r.event

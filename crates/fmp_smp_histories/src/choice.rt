@@ -28,7 +28,7 @@ pub fn function_of(config: &Config, runner: Runner) -> Option<u8>
     }
 }
 
-/// The call behind the end of a script: a task ends itself, and a handler returns.
+/// The call after the end of a script: a task ends itself, and a handler returns.
 fn last_of(runner: Runner) -> Call
     ensures { result ≡ scripted.last_of runner }
 {

@@ -55,7 +55,7 @@ pub fn is_taken(answer: Answer) -> bool
     matches!(answer, Answer::Taken)
 }
 
-/// Where the script of a runner goes on that has come behind a call with this answer.
+/// Where the script of a runner goes on that has come after a call with this answer.
 #[inline(never)]
 fn led(config: &Config, scripts: &Scripts, runner: Runner, answer: Answer, position: u32) -> u32
     ensures { result ≡ spec.answered (ways_of_runner config.now scripts.now (Some runner)) answer position }
@@ -68,7 +68,7 @@ fn led(config: &Config, scripts: &Scripts, runner: Runner, answer: Answer, posit
     }
 }
 
-/// Where the script of a runner goes on that has come behind a call with this answer. What a call returned decides it at once; behind a call that
+/// Where the script of a runner goes on that has come after a call with this answer. What a call returned decides it at once; after a call that
 /// waits the script stands until the wait ends. Straight scripts are not looked up.
 fn answered(
     config: &Config,

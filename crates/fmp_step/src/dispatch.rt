@@ -1,5 +1,5 @@
 //! The end of an event: which processors run another task or are sent a request.
-ghost use Rattle.std.specs.Prelude.{◌≡◌, []};
+ghost use Rattle.std.specs.Prelude.{◌≡◌, ◌≤◌, IsTrue, [], length};
 ghost use Rattle.fmp_rules.specs.Step.{is_same, is_requested, requests, latched, dispatched, settle, changed_run};
 
 use fmp_codes::{Proc, Requests, Task};
@@ -66,6 +66,19 @@ fn latch<M: Words>(machine: &mut M, processors: &[Proc])
             },
         );
     }
+}
+
+/// Whether a processor runs its top, and no request to it is pending, so that dispatching would change nothing.
+#[inline(always)]
+#[tactic(auto, using(crate::proofs::Dispatched::dispatched_same, crate::proofs::Dispatched::same_tasks))]
+pub(crate) fn is_settled<M: Words>(machine: &M, q: Proc) -> bool
+    ensures settled { let w = M.world machine.now in IsTrue result → dispatched M.ordering w q ≡ w }
+    ensures few { length (M.world machine.now).processors ≤ 8 }
+{
+    let processor = machine.processor(q);
+    q.index() < machine.processor_count()
+        && !processor.latch
+        && is_same(processor.running, machine.top(q))
 }
 
 /// Lets a processor that is not held run its top. In TOPPERS/FMP: dispatch, where p_runtsk becomes p_schedtsk.

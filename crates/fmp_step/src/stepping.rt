@@ -1,12 +1,12 @@
 //! One step of a machine.
 ghost use Rattle.std.specs.Prelude.{◌≡◌, ◌+◌, ◌≤◌, [], if◌then◌else◌};
-ghost use Rattle.fmp_rules.specs.Telling.{effect_told};
+ghost use Rattle.fmp_rules.specs.Telling.{effect_reported};
 ghost use Rattle.fmp_setup.specs.Setup.{has_time};
 ghost use Rattle.fmp_rules.specs.World.{processor, runner_of};
 ghost use Rattle.fmp_rules.specs.Step.{before_event, settled, unchanged, step};
 ghost use Rattle.fmp_step.specs.Before.{seen};
 
-use crate::dispatch::{changed_run, settle};
+use crate::dispatch::{changed_run, is_settled, settle};
 use crate::family;
 use crate::tick::tick;
 use fmp_codes::{Answer, Call, Event, Proc, Record, Requests, Task};
@@ -23,9 +23,9 @@ struct Before {
 /// What is remembered of the state before an event on q, whose record tells the event and who could make a call.
 #[inline(always)]
 #[tactic(auto, unfolding(fmp_rules::specs::Step::before_event))]
-fn before_event<M: Overview>(machine: &M, q: Proc, told: &Record) -> Before
-    requires runner { told.now.runner ≡ runner_of (M.world machine.now) q }
-    ensures { seen told.now q result ≡ before_event M.ordering (M.world machine.now) told.now.event q }
+fn before_event<M: Overview>(machine: &M, q: Proc, report: &Record) -> Before
+    requires runner { report.now.runner ≡ runner_of (M.world machine.now) q }
+    ensures { seen report.now q result ≡ before_event M.ordering (M.world machine.now) report.now.event q }
 {
     Before {
         running: machine.processor(q).running,
@@ -36,26 +36,26 @@ fn before_event<M: Overview>(machine: &M, q: Proc, told: &Record) -> Before
 /// The end of an event on q whose record tells its effect already.
 #[inline(always)]
 #[tactic(auto, unfolding(fmp_rules::specs::Step::settled))]
-fn settled<M: Overview>(machine: &mut M, q: Proc, before: &Before, told: &mut Record)
-    ensures step { (M.world machine.new, told.new) ≡ settled M.ordering (seen told.old q before.now) (M.world machine.old, effect_told told.old) }
+fn settled<M: Overview>(machine: &mut M, q: Proc, before: &Before, report: &mut Record)
+    ensures step { (M.world machine.new, report.new) ≡ settled M.ordering (seen report.old q before.now) (M.world machine.old, effect_reported report.old) }
     ensures room { M.room machine.new ≡ M.room machine.old }
 {
-    settle(machine, &before.tops, q, &mut told.requests);
+    settle(machine, &before.tops, q, &mut report.requests);
     let running = machine.processor(q).running;
-    told.run_change = changed_run(before.running, running);
+    report.run_change = changed_run(before.running, running);
 }
 
 /// Makes the record of an event that changes nothing. It tells the event and who could make a call already.
 #[tactic(auto, unfolding(fmp_rules::specs::Step::unchanged))]
-fn unchanged<M: Words>(machine: &M, q: Proc, answer: Answer, told: &mut Record)
-    requires empty { told.old.releases ≡ [] }
-    requires runner { told.old.runner ≡ runner_of (M.world machine.now) q }
-    ensures { (M.world machine.now, told.new) ≡ unchanged (M.world machine.now) told.old.event q answer }
+fn unchanged<M: Words>(machine: &M, q: Proc, answer: Answer, report: &mut Record)
+    requires empty { report.old.releases ≡ [] }
+    requires runner { report.old.runner ≡ runner_of (M.world machine.now) q }
+    ensures { (M.world machine.now, report.new) ≡ unchanged (M.world machine.now) report.old.event q answer }
 {
-    told.answer = answer;
-    told.lost = None;
-    told.run_change = None;
-    told.requests = Requests::new();
+    report.answer = answer;
+    report.lost = None;
+    report.run_change = None;
+    report.requests = Requests::new();
 }
 
 /// Plays one event, and tells what it answers and did.
@@ -64,52 +64,52 @@ pub fn step<M: Overview>(machine: &mut M, event: Event) -> Record
     ensures step { (M.world machine.new, result) ≡ step M.ordering (M.world machine.old) event }
     ensures room { M.room machine.old ≤ M.room machine.new + 64 }
 {
-    let mut told = Record::answer(event, None, Answer::Nothing);
-    step_into(machine, event, &mut told);
-    told
+    let mut report = Record::answer(event, None, Answer::Nothing);
+    step_into(machine, event, &mut report);
+    report
 }
 
 /// Plays one event, and makes a record tell what it answers and did, whatever it told before.
-pub fn step_into<M: Overview>(machine: &mut M, event: Event, told: &mut Record)
+pub fn step_into<M: Overview>(machine: &mut M, event: Event, report: &mut Record)
     requires { 64 ≤ M.room machine.old }
-    ensures step { (M.world machine.new, told.new) ≡ step M.ordering (M.world machine.old) event }
+    ensures step { (M.world machine.new, report.new) ≡ step M.ordering (M.world machine.old) event }
     ensures room { M.room machine.old ≤ M.room machine.new + 64 }
 {
-    told.event = event;
-    step_told(machine, told);
+    report.event = event;
+    step_recorded(machine, report);
 }
 
 /// Plays the event that a record tells, and makes it tell what the event answers and did, whatever it told of that before.
 #[inline(always)]
-pub fn step_told<M: Overview>(machine: &mut M, told: &mut Record)
+pub fn step_recorded<M: Overview>(machine: &mut M, report: &mut Record)
     requires { 64 ≤ M.room machine.old }
-    ensures step { (M.world machine.new, told.new) ≡ step M.ordering (M.world machine.old) told.old.event }
+    ensures step { (M.world machine.new, report.new) ≡ step M.ordering (M.world machine.old) report.old.event }
     ensures room { M.room machine.old ≤ M.room machine.new + 64 }
 {
-    told.releases.clear();
-    match told.event {
-        Event::Call(p, call) => step_call(machine, p, call, told),
-        Event::Tick(p) => step_tick(machine, p, told),
-        Event::Ipi(p) => step_interrupt(machine, p, told),
+    report.releases.clear();
+    match report.event {
+        Event::Call(p, call) => step_call(machine, p, call, report),
+        Event::Tick(p) => step_tick(machine, p, report),
+        Event::Ipi(p) => step_interrupt(machine, p, report),
     }
 }
 
 /// Plays a call from a processor, and makes the record tell it. Nothing changes where neither a handler nor a task could make it.
 #[inline(always)]
-fn step_call<M: Overview>(machine: &mut M, p: Proc, call: Call, told: &mut Record)
+fn step_call<M: Overview>(machine: &mut M, p: Proc, call: Call, report: &mut Record)
     requires room { 64 ≤ M.room machine.old }
-    requires empty { told.old.releases ≡ [] }
-    requires event { told.old.event ≡ Event.Call p call }
-    ensures step { (M.world machine.new, told.new) ≡ step M.ordering (M.world machine.old) (Event.Call p call) }
+    requires empty { report.old.releases ≡ [] }
+    requires event { report.old.event ≡ Event.Call p call }
+    ensures step { (M.world machine.new, report.new) ≡ step M.ordering (M.world machine.old) (Event.Call p call) }
     ensures room { M.room machine.old ≤ M.room machine.new + 64 }
 {
-    told.runner = runner(machine, p);
-    if told.runner.is_none() {
-        return unchanged(machine, p, Answer::Idle, told);
+    report.runner = runner(machine, p);
+    if report.runner.is_none() {
+        return unchanged(machine, p, Answer::Idle, report);
     }
-    let before = before_event(machine, p, told);
-    family::call(machine, p, call, told);
-    settled(machine, p, &before, told);
+    let before = before_event(machine, p, report);
+    family::call(machine, p, call, report);
+    settled(machine, p, &before, report);
 }
 
 /// Whether ticks on a processor count.
@@ -123,46 +123,49 @@ fn has_time(timer: Timer, p: Proc) -> bool
 }
 
 /// Plays a tick of a processor, and makes the record tell it. Nothing changes where its ticks do not count, and where the tick is held
-/// back because it is CPU-locked or a handler is due.
+/// back because it is CPU-locked or a handler is due. After most ticks nothing is over, and the processor runs its top.
 #[inline(always)]
-fn step_tick<M: Overview>(machine: &mut M, p: Proc, told: &mut Record)
+fn step_tick<M: Overview>(machine: &mut M, p: Proc, report: &mut Record)
     requires room { 64 ≤ M.room machine.old }
-    requires empty { told.old.releases ≡ [] }
-    requires event { told.old.event ≡ Event.Tick p }
-    ensures step { (M.world machine.new, told.new) ≡ step M.ordering (M.world machine.old) (Event.Tick p) }
+    requires empty { report.old.releases ≡ [] }
+    requires event { report.old.event ≡ Event.Tick p }
+    ensures step { (M.world machine.new, report.new) ≡ step M.ordering (M.world machine.old) (Event.Tick p) }
     ensures room { M.room machine.old ≤ M.room machine.new + 64 }
 {
-    told.runner = runner(machine, p);
+    report.runner = runner(machine, p);
     if !has_time(machine.timer(), p) {
-        return unchanged(machine, p, Answer::Nothing, told);
+        return unchanged(machine, p, Answer::Nothing, report);
     }
     if machine.processor(p).locked || machine.handler(p).is_some() {
-        return unchanged(machine, p, Answer::Held, told);
+        return unchanged(machine, p, Answer::Held, report);
     }
-    let before = before_event(machine, p, told);
-    tick(machine, p, &mut told.releases);
-    told.answer = Answer::Taken;
-    told.lost = None;
-    settled(machine, p, &before, told);
+    let before = before_event(machine, p, report);
+    let has_served = tick(machine, p, &mut report.releases);
+    if !has_served && is_settled(machine, p) {
+        return unchanged(machine, p, Answer::Taken, report);
+    }
+    report.answer = Answer::Taken;
+    report.lost = None;
+    settled(machine, p, &before, report);
 }
 
 /// Plays an interrupt that comes to a processor, and makes the record tell it. It is held back, and nothing changes, where dispatching
 /// is held.
 #[inline(always)]
-fn step_interrupt<M: Overview>(machine: &mut M, p: Proc, told: &mut Record)
-    requires empty { told.old.releases ≡ [] }
-    requires event { told.old.event ≡ Event.Ipi p }
-    ensures step { (M.world machine.new, told.new) ≡ step M.ordering (M.world machine.old) (Event.Ipi p) }
+fn step_interrupt<M: Overview>(machine: &mut M, p: Proc, report: &mut Record)
+    requires empty { report.old.releases ≡ [] }
+    requires event { report.old.event ≡ Event.Ipi p }
+    ensures step { (M.world machine.new, report.new) ≡ step M.ordering (M.world machine.old) (Event.Ipi p) }
     ensures room { M.room machine.new ≡ M.room machine.old }
 {
-    told.runner = runner(machine, p);
+    report.runner = runner(machine, p);
     if is_held(machine, p) {
-        return unchanged(machine, p, Answer::Held, told);
+        return unchanged(machine, p, Answer::Held, report);
     }
-    let before = before_event(machine, p, told);
-    told.answer = interrupt_answer(machine, p);
-    told.lost = None;
-    settled(machine, p, &before, told);
+    let before = before_event(machine, p, report);
+    report.answer = interrupt_answer(machine, p);
+    report.lost = None;
+    settled(machine, p, &before, report);
 }
 
 /// Whether a request was pending.

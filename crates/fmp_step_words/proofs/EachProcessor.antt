@@ -16,12 +16,12 @@ map-processors_to-more : {X : Type 0} (f : Proc → X) (n : ℕ) → map f (proc
 map-processors_to-more f n = ap (map f) (processors_to-more n) ∙ map-append f (processors_to n) (as_proc (n + 1) ∷ [])
 
 -- a list that has at each place what is told of its processor
-told-of-each : {X : Type 0} (f : Proc → X) (xs : List X) (x : X) (n : ℕ) → n ≤ length xs → ((k : ℕ) → k < n → slice_index_or xs k x ≡ f (as_proc (k + 1))) →
+report-of-each : {X : Type 0} (f : Proc → X) (xs : List X) (x : X) (n : ℕ) → n ≤ length xs → ((k : ℕ) → k < n → slice_index_or xs k x ≡ f (as_proc (k + 1))) →
     take n xs ≡ map f (processors_to n)
-told-of-each f xs x zero h e = refl
-told-of-each f xs x (suc n) h e =
+report-of-each f xs x zero h e = refl
+report-of-each f xs x (suc n) h e =
     let next : suc n ≡ n + 1 = omega arith in
-    ap (λ m. take m xs) next ∙ take_more xs n x (omega (arith, h)) ∙ ap (λ ys. ys ++ slice_index_or xs n x ∷ []) (told-of-each f xs x n (omega (arith, h)) (λ k l. e k (omega (arith, l))))
+    ap (λ m. take m xs) next ∙ take_more xs n x (omega (arith, h)) ∙ ap (λ ys. ys ++ slice_index_or xs n x ∷ []) (report-of-each f xs x n (omega (arith, h)) (λ k l. e k (omega (arith, l))))
     ∙ ap (λ y. map f (processors_to n) ++ y ∷ []) (e n (omega arith)) ∙ sym (map-processors_to-more f n)
     ∙ ap (λ m. map f (processors_to m)) (sym next)
 
@@ -29,5 +29,5 @@ told-of-each f xs x (suc n) h e =
 pub numbers-tell : (f : Proc → Option Task) (xs : List ℕ) (n : ℕ) → n ≤ length xs → ((k : ℕ) → k < n → numbered (slice_index xs k) ≡ f (as_proc (k + 1))) →
     map numbered (take n xs) ≡ map f (processors_to n)
 numbers-tell f xs n h e =
-    sym (take-map numbered n xs) ∙ told-of-each f (map numbered xs) None n (omega (arith, h, length-map xs numbered))
+    sym (take-map numbered n xs) ∙ report-of-each f (map numbered xs) None n (omega (arith, h, length-map xs numbered))
     (λ k l. get_or-map numbered xs k 0 None (omega (arith, l, h)) ∙ e k l)

@@ -26,5 +26,5 @@ pub use processors::{open, set_dispatching_disabled, set_locked};
 pub use tasks::{
     activate, change_priority, finish, make_ready, migrate, release, rotate, start, wait_for,
 };
-pub use tops::{Tops, each_top};
+pub use tops::Tops;
 pub use words::Words;

@@ -1,10 +1,8 @@
 //! The tops of all processors at one moment.
 ghost use Rattle.std.specs.Prelude.{◌≡◌, ◌≤◌, ℕ, None, IsTrue, length, map, take, slice_index, ◌↔◌};
 ghost use Rattle.fmp_rules.specs.World.{item};
-ghost use Rattle.fmp_rules.specs.Step.{tops};
 ghost use Rattle.fmp_step_words.specs.Numbered.{numbered};
 
-use crate::words::Words;
 use fmp_codes::{Proc, Task};
 use std::marker::Model;
 
@@ -62,18 +60,6 @@ impl Tops {
     }
 }
 
-/// The tops of all processors, asked for one after the other.
-pub fn each_top<M: Words>(machine: &M) -> Tops
-    ensures { result ≡ tops M.ordering (M.world machine.now) }
-{
-    let count = machine.processor_count();
-    let mut numbers = [0; 8];
-    for index in 0..count {
-        numbers[index] = number_of(machine.top(Proc::from_index(index)));
-    }
-    Tops::new(numbers, count)
-}
-
 /// The task of this number, or none where it is 0.
 fn numbered(number: u8) -> Option<Task>
     requires { number ≤ 64 }
@@ -83,16 +69,5 @@ fn numbered(number: u8) -> Option<Task>
         None
     } else {
         Some(Task::new(number))
-    }
-}
-
-/// The number of a task, or 0 where there is none.
-fn number_of(task: Option<Task>) -> u8
-    ensures value { numbered result ≡ task }
-    ensures few { result ≤ 64 }
-{
-    match task {
-        Some(task) => task.number,
-        None => 0,
     }
 }

@@ -172,7 +172,7 @@ fn failed_reads_of_one_byte(rt: HostRuntime) -> Result<(), Fail> {
     Ok(())
 }
 
-/// The writer is flushed before each read of the events, and behind all. Where such a flush fails, the lines of the events that
+/// The writer is flushed before each read of the events, and after all. Where such a flush fails, the lines of the events that
 /// were read before are out.
 fn flushes_fail(rt: &impl Abort, alloc: Global) -> Result<(), AllocError> {
     for reads in 0..=EVENTS.len() {
@@ -225,7 +225,7 @@ fn verdict_is_not_written(
     Ok(())
 }
 
-/// Each call of the writer fails in turn, from the first to the flush behind the last. What went before it is written.
+/// Each call of the writer fails in turn, from the first to the flush after the last. What went before it is written.
 #[test]
 fn failed_writes_of_one_byte(rt: HostRuntime) -> Result<(), Fail> {
     flushes_fail(&rt, rt.alloc())?;
@@ -234,7 +234,7 @@ fn failed_writes_of_one_byte(rt: HostRuntime) -> Result<(), Fail> {
     Ok(())
 }
 
-/// Asserts that this call of the writer, a flush behind the first line, fails, which is told in the place of how the run would end.
+/// Asserts that this call of the writer, a flush after the first line, fails, which is told in the place of how the run would end.
 fn flush_fails(
     rt: &impl Abort,
     alloc: Global,
@@ -258,10 +258,10 @@ const FIRST_EVENT: &[u8] = b"P1 act_tsk(T2)\n";
 
 const EVENT_AT_FAULT: &[u8] = b"P1 act_tsk(T2)\nP1 jump()\n";
 
-/// The flush fails behind a text that has a fault, and behind a failed read. Before it each byte of the line was written, and the
+/// The flush fails after a text that has a fault, and after a failed read. Before it each byte of the line was written, and the
 /// writer flushed before each read.
 #[test]
-fn failed_flush_behind_a_fault(rt: HostRuntime) -> Result<(), Fail> {
+fn failed_flush_after_a_fault(rt: HostRuntime) -> Result<(), Fail> {
     let line = trace_of(FIRST_EVENT).len();
     let calls = EVENT_AT_FAULT.len() + line;
     flush_fails(&rt, rt.alloc(), EVENT_AT_FAULT, NEVER, calls)?;

@@ -95,15 +95,15 @@ fn stops(
     requires event_calls { events.failures ≡ 0 }
     requires trace_calls { trace.old.failures ≡ 0 }
 {
-    let Err(told) = run_calls(alloc, &mut config, &mut events, trace) else {
+    let Err(report) = run_calls(alloc, &mut config, &mut events, trace) else {
         return Err("the run is refused")?;
     };
-    assert_eq!(rt; format!(in alloc; "{told}")?.as_str(), fault);
+    assert_eq!(rt; format!(in alloc; "{report}")?.as_str(), fault);
     Ok(())
 }
 
 /// The run ends with this fault, and this is what it wrote.
-fn stops_behind(
+fn stops_after(
     rt: &impl Abort,
     alloc: Global,
     config: MemSource<'_>,
@@ -126,10 +126,10 @@ fn failed_reads(rt: HostRuntime) -> Result<(), Fail> {
     for (calls, written) in [(0, b"".as_slice()), (1, TRACE)] {
         let (config, events) = (MemSource::new(REMOTE), MemSource::new(EVENTS));
         let failing = config.failing_after(calls);
-        stops_behind(&rt, rt.alloc(), failing, events, "read failed", b"")?;
+        stops_after(&rt, rt.alloc(), failing, events, "read failed", b"")?;
         let (config, events) = (MemSource::new(REMOTE), MemSource::new(EVENTS));
         let failing = events.failing_after(calls);
-        stops_behind(&rt, rt.alloc(), config, failing, "read failed", written)?;
+        stops_after(&rt, rt.alloc(), config, failing, "read failed", written)?;
     }
     Ok(())
 }

@@ -29,6 +29,13 @@ impl Space for Board {
 
     ghost room = { λ b. 2 ^ 31 };
 
+    fn another(&self) -> Result<Self, AllocError> {
+        Ok(Board {
+            at: 1,
+            goal: self.goal,
+        })
+    }
+
     fn restart(&mut self) -> Result<(), AllocError> {
         self.at = 1;
         Ok(())
@@ -98,7 +105,7 @@ pub struct Ring {
     ghost low: { at < 9 },
 }
 
-/// The place behind another in the ring, or in the trap.
+/// The place after another in the ring, or in the trap.
 fn next(at: u8) -> u8
     requires { at < 9 }
     ensures is { result ≡ board.next at }
@@ -136,6 +143,10 @@ impl Space for Ring {
     ghost passes = { board.trap_passes };
 
     ghost room = { λ r. 2 ^ 31 };
+
+    fn another(&self) -> Result<Self, AllocError> {
+        Ok(Ring { at: 0 })
+    }
 
     fn restart(&mut self) -> Result<(), AllocError> {
         self.at = 0;
@@ -257,7 +268,7 @@ mod tests {
         }
     }
 
-    // 2 is come to by the first step, but counts only behind both
+    // 2 is come to by the first step, but counts only after both
     #[test]
     fn not_before_all_choices_are_made(rt: HostRuntime) {
         let doubled = Choice { step: 1, other: 1 };
@@ -468,7 +479,7 @@ mod tests {
     }
 
     /// Whether a number below 4 is told of a step in the ring. None where that is not known. The error is want of memory.
-    fn is_told(alloc: Global, most: u32, number: usize) -> Result<Option<bool>, AllocError> {
+    fn is_reported(alloc: Global, most: u32, number: usize) -> Result<Option<bool>, AllocError> {
         let mut walker = Ring { at: 0 };
         let mut base = Ring { at: 0 };
         let mut other = Ring { at: 0 };
@@ -492,11 +503,11 @@ mod tests {
 
     // bit 0 is told in the trap alone, and there bit 1 is told too
     #[test]
-    fn which_are_told(rt: HostRuntime) {
+    fn which_are_reported(rt: HostRuntime) {
         let alloc = rt.alloc();
-        assert!(rt; matches!(is_told(alloc, 50, 0).expect(&rt, "memory"), Some(true)));
-        assert!(rt; matches!(is_told(alloc, 50, 1).expect(&rt, "memory"), Some(false)));
-        assert!(rt; matches!(is_told(alloc, 50, 3).expect(&rt, "memory"), Some(true)));
-        assert!(rt; is_told(alloc, 4, 0).expect(&rt, "memory").is_none());
+        assert!(rt; matches!(is_reported(alloc, 50, 0).expect(&rt, "memory"), Some(true)));
+        assert!(rt; matches!(is_reported(alloc, 50, 1).expect(&rt, "memory"), Some(false)));
+        assert!(rt; matches!(is_reported(alloc, 50, 3).expect(&rt, "memory"), Some(true)));
+        assert!(rt; is_reported(alloc, 4, 0).expect(&rt, "memory").is_none());
     }
 }

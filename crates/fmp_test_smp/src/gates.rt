@@ -4,7 +4,7 @@ use fmp_smp::Gate;
 use std::hint;
 use std::sync::atomic::{AtomicBool, AtomicU32, Ordering};
 
-/// Each processor raises its flag before and behind its turn, and looks for the other's.
+/// Each processor raises its flag before and after its turn, and looks for the other's.
 #[derive(Drop)]
 pub struct Crossing {
     before: [AtomicBool; 2],

@@ -33,7 +33,7 @@ fn run_of<R: Threads + Wait + Sync, G: Gate + Sync>(
     Ok(replayed(alloc, run)?)
 }
 
-/// Two threads are in the gate at once, before their turns and behind them.
+/// Two threads are in the gate at once, before their turns and after them.
 #[test]
 fn threads_meet_around_the_lock(rt: HostRuntime) -> Result<(), Fail> {
     let gate = Crossing::new();

@@ -21,11 +21,11 @@ fn records_of(alloc: Global, history: &History<'_>) -> Result<Vec<Record>, Alloc
     let mut replay = history.replay(alloc)?;
     let mut records = Vec::new(alloc);
     for _ in 0..u32::MAX {
-        let mut told = Record::answer(Event::Tick(Proc::new(1)), None, Answer::Nothing);
-        if !replay.next(&mut told) {
+        let mut report = Record::answer(Event::Tick(Proc::new(1)), None, Answer::Nothing);
+        if !replay.next(&mut report) {
             break;
         }
-        records.push(told)?;
+        records.push(report)?;
     }
     Ok(records)
 }

@@ -79,10 +79,10 @@ fn stops<T: Threads + Wait + Sync + Abort>(
     requires script_calls { scripts.failures ≡ 0 }
     requires trace_calls { trace.failures ≡ 0 }
 {
-    let Err(told) = threaded(rt, alloc, config, scripts, &mut trace) else {
+    let Err(report) = threaded(rt, alloc, config, scripts, &mut trace) else {
         return Err("the run is refused")?;
     };
-    assert_eq!(rt; format!(in alloc; "{told}")?.as_str(), fault);
+    assert_eq!(rt; format!(in alloc; "{report}")?.as_str(), fault);
     assert_eq!(rt; trace.bytes().len(), written);
     Ok(())
 }

@@ -46,8 +46,8 @@ const REFUSED: [Refused; 30] = [
     (b"\n\nP2 tick\nP1 act_tsk(T9)\nP9 tick\n", UnknownName, 4),
 ];
 
-/// The fault behind the events that the feed has, at most so many, if there is one.
-fn fault_behind(feed: &mut EventFeed, names: &Names, most: usize) -> Option<TextFault> {
+/// The fault after the events that the feed has, at most so many, if there is one.
+fn fault_after(feed: &mut EventFeed, names: &Names, most: usize) -> Option<TextFault> {
     for _ in 0..=most {
         match feed.next(names) {
             Ok(Some(_)) => {}
@@ -58,7 +58,7 @@ fn fault_behind(feed: &mut EventFeed, names: &Names, most: usize) -> Option<Text
     None
 }
 
-/// The fault behind the pieces of this length of a text, or behind its end.
+/// The fault after the pieces of this length of a text, or after its end.
 fn fault_of(feed: &mut EventFeed, names: &Names, text: &[u8], length: usize) -> Option<TextFault>
     requires { 0 < length }
 {
@@ -66,7 +66,7 @@ fn fault_of(feed: &mut EventFeed, names: &Names, text: &[u8], length: usize) -> 
         if feed.ended() || feed.push(piece).is_err() {
             return None;
         }
-        let fault = fault_behind(feed, names, text.len());
+        let fault = fault_after(feed, names, text.len());
         if fault.is_some() {
             return fault;
         }
@@ -75,7 +75,7 @@ fn fault_of(feed: &mut EventFeed, names: &Names, text: &[u8], length: usize) -> 
         return None;
     }
     feed.close();
-    fault_behind(feed, names, text.len())
+    fault_after(feed, names, text.len())
 }
 
 /// Whether the feed answers its fault where it is asked for an event.

@@ -6,7 +6,7 @@ use fmp_calls::{
 };
 use fmp_codes::{Call, Event, Proc};
 use fmp_names::{Names, word_key};
-use fmp_text::quick_event;
+use fmp_text::{Echo, quick_event};
 use std::test::Fail;
 
 /// Whether a call is guessed by its name.
@@ -110,7 +110,8 @@ const COMMON: [&[u8]; 22] = [
 /// Whether the short way finds something, up to the end of the line: by its contract it is what the line says.
 fn is_short(names: &Names, line: &[u8]) -> bool {
     let mut event = Event::Tick(Proc::new(1));
-    match quick_event(names, line, &mut event) {
+    let mut echo = Echo::new();
+    match quick_event(names, line, &mut event, &mut echo) {
         Some(rest) => rest == b"\n".as_slice() || rest == b"\r\n".as_slice(),
         None => false,
     }
@@ -122,6 +123,40 @@ fn common_lines_are_read_the_short_way(rt: HostRuntime) -> Result<(), Fail> {
     with_machine(rt.alloc(), |names| {
         for line in &COMMON {
             assert!(rt; is_short(names, *line));
+        }
+        Ok(())
+    })
+}
+
+/// Lines whose events are written as they are printed, with 32 bytes at least from the event on, and the lengths of these texts.
+const OWN: [(&[u8], usize); 9] = [
+    (b"P1 tick\n# 32 bytes from the event on\n", 4),
+    (b"  P2\t ipi \n# 32 bytes from the event on\n", 3),
+    (b"P1 ret_hdr\r\n# 32 bytes from the event on\n", 7),
+    (b"P1 get_tid()\n# 32 bytes from the event\n", 9),
+    (b"P1 act_tsk(T2)\t\n# 32 bytes from it on\n", 11),
+    (b"P2 act_tsk(TSK_SELF)\n# 32 bytes from it\n", 17),
+    (b"P1 chg_pri(T1, 16)\n# 32 bytes from it on\n", 15),
+    (b"P1 snd_dtq(D1, -7)\n# 32 bytes from it on\n", 15),
+    (b"P1 twai_flg(F, 1, TWF_ANDW, 10)\n# more\n", 28),
+];
+
+/// How many bytes are kept of the event in a line.
+fn kept(names: &Names, line: &[u8]) -> usize {
+    let mut event = Event::Tick(Proc::new(1));
+    let mut echo = Echo::new();
+    match quick_event(names, line, &mut event, &mut echo) {
+        Some(_) => echo.len(),
+        None => 0,
+    }
+}
+
+/// No text may be kept at all, and then each event is printed anew.
+#[test]
+fn texts_as_they_are_printed_are_kept(rt: HostRuntime) -> Result<(), Fail> {
+    with_machine(rt.alloc(), |names| {
+        for (line, bytes) in &OWN {
+            assert!(rt; kept(names, *line) == *bytes);
         }
         Ok(())
     })

@@ -50,7 +50,7 @@ fn say_the_same(
     Ok((one.is_same(&other), other.is_same(&one)))
 }
 
-/// What stands before the text with a script and behind it, and whether it says the same as with the second script behind it.
+/// What stands before the text with a script and after it, and whether it says the same as with the second script after it.
 const OTHERS: [(&[u8], &[u8], bool); 4] = [
     (b"#\n", SECOND, true),
     (b"", b"", false),
@@ -66,8 +66,8 @@ fn are_the_same_as_said(
     rows: &[(&'static [u8], &'static [u8], bool)],
 ) -> Result<(), Fail> {
     let both = between(alloc, ONE, SECOND, b"")?;
-    for (before, behind, same) in rows {
-        let other = between(alloc, *before, ONE, *behind)?;
+    for (before, following, same) in rows {
+        let other = between(alloc, *before, ONE, *following)?;
         let found = say_the_same(alloc, names, both.as_slice(), other.as_slice())?;
         assert!(rt; found == (*same, *same));
     }

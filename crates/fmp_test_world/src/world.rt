@@ -283,8 +283,8 @@ fn tells(
     let Some(made) = records.get((receipt.number as usize).saturating_sub(1)) else {
         return Ok(false);
     };
-    let told = printed(alloc, config, receipt.event, receipt.answer)?;
-    Ok(told.as_slice() == printed(alloc, config, made.event, made.answer)?.as_slice())
+    let report = printed(alloc, config, receipt.event, receipt.answer)?;
+    Ok(report.as_slice() == printed(alloc, config, made.event, made.answer)?.as_slice())
 }
 
 /// Adds the numbers of the receipts of a seat as a line, or what stands in no story if one does not tell its record.
@@ -311,11 +311,11 @@ fn add_receipts(
 fn records_of(alloc: Global, mut replay: Replay<'_, '_>) -> Result<Vec<Record>, AllocError> {
     let mut records = Vec::new(alloc);
     for _ in 0..1000 {
-        let mut told = Record::answer(Event::Tick(Proc::new(1)), None, Answer::Nothing);
-        if !replay.next(&mut told) {
+        let mut report = Record::answer(Event::Tick(Proc::new(1)), None, Answer::Nothing);
+        if !replay.next(&mut report) {
             break;
         }
-        records.push(told)?;
+        records.push(report)?;
     }
     Ok(records)
 }
@@ -335,7 +335,7 @@ fn is_printed(
 }
 
 /// Whether the history and the receipts of a run are those of a story.
-fn is_told(
+fn is_reported(
     alloc: Global,
     run: &SmpRun<'_>,
     config: &Config,
@@ -373,7 +373,7 @@ fn end_of(
     let Some(run) = run else {
         return Ok("-");
     };
-    if !is_told(alloc, run, config, story)? {
+    if !is_reported(alloc, run, config, story)? {
         return Ok("?");
     }
     Ok(match run.ended {
@@ -502,7 +502,7 @@ fn exchanged_fit(
     ])
 }
 
-/// Whether a world is quiet behind a story alone, and whether others fit then.
+/// Whether a world is quiet after a story alone, and whether others fit then.
 fn quiet_and_fit(
     alloc: Global,
     config: &Config,

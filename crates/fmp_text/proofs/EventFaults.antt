@@ -6,14 +6,14 @@ use Rattle.std.specs.Option.{ok_or, option_map_or, option_or}
 use Rattle.std.specs.Str.{bytes_eq}
 use Rattle.std.proofs.lemmas.Bool.{cases_Bool, and_parts, and_from, or_cases, eq-eqb, eqb-true, le-leb, false≢true, or_parts}
 use Rattle.std.proofs.lemmas.Option.{cond_some}
-use Rattle.fmp_bytes.specs.Bytes.{is_of, prefix, after, behind, pieces_of, is_identifier}
+use Rattle.fmp_bytes.specs.Bytes.{is_of, prefix, after, following, pieces_of, is_identifier}
 use Rattle.fmp_bytes.specs.Numerals.{are_digits, is_zero_led, number_of, signed_of, unsigned_limited}
 use Rattle.fmp_bytes.specs.declared.classes.Class.TheVariants.{Blank, Word, Line}
 use Rattle.fmp_bytes.specs.declared.numerals.Number.{Number}
 use Rattle.fmp_bytes.proofs.Cutting.{pieces_of-join, join-pieces_of, some-pieces_of}
 use Rattle.fmp_bytes.proofs.Parsed.{and_then_parts, ok_or_parts, some_is, bind_parts}
 use Rattle.fmp_bytes.proofs.Prefixes.{list_all-join, list_all-weaker}
-use Rattle.fmp_bytes.proofs.Spelled.{behind-same}
+use Rattle.fmp_bytes.proofs.Spelled.{following-same}
 use Rattle.fmp_bytes.proofs.Words.{is_word, not_word}
 use Rattle.fmp_bytes.specs.Results.{◌>>=◌}
 use Rattle.fmp_calls.specs.Kinds.{is_of_kind, are_of_kinds}
@@ -32,8 +32,8 @@ use Rattle.fmp_names.specs.Constants.{constant_in, value_of}
 use Rattle.fmp_names.specs.Names.{NameLists, AreValid, is_object, is_constant}
 use Rattle.fmp_names.specs.declared.constants.Constant.{Constant}
 use Rattle.fmp_names.specs.declared.constants.Constant.TheVariants.{TskSelf, TpriSelf, TpriIni, TprcIni, TmoPol, TmoFevr, TwfAndw, TwfOrw}
-use Rattle.fmp_text.specs.Argument.{is_argument, tokens_in, arguments_in, enclosed_in, arguments_behind, ranged, number_value, constant_of, object_of, named_value, judged_number, value_at}
-use Rattle.fmp_text.specs.EventFaults.{first_word, behind_word, ArePieces, AreArguments, HasForm, ArgumentFault, ArgumentsFault, CallFault, HappeningFault, IsProcessorWord, NamesProcessor, CoreFault, EventFault}
+use Rattle.fmp_text.specs.Argument.{is_argument, tokens_in, arguments_in, enclosed_in, arguments_after, ranged, number_value, constant_of, object_of, named_value, judged_number, value_at}
+use Rattle.fmp_text.specs.EventFaults.{first_word, following_word, ArePieces, AreArguments, HasForm, ArgumentFault, ArgumentsFault, CallFault, HappeningFault, IsProcessorWord, NamesProcessor, CoreFault, EventFault}
 use Rattle.fmp_text.specs.Grammar.{AreBlank, SpellsValue}
 use Rattle.fmp_text.specs.Lines.{digits_of, processor_numbered, processor_in, alone, event_of, event_at, event_in, is_skipped, without_return, line_event}
 use Rattle.fmp_text.specs.Reading.{named_call, values_at, call_with, call_after, call_at}
@@ -53,7 +53,7 @@ err_is a b e = cc
 pub ok_is_none : {A : Type 0} (a : A) (b : TextKind) → ◌≡◌ {A = Result A TextKind} (Ok a) (Err b) → ⊥
 ok_is_none a b e = absurd cc
 
--- reading on that had a fault had it first, or behind
+-- reading on that had a fault had it first, or after
 bind_fault : {A B : Type 0} (r : Result A TextKind) (f : A → Result B TextKind) (fault : TextKind) → (r >>= f) ≡ Err fault → (r ≡ Err fault) ⊎ ((a : A) × (r ≡ Ok a) × (f a ≡ Err fault))
 bind_fault (Ok a) f fault e = inr (a, refl, e)
 bind_fault (Err other) f fault e = inl (ap (λ (k : TextKind). Err k) (err_is other fault e))
@@ -183,10 +183,10 @@ not_blank_joined : (token : List ℕ) (tokens pieces : List (List ℕ)) → AreP
 not_blank_joined token tokens [] s all = absurd s
 not_blank_joined token tokens (piece ∷ []) s all =
     let padded = s.0 in
-    not_all_blank padded.before token padded.behind (token_bytes token s.1) (ap (list_all (is_of Blank)) (sym padded.parts) ∙ all)
+    not_all_blank padded.before token padded.following (token_bytes token s.1) (ap (list_all (is_of Blank)) (sym padded.parts) ∙ all)
 not_blank_joined token tokens (piece ∷ next ∷ pieces) s all =
     let padded = s.0 in
-    not_all_blank padded.before token padded.behind (token_bytes token s.1) (ap (list_all (is_of Blank)) (sym padded.parts) ∙ first_blank piece (44 ∷ join_with_byte 44 (next ∷ pieces)) all)
+    not_all_blank padded.before token padded.following (token_bytes token s.1) (ap (list_all (is_of Blank)) (sym padded.parts) ∙ first_blank piece (44 ∷ join_with_byte 44 (next ∷ pieces)) all)
   where
     first_blank : (xs ys : List ℕ) → list_all (is_of Blank) (xs ++ ys) ≡ true → list_all (is_of Blank) xs ≡ true
     first_blank [] ys all = refl
@@ -212,8 +212,8 @@ no_tokens : (tokens : List (List ℕ)) → length tokens ≡ 0 → tokens ≡ []
 no_tokens [] e = refl
 no_tokens (t ∷ tokens) e = absurd (omega (arith, e))
 
-pub form_read : (call : Call) (tokens : List (List ℕ)) (text : List ℕ) → HasForm call tokens text → arguments_behind 4 (is_bare call) text ≡ Some tokens
-unfolding arguments_behind
+pub form_read : (call : Call) (tokens : List (List ℕ)) (text : List ℕ) → HasForm call tokens text → arguments_after 4 (is_bare call) text ≡ Some tokens
+unfolding arguments_after
 form_read call tokens text (many, inl s) =
     let bare = s.0 in let blank = s.1 in
     let none = no_tokens tokens (many ∙ ap length (bare_alone call bare).0) in
@@ -222,7 +222,7 @@ form_read call tokens text (many, inr s) =
     let bare = s.0 in let e = s.1 in let parts = e.parts in
     let few : length tokens ≤ 4 = omega (arith, many, length-kinds_of-le call) in
     let read = arguments_formed tokens e.inner few e.arguments in
-    rw (bare, parts, enclosed_read e.between e.inner e.behind e.between_blank read.1 e.behind_blank) read.0
+    rw (bare, parts, enclosed_read e.between e.inner e.following e.between_blank read.1 e.after_blank) read.0
 
 pieces_are : (pieces tokens : List (List ℕ)) → tokens_in pieces ≡ Some tokens → ArePieces tokens pieces × (list_all is_argument tokens ≡ true)
 pieces_are [] tokens e = let none : [] ≡ tokens = cc in subst (λ (ts : List (List ℕ)). ArePieces ts [] × (list_all is_argument ts ≡ true)) none (tt, refl)
@@ -251,8 +251,8 @@ arguments_are tokens inner e =
         no_piece (piece ∷ pieces) e some = let p = tokens_parts piece pieces [] e in omega (arith, ap length p.4)
     some_tokens (t ∷ tokens) e = let p = pieces_are (pieces_of 44 inner) (t ∷ tokens) e in ((pieces_of 44 inner, sym (join-pieces_of 44 inner), p.0), p.1)
 
-pub form_is : (call : Call) (tokens : List (List ℕ)) (text : List ℕ) → arguments_behind 4 (is_bare call) text ≡ Some tokens → length tokens ≡ length (kinds_of call) → HasForm call tokens text × (list_all is_argument tokens ≡ true)
-unfolding arguments_behind
+pub form_is : (call : Call) (tokens : List (List ℕ)) (text : List ℕ) → arguments_after 4 (is_bare call) text ≡ Some tokens → length tokens ≡ length (kinds_of call) → HasForm call tokens text × (list_all is_argument tokens ≡ true)
+unfolding arguments_after
 form_is call tokens text e many =
     elim (cases_Bool (is_bare call)) [
       | inl bare ↦
@@ -262,16 +262,16 @@ form_is call tokens text e many =
           let i = and_then_parts (enclosed_in text) (arguments_in 4) tokens (rw long at e) in
           let s = enclosed_spelled text i.0 i.1 in
           let a = arguments_are tokens i.0 i.2 in
-          ((many, inr (long, record { between = s.between; inner = i.0; behind = s.behind; between_blank = s.between_blank; behind_blank = s.behind_blank; arguments = a.0; parts = s.parts })), a.1)
+          ((many, inr (long, record { between = s.between; inner = i.0; following = s.following; between_blank = s.between_blank; after_blank = s.after_blank; arguments = a.0; parts = s.parts })), a.1)
     ]
 
 -- ---- a call
 
 pub call_fault : (names : NameLists) (call : Call) (text : List ℕ) (fault : TextKind) → AreValid names → call_after names call text ≡ Err fault → CallFault names call text fault
 unfolding call_after call_with
-call_fault names call text fault valid e = by (arguments_behind 4 (is_bare call) text) refl e
+call_fault names call text fault valid e = by (arguments_after 4 (is_bare call) text) refl e
   where
-    formed : (tokens : List (List ℕ)) → arguments_behind 4 (is_bare call) text ≡ Some tokens → call_with names call tokens ≡ Err fault → CallFault names call text fault
+    formed : (tokens : List (List ℕ)) → arguments_after 4 (is_bare call) text ≡ Some tokens → call_with names call tokens ≡ Err fault → CallFault names call text fault
     formed tokens is e =
         elim (cases_Bool (eqb (length tokens) (length (kinds_of call)))) [
           | inr f ↦
@@ -297,7 +297,7 @@ call_fault names call text fault valid e = by (arguments_behind 4 (is_bare call)
               )
         ]
 
-    by : (found : Option (List (List ℕ))) → arguments_behind 4 (is_bare call) text ≡ found → (ok_or found WrongArguments >>= λ tokens. call_with names call tokens) ≡ Err fault → CallFault names call text fault
+    by : (found : Option (List (List ℕ))) → arguments_after 4 (is_bare call) text ≡ found → (ok_or found WrongArguments >>= λ tokens. call_with names call tokens) ≡ Err fault → CallFault names call text fault
     by None is e = inl (sym (err_is {A = Call} WrongArguments fault e), λ tokens form. some_none tokens (sym (form_read call tokens text form) ∙ is))
     by (Some tokens) is e = formed tokens is e
 
@@ -324,7 +324,7 @@ call_word names text fault valid tick ipi e =
             λ call is. some_none _ (sym (named-text_of call) ∙ ap (λ (w : List ℕ). named w) is ∙ p.0),
           )
       | inr good ↦
-          inr (inr (good.0, text_of-named (prefix Word (after Blank text)) good.0 (ok_or_parts _ BadWord good.0 good.1), call_fault names good.0 (behind_word text) fault valid good.2))
+          inr (inr (good.0, text_of-named (prefix Word (after Blank text)) good.0 (ok_or_parts _ BadWord good.0 good.1), call_fault names good.0 (following_word text) fault valid good.2))
     ]
 
 happening_fault : (names : NameLists) (processor : Proc) (text : List ℕ) (fault : TextKind) → AreValid names → event_of names processor (after Blank text) ≡ Err fault → HappeningFault names text fault
@@ -332,12 +332,12 @@ unfolding event_of
 happening_fault names processor text fault valid e =
     elim (cases_Bool (bytes_eq (prefix Word (after Blank text)) (codes "tick"))) [
       | inl t ↦
-          let a = alone_fault (events.Tick processor) (behind_word text) fault (rw t at e) in
+          let a = alone_fault (events.Tick processor) (following_word text) fault (rw t at e) in
           inr (inl (a.0, inl (is_word (first_word text) (codes "tick") t), a.1))
       | inr f ↦
           elim (cases_Bool (bytes_eq (prefix Word (after Blank text)) (codes "ipi"))) [
             | inl t ↦
-                let a = alone_fault (events.Ipi processor) (behind_word text) fault (rw (f, t) at e) in
+                let a = alone_fault (events.Ipi processor) (following_word text) fault (rw (f, t) at e) in
                 inr (inl (a.0, inr (is_word (first_word text) (codes "ipi") t), a.1))
             | inr g ↦
                 elim (bind_fault (call_at names (after Blank text)) (λ call. Ok (events.Call processor call)) fault (rw (f, g) at e)) [
@@ -356,7 +356,7 @@ processor_fault names word fault valid e =
           let p = or_fault (digits_of word) BadWord fault bad in
           inl (p.1, λ w. no_digits w.0 w.1 w.2 p.0)
       | inr good ↦
-          let d = digits_parts word good.0 (behind 80 word) refl (ok_or_parts (digits_of word) BadWord good.0 good.1) in
+          let d = digits_parts word good.0 (following 80 word) refl (ok_or_parts (digits_of word) BadWord good.0 good.1) in
           inr (
             (good.0, d.0, d.1),
             (
@@ -373,14 +373,14 @@ processor_fault names word fault valid e =
 
     no_digits : (digits : List ℕ) → word ≡ 80 ∷ digits → are_digits 10 digits ≡ true → digits_of word ≡ None → ⊥
     no_digits digits is are none =
-        let found : digits_of (80 ∷ digits) ≡ Some digits = rw (behind-same 80 digits, are) refl in
+        let found : digits_of (80 ∷ digits) ≡ Some digits = rw (following-same 80 digits, are) refl in
         some_none digits (sym found ∙ ap digits_of (sym is) ∙ none)
 
 processor_word : (names : NameLists) (word : List ℕ) (processor : Proc) → processor_in names word ≡ Ok processor → IsProcessorWord word
 unfolding processor_in digits_of
 processor_word names word processor e =
     let p = bind_parts (ok_or (digits_of word) BadWord) _ processor e in
-    let d = digits_parts word p.0 (behind 80 word) refl (ok_or_parts (digits_of word) BadWord p.0 p.1) in
+    let d = digits_parts word p.0 (following 80 word) refl (ok_or_parts (digits_of word) BadWord p.0 p.1) in
     (p.0, d.0, d.1)
 
 core_fault : (names : NameLists) (text : List ℕ) (fault : TextKind) → AreValid names → event_in names text ≡ Err fault → CoreFault names text fault
@@ -397,7 +397,7 @@ core_fault names text fault valid e =
                 ]
             | inr good ↦
                 let w = processor_spelled names (first_word text) good.0 good.1 in
-                inr (t, inr (processor_word names (first_word text) good.0 good.1, inr ((w.number, w.least, w.most, w.parts), happening_fault names good.0 (behind_word text) fault valid good.2)))
+                inr (t, inr (processor_word names (first_word text) good.0 good.1, inr ((w.number, w.least, w.most, w.parts), happening_fault names good.0 (following_word text) fault valid good.2)))
           ]
     ]
 

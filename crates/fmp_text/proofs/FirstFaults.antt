@@ -1,4 +1,4 @@
--- A fault of an event text stands in its line: the lines before it are read without one, and nothing behind it is.
+-- A fault of an event text stands in its line: the lines before it are read without one, and nothing after it is.
 use Rattle.std.proofs.Common.{◌≡◌, ℕ, ◌+◌, ◌<◌, ◌≤◌, Bool, true, false, not, ◌⊎◌, cond, eqb, ltb, inl, inr, List, [], ◌∷◌, ◌++◌, length, Option, Some, None, Result, Ok, Err, refl, sym, ap, subst, ◌∙◌, arith, length-append, append_assoc}
 use Rattle.std.specs.List.{list_all, join_with_byte}
 use Rattle.std.proofs.lemmas.Bool.{and_parts, ltb-true, ltb-false, lt-ltb, le-ltb, false≢true}
@@ -98,16 +98,16 @@ module _ (names : NameLists) (valid : AreValid names) (before : List (List ℕ))
       few = omega (arith, few, length-append events (event ∷ []));
       reads = λ more.
           let room = lt-ltb (length events) most_events few in
-          let behind = reading_from names false (length before + 1) (length events + 1) [] more in
+          let following = reading_from names false (length before + 1) (length events + 1) [] more in
           let without = reading_from names false (length before + 1) (length events) [] more in
-          let taken : after_line (length before + 1) (length events) (line_event names line) without behind ≡ with_events (event ∷ []) behind = rw (says, room) refl in
+          let taken : after_line (length before + 1) (length events) (line_event names line) without following ≡ with_events (event ∷ []) following = rw (says, room) refl in
           let count : length events + 1 ≡ length (events ++ (event ∷ [])) = omega (arith, length-append events (event ∷ [])) in
-          ap (reading_from names false 0 0 []) (lines_text-push before line more) ∙ reads_line more ∙ ap (with_events events) taken ∙ with_events-twice events event behind
+          ap (reading_from names false 0 0 []) (lines_text-push before line more) ∙ reads_line more ∙ ap (with_events events) taken ∙ with_events-twice events event following
           ∙ ap (λ (n : ℕ). with_events (events ++ (event ∷ [])) (reading_from names false n (length events + 1) [] more)) (length-push before line)
           ∙ ap (λ (n : ℕ). with_events (events ++ (event ∷ [])) (reading_from names false (length (before ++ (line ∷ []))) n [] more)) count;
     }
 
-    module _ (kind : TextKind) (judged : (without behind : Reading) → after_line (length before + 1) (length events) (line_event names line) without behind ≡ fault_at kind (length before + 1)) where
+    module _ (kind : TextKind) (judged : (without following : Reading) → after_line (length before + 1) (length events) (line_event names line) without following ≡ fault_at kind (length before + 1)) where
       fault : TextFault
       fault = record { kind = kind; line = length before + 1 }
 
@@ -115,10 +115,10 @@ module _ (names : NameLists) (valid : AreValid names) (before : List (List ℕ))
       reads_fault : (more : List ℕ) → reading_from names false 0 0 [] (lines_text before ++ (line ++ (10 ∷ more))) ≡ record { events = events; fault = Some (record { kind = kind; line = length before + 1 }) }
       reads_fault more = reads_line more ∙ ap (with_events events) (judged _ _) ∙ with_fault events kind (length before + 1)
 
-      told : (more : List ℕ) → length (lines_text before ++ (line ++ (10 ∷ more))) ≤ most_bytes
+      report : (more : List ℕ) → length (lines_text before ++ (line ++ (10 ∷ more))) ≤ most_bytes
           → reading_of names (lines_text before ++ (line ++ (10 ∷ more))) ≡ record { events = events; fault = Some (record { kind = kind; line = length before + 1 }) }
       unfolding reading_of
-      told more fits = let short = le-ltb most_bytes (length (lines_text before ++ (line ++ (10 ∷ more)))) fits in rw short (reads_fault more)
+      report more fits = let short = le-ltb most_bytes (length (lines_text before ++ (line ++ (10 ∷ more)))) fits in rw short (reads_fault more)
 
       stops : IsFaultOfLine names events line kind → (text rest : List ℕ) → text ≡ lines_text before ++ (line ++ (10 ∷ rest)) → length text ≤ most_bytes → Found names text (record { kind = kind; line = length before + 1 })
       stops is text rest parts fits =
@@ -135,8 +135,8 @@ module _ (names : NameLists) (valid : AreValid names) (before : List (List ℕ))
               number = refl;
               kind = is;
               spelled = spelled (omega (arith, fits, long, length-append (lines_text before) (line ++ (10 ∷ rest))));
-              never = λ more others s. no_fault events others (record { kind = kind; line = length before + 1 }) (sym (reading_of-spelled names _ others valid s) ∙ told more s.short);
-              told = told;
+              never = λ more others s. no_fault events others (record { kind = kind; line = length before + 1 }) (sym (reading_of-spelled names _ others valid s) ∙ report more s.short);
+              report = report;
             });
           }
 
@@ -168,21 +168,21 @@ module _ (names : NameLists) (valid : AreValid names) (before : List (List ℕ))
             });
           }
 
--- what is found behind these lines, where the others are left
-abbrev Behind : NameLists → List ℕ → TextFault → List (List ℕ) → Type 0
-Behind names text fault lines =
+-- what is found after these lines, where the others are left
+abbrev Following : NameLists → List ℕ → TextFault → List (List ℕ) → Type 0
+Following names text fault lines =
     (before : List (List ℕ)) (events : List Event) → After names before events → text ≡ lines_text before ++ join_with_byte 10 lines
     → (reading_from names false (length before) (length events) [] (join_with_byte 10 lines)).fault ≡ Some fault → Found names text fault
 
 module _ (names : NameLists) (valid : AreValid names) (text : List ℕ) (fault : TextFault) (fits : length text ≤ most_bytes) where
-  module _ (line next : List ℕ) (lines : List (List ℕ)) (here : list_all (λ b. not (eqb b 10)) line ≡ true) (more : Behind names text fault (next ∷ lines))
+  module _ (line next : List ℕ) (lines : List (List ℕ)) (here : list_all (λ b. not (eqb b 10)) line ≡ true) (more : Following names text fault (next ∷ lines))
       (before : List (List ℕ)) (events : List Event) (after : After names before events) (parts : text ≡ lines_text before ++ (line ++ (10 ∷ join_with_byte 10 (next ∷ lines))))
       (e : (after_line (length before + 1) (length events) (line_event names line) (reading_from names false (length before + 1) (length events) [] (join_with_byte 10 (next ∷ lines)))
       (reading_from names false (length before + 1) (length events + 1) [] (join_with_byte 10 (next ∷ lines)))).fault ≡ Some fault) where
     pushed : text ≡ lines_text (before ++ (line ∷ [])) ++ join_with_byte 10 (next ∷ lines)
     pushed = parts ∙ sym (lines_text-push before line (join_with_byte 10 (next ∷ lines)))
 
-    stopped : (kind : TextKind) → IsFaultOfLine names events line kind → ((without behind : Reading) → after_line (length before + 1) (length events) (line_event names line) without behind ≡ fault_at kind (length before + 1)) → Found names text fault
+    stopped : (kind : TextKind) → IsFaultOfLine names events line kind → ((without following : Reading) → after_line (length before + 1) (length events) (line_event names line) without following ≡ fault_at kind (length before + 1)) → Found names text fault
     stopped kind is judged =
         let same : record { kind = kind; line = length before + 1 } ≡ fault = same_fault (record { kind = kind; line = length before + 1 }) fault (sym (ap (λ (r : Reading). r.fault) (judged _ _)) ∙ e) in
         subst (Found names text) same (stops names valid before events after line here kind judged is text (join_with_byte 10 (next ∷ lines)) parts fits)
@@ -190,7 +190,7 @@ module _ (names : NameLists) (valid : AreValid names) (text : List ℕ) (fault :
     one_event : (event : Event) (room : Bool) → ltb (length events) most_events ≡ room → line_event names line ≡ Ok (Some event) → Found names text fault
     one_event event false room says =
         let full : length events ≡ most_events = omega (arith, after.few, ltb-false (length events) most_events room) in
-        stopped TooMany (inr (refl, full, (event, line_spelled names line (Some event) says))) (λ without behind. rw (says, room) refl)
+        stopped TooMany (inr (refl, full, (event, line_spelled names line (Some event) says))) (λ without following. rw (says, room) refl)
     one_event event true room says =
         let e2 = rw (says, room) at e in
         let count : length events + 1 ≡ length (events ++ (event ∷ [])) = omega (arith, length-append events (event ∷ [])) in
@@ -204,9 +204,9 @@ module _ (names : NameLists) (valid : AreValid names) (text : List ℕ) (fault :
         more (before ++ (line ∷ [])) events (skips names valid before events after line here says) pushed
         (ap (λ (n : ℕ). (reading_from names false n (length events) [] (join_with_byte 10 (next ∷ lines))).fault) (sym (length-push before line)) ∙ e2)
     one_line (Ok (Some event)) says = one_event event (ltb (length events) most_events) refl says
-    one_line (Err kind) says = stopped kind (inl (event_fault names line kind valid says)) (λ without behind. rw says refl)
+    one_line (Err kind) says = stopped kind (inl (event_fault names line kind valid says)) (λ without following. rw says refl)
 
-  find : (lines : List (List ℕ)) → 0 < length lines → AreApart lines → Behind names text fault lines
+  find : (lines : List (List ℕ)) → 0 < length lines → AreApart lines → Following names text fault lines
   find [] some apart before events after parts e = absurd (omega (arith, some))
   find (last ∷ []) some apart before events after parts e =
       ends names valid before events after text last fault (and_parts (list_all (λ b. not (eqb b 10)) last) true apart).0 parts fits e

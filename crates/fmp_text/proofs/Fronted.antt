@@ -13,8 +13,8 @@ use Rattle.fmp_codes.specs.declared.records.Event.{Event}
 use Rattle.fmp_codes.specs.declared.records.Event.TheVariants as events
 use Rattle.fmp_bytes.proofs.Prefixes.{list_all-both, list_all-weaker}
 use Rattle.fmp_bytes.specs.declared.classes.Class.TheVariants.{Blank, Line}
-use Rattle.fmp_bytes.specs.Bytes.{is_of, behind}
-use Rattle.fmp_bytes.proofs.Spelled.{behind_is}
+use Rattle.fmp_bytes.specs.Bytes.{is_of, following}
+use Rattle.fmp_bytes.proofs.Spelled.{after_is}
 use Rattle.fmp_calls.specs.declared.kinds.ArgumentKind.{ArgumentKind}
 use Rattle.fmp_calls.specs.declared.kinds.Value.{Value}
 use Rattle.fmp_calls.specs.Kinds.{is_of_kind, are_of_kinds}
@@ -25,7 +25,7 @@ use Rattle.fmp_names.proofs.Listed.{list_all-at}
 use Rattle.fmp_text.specs.Argument.{ranged, constant_of}
 use Rattle.fmp_text.specs.Grammar.{AreBlank, Padded, IsNumber, SpellsValue, SpellsPieces, SpellsArguments, SpellsEnclosed, FollowsName, SpellsCall}
 use Rattle.fmp_text.specs.TextGrammar.{Ended, IsAlone, OnProcessor, SpellsEvent}
-use Rattle.fmp_text.specs.Fronts.{IsFront, IsBehindBlank, IsBehindBlanks, IsBehindEnd, IsBehindComma, IsClosed, IsMade, IsNumberOf, Happens}
+use Rattle.fmp_text.specs.Fronts.{IsFront, IsAfterBlank, IsAfterBlanks, IsAfterEnd, IsAfterComma, IsClosed, IsMade, IsNumberOf, Happens}
 use Rattle.fmp_text.specs.Events.{HasNoFeed, IsFirstLine}
 use Rattle.fmp_text.proofs.EventFaults.{value_kind}
 use Rattle.fmp_text.proofs.SpelledEvents.{line_of_spelled}
@@ -44,9 +44,9 @@ digit_head text some least =
     head_tail text some ∙ ap (λ (b : ℕ). b ∷ take (length text - 1) (drop 1 text)) (sym same)
 
 -- what follows a byte
-pub behind_some : (byte : ℕ) (text : List ℕ) (found : Option (Bor (List ℕ))) → option_copied found ≡ behind byte text → IfSome found (λ rest. text ≡ byte ∷ rest.now)
-behind_some byte text (Some rest) e = behind_is byte text rest.now (sym e)
-behind_some byte text None e = tt
+pub after_some : (byte : ℕ) (text : List ℕ) (found : Option (Bor (List ℕ))) → option_copied found ≡ following byte text → IfSome found (λ rest. text ≡ byte ∷ rest.now)
+after_some byte text (Some rest) e = after_is byte text rest.now (sym e)
+after_some byte text None e = tt
 
 -- one digit more
 pub decimal_more : (text rest more : List ℕ) (n digit : ℕ) → 0 < n → n < 10 ^ 8 → digit ≤ 9 → rest ≡ (48 + digit) ∷ more → text ≡ decimal n ++ rest
@@ -76,14 +76,14 @@ front_constant names kind text rest value f = record { token = f.token; spelled 
 -- ---- arguments
 
 alone : (token : List ℕ) → Padded token token
-alone token = record { before = []; behind = []; before_blank = refl; behind_blank = refl; parts = sym (append-nil token) }
+alone token = record { before = []; following = []; before_blank = refl; after_blank = refl; parts = sym (append-nil token) }
 
 pub closed_one : (names : NameLists) (kind : ArgumentKind) (value : Value) (text rest end : List ℕ) → IsFront (SpellsValue names kind) text value rest → rest ≡ 41 ∷ end
     → IsClosed names (kind ∷ []) (value ∷ []) text end
 closed_one names kind value text rest end f closes =
     record { inner = f.token; arguments = (f.token ∷ [], refl, ((f.token, alone f.token, f.spelled), tt)); parts = f.parts ∙ ap (λ (r : List ℕ). f.token ++ r) closes }
 
-pub comma_space : (text rest more : List ℕ) → text ≡ 44 ∷ rest → rest ≡ 32 ∷ more → IsBehindComma text more
+pub comma_space : (text rest more : List ℕ) → text ≡ 44 ∷ rest → rest ≡ 32 ∷ more → IsAfterComma text more
 unfolding is_of
 comma_space text rest more comma space = record { blanks = 32 ∷ []; blank = refl; parts = comma ∙ ap (λ (r : List ℕ). 44 ∷ r) space }
 
@@ -95,10 +95,10 @@ join_blanks blanks piece (next ∷ pieces) = append_assoc blanks piece (44 ∷ j
 padded_more : (blanks token piece : List ℕ) → AreBlank blanks → Padded token piece → Padded token (blanks ++ piece)
 padded_more blanks token piece blank p = record {
   before = blanks ++ p.before;
-  behind = p.behind;
+  following = p.following;
   before_blank = list_all-both (is_of Blank) blanks p.before blank p.before_blank;
-  behind_blank = p.behind_blank;
-  parts = ap (λ (r : List ℕ). blanks ++ r) p.parts ∙ sym (append_assoc blanks p.before (token ++ p.behind));
+  after_blank = p.after_blank;
+  parts = ap (λ (r : List ℕ). blanks ++ r) p.parts ∙ sym (append_assoc blanks p.before (token ++ p.following));
 }
 
 -- a list of pieces with one more in front
@@ -114,19 +114,19 @@ more_pieces names kind next kinds value (other ∷ others) token blanks (piece �
     )
 
 pub closed_more : (names : NameLists) (kind next : ArgumentKind) (kinds : List ArgumentKind) (value : Value) (others : List Value) (text rest more end : List ℕ)
-    → IsFront (SpellsValue names kind) text value rest → IsBehindComma rest more → IsClosed names (next ∷ kinds) others more end → IsClosed names (kind ∷ next ∷ kinds) (value ∷ others) text end
+    → IsFront (SpellsValue names kind) text value rest → IsAfterComma rest more → IsClosed names (next ∷ kinds) others more end → IsClosed names (kind ∷ next ∷ kinds) (value ∷ others) text end
 closed_more names kind next kinds value others text rest more end f c closed =
     let a = closed.arguments in
-    let behind : rest ≡ (44 ∷ (c.blanks ++ join_with_byte 44 a.0)) ++ (41 ∷ end) =
+    let following : rest ≡ (44 ∷ (c.blanks ++ join_with_byte 44 a.0)) ++ (41 ∷ end) =
     c.parts ∙ ap (λ (r : List ℕ). 44 ∷ (c.blanks ++ r)) (closed.parts ∙ ap (λ (i : List ℕ). i ++ (41 ∷ end)) a.1) ∙ ap (λ (r : List ℕ). 44 ∷ r) (sym (append_assoc c.blanks (join_with_byte 44 a.0) (41 ∷ end))) in
     record {
       inner = f.token ++ (44 ∷ (c.blanks ++ join_with_byte 44 a.0));
       arguments = more_pieces names kind next kinds value others f.token c.blanks a.0 f.spelled c.blank a.2;
-      parts = f.parts ∙ ap (λ (r : List ℕ). f.token ++ r) behind ∙ sym (append_assoc f.token (44 ∷ (c.blanks ++ join_with_byte 44 a.0)) (41 ∷ end));
+      parts = f.parts ∙ ap (λ (r : List ℕ). f.token ++ r) following ∙ sym (append_assoc f.token (44 ∷ (c.blanks ++ join_with_byte 44 a.0)) (41 ∷ end));
     }
 
 -- the first of some kinds and the others
-kinds_at : (ks : List ArgumentKind) (k : ℕ) (d : ArgumentKind) → k < length ks → drop k ks ≡ get_or ks k d ∷ drop (k + 1) ks
+pub kinds_at : (ks : List ArgumentKind) (k : ℕ) (d : ArgumentKind) → k < length ks → drop k ks ≡ get_or ks k d ∷ drop (k + 1) ks
 kinds_at ks k d low = drop-cons ks k d low ∙ ap (λ (n : ℕ). get_or ks k d ∷ drop n ks) (let next : suc k ≡ k + 1 = omega arith in next)
 
 -- the text of these arguments goes on with the arguments of the other kinds
@@ -138,8 +138,8 @@ goes_first names kinds text more end closed = closed
 
 module _ (names : NameLists) (kinds : List ArgumentKind) (values : List Value) (k : ℕ) (d : ArgumentKind) (value : Value) (text here rest : List ℕ) (low : k < length kinds) (room : k < length values)
     (goes : GoesOn names kinds (take k values) (drop k kinds) text here) (f : IsFront (SpellsValue names (get_or kinds k d)) here value rest) where
-  -- one more argument with a comma behind it
-  pub goes_next : (more : List ℕ) → k + 1 < length kinds → IsBehindComma rest more → GoesOn names kinds (take (k + 1) (set values k value)) (drop (k + 1) kinds) text more
+  -- one more argument with a comma after it
+  pub goes_next : (more : List ℕ) → k + 1 < length kinds → IsAfterComma rest more → GoesOn names kinds (take (k + 1) (set values k value)) (drop (k + 1) kinds) text more
   goes_next more next comma vs end closed =
       let tail = kinds_at kinds (k + 1) d next in
       let whole = closed_more names (get_or kinds k d) _ _ value vs here rest more end f comma (subst (λ (ks : List ArgumentKind). IsClosed names ks vs more end) tail closed) in
@@ -147,7 +147,7 @@ module _ (names : NameLists) (kinds : List ArgumentKind) (values : List Value) (
       let all = sym (append_assoc (take k values) (value ∷ []) vs) ∙ ap (λ (l : List Value). l ++ vs) (sym (take_more_set values k value room)) in
       subst (λ (l : List Value). IsClosed names kinds l text end) all (goes (value ∷ vs) end kept)
 
-  -- the last argument, with the closing parenthesis behind it
+  -- the last argument, with the closing parenthesis after it
   pub goes_last : (found : Option (Bor (List ℕ))) → k + 1 ≡ length kinds → IfSome found (λ end. rest ≡ 41 ∷ end.now)
       → IfSome found (λ end. IsClosed names kinds (take (length kinds) (set values k value)) text end.now)
   goes_last (Some end) last closes =
@@ -169,22 +169,22 @@ goes_none names kinds values k text here None last goes closes = tt
 
 -- ---- blanks
 
-pub behind_space : (text rest : List ℕ) → text ≡ 32 ∷ rest → IsBehindBlank text rest
+pub after_space : (text rest : List ℕ) → text ≡ 32 ∷ rest → IsAfterBlank text rest
 unfolding is_of
-behind_space text rest e = (32, refl, e)
+after_space text rest e = (32, refl, e)
 
-pub behind_tab : (text : List ℕ) (found : Option (Bor (List ℕ))) → IfSome found (λ rest. text ≡ 9 ∷ rest.now) → IfSome found (λ rest. IsBehindBlank text rest.now)
+pub after_tab : (text : List ℕ) (found : Option (Bor (List ℕ))) → IfSome found (λ rest. text ≡ 9 ∷ rest.now) → IfSome found (λ rest. IsAfterBlank text rest.now)
 unfolding is_of
-behind_tab text (Some rest) e = (9, refl, e)
-behind_tab text None e = tt
+after_tab text (Some rest) e = (9, refl, e)
+after_tab text None e = tt
 
-pub no_blanks : (text : List ℕ) → IsBehindBlanks text text
+pub no_blanks : (text : List ℕ) → IsAfterBlanks text text
 no_blanks text = record { blanks = []; blank = refl; parts = refl }
 
 blank_first : (b : ℕ) (blanks : List ℕ) → is_of Blank b ≡ true → AreBlank blanks → AreBlank (b ∷ blanks)
 blank_first b blanks is all = rw is all
 
-pub blanks_more : (text rest more : List ℕ) → IsBehindBlanks text rest → IsBehindBlank rest more → IsBehindBlanks text more
+pub blanks_more : (text rest more : List ℕ) → IsAfterBlanks text rest → IsAfterBlank rest more → IsAfterBlanks text more
 blanks_more text rest more s (b, is, e) = record {
   blanks = s.blanks ++ (b ∷ []);
   blank = list_all-both (is_of Blank) s.blanks (b ∷ []) s.blank (blank_first b [] is refl);
@@ -215,7 +215,7 @@ pieces_kinds names (kind ∷ kinds) (value ∷ values) [] s = absurd s
 pieces_kinds names (kind ∷ kinds) (value ∷ values) (piece ∷ pieces) s =
     and_from (is_of_kind kind value) (are_of_kinds kinds values) (value_kind names kind s.0.0 value s.0.2) (pieces_kinds names kinds values pieces s.1)
 
-closed_kinds : (names : NameLists) (kinds : List ArgumentKind) (values : List Value) (text end : List ℕ) → IsClosed names kinds values text end → are_of_kinds kinds values ≡ true
+pub closed_kinds : (names : NameLists) (kinds : List ArgumentKind) (values : List Value) (text end : List ℕ) → IsClosed names kinds values text end → are_of_kinds kinds values ≡ true
 closed_kinds names [] values text end c = subst (λ (vs : List Value). are_of_kinds [] vs ≡ true) (sym c.arguments.1) refl
 closed_kinds names (kind ∷ kinds) values text end c = pieces_kinds names (kind ∷ kinds) values c.arguments.0 c.arguments.2
 
@@ -238,7 +238,7 @@ call_spelled names call made text rest inner end parts opened bare m =
         before = [];
         rest = enclosed;
         before_blank = refl;
-        follows = inr (m.same_bare ∙ bare, record { between = []; inner = arguments; behind = []; between_blank = refl; behind_blank = refl; arguments = m.closed.arguments; parts = refl });
+        follows = inr (m.same_bare ∙ bare, record { between = []; inner = arguments; following = []; between_blank = refl; after_blank = refl; arguments = m.closed.arguments; parts = refl });
         parts = ap (λ (t : List ℕ). t ++ enclosed) (sym m.same_text);
       };
       parts = parts ∙ ap (λ (r : List ℕ). text_of call ++ r) closing ∙ sym (append_assoc (text_of call) enclosed end);
@@ -254,24 +254,24 @@ bare_spelled names call text rest bare parts = record {
 
 -- ---- what happens on a processor
 
--- blanks behind what happens
+-- blanks after what happens
 alone_more : (word token blanks : List ℕ) → IsAlone word token → AreBlank blanks → IsAlone word (token ++ blanks)
 alone_more word token blanks a blank = record {
-  behind = a.behind ++ blanks;
-  behind_blank = list_all-both (is_of Blank) a.behind blanks a.behind_blank blank;
-  parts = ap (λ (t : List ℕ). t ++ blanks) a.parts ∙ append_assoc word a.behind blanks;
+  following = a.following ++ blanks;
+  after_blank = list_all-both (is_of Blank) a.following blanks a.after_blank blank;
+  parts = ap (λ (t : List ℕ). t ++ blanks) a.parts ∙ append_assoc word a.following blanks;
 }
 
 enclosed_more : (names : NameLists) (call : Call) (text blanks : List ℕ) → SpellsEnclosed names call text → AreBlank blanks → SpellsEnclosed names call (text ++ blanks)
 enclosed_more names call text blanks e blank = record {
   between = e.between;
   inner = e.inner;
-  behind = e.behind ++ blanks;
+  following = e.following ++ blanks;
   between_blank = e.between_blank;
-  behind_blank = list_all-both (is_of Blank) e.behind blanks e.behind_blank blank;
+  after_blank = list_all-both (is_of Blank) e.following blanks e.after_blank blank;
   arguments = e.arguments;
-  parts = ap (λ (t : List ℕ). t ++ blanks) e.parts ∙ append_assoc e.between (40 ∷ (e.inner ++ (41 ∷ e.behind))) blanks
-      ∙ ap (λ (r : List ℕ). e.between ++ (40 ∷ r)) (append_assoc e.inner (41 ∷ e.behind) blanks);
+  parts = ap (λ (t : List ℕ). t ++ blanks) e.parts ∙ append_assoc e.between (40 ∷ (e.inner ++ (41 ∷ e.following))) blanks
+      ∙ ap (λ (r : List ℕ). e.between ++ (40 ∷ r)) (append_assoc e.inner (41 ∷ e.following) blanks);
 }
 
 follows_more : (names : NameLists) (call : Call) (text blanks : List ℕ) → FollowsName names call text → AreBlank blanks → FollowsName names call (text ++ blanks)
@@ -296,7 +296,7 @@ happens_more names processor token blanks (events.Call on call) (same, says) bla
 
 on_digit : (names : NameLists) (processor : Proc) (Says : List ℕ → Type 0) (number blank : ℕ) (before between token : List ℕ) → IsNumberOf names number processor → AreBlank before
     → AreBlank (blank ∷ between) → Says token → OnProcessor names processor Says (before ++ (80 ∷ ((48 + number) ∷ (blank ∷ (between ++ token)))))
-on_digit names processor Says number blank before between token is ahead behind says =
+on_digit names processor Says number blank before between token is ahead following says =
     let spelled : decimal number ≡ (48 + number) ∷ [] = decimal_digit number (omega (arith, is.most)) in
     record {
       before = before;
@@ -308,30 +308,30 @@ on_digit names processor Says number blank before between token is ahead behind 
       most = is.within;
       is_number = is.is_number;
       apart = omega arith;
-      between_blank = behind;
+      between_blank = following;
       happens = says;
       parts = ap (λ (d : List ℕ). before ++ (80 ∷ (d ++ (blank ∷ (between ++ token))))) (sym spelled);
     }
 
-module _ (names : NameLists) (processor : Proc) (number blank : ℕ) (before between token : List ℕ) (is : IsNumberOf names number processor) (ahead : AreBlank before) (behind : AreBlank (blank ∷ between)) where
+module _ (names : NameLists) (processor : Proc) (number blank : ℕ) (before between token : List ℕ) (is : IsNumberOf names number processor) (ahead : AreBlank before) (following : AreBlank (blank ∷ between)) where
   abbrev event_text : List ℕ
   event_text = before ++ (80 ∷ ((48 + number) ∷ (blank ∷ (between ++ token))))
 
   event_on : (event : Event) → Happens names processor token event → SpellsEvent names event_text event
   event_on (events.Tick on) (same, says) =
-      subst (λ (p : Proc). OnProcessor names p (IsAlone (codes "tick")) event_text) (sym same) (on_digit names processor _ number blank before between token is ahead behind says)
+      subst (λ (p : Proc). OnProcessor names p (IsAlone (codes "tick")) event_text) (sym same) (on_digit names processor _ number blank before between token is ahead following says)
   event_on (events.Ipi on) (same, says) =
-      subst (λ (p : Proc). OnProcessor names p (IsAlone (codes "ipi")) event_text) (sym same) (on_digit names processor _ number blank before between token is ahead behind says)
+      subst (λ (p : Proc). OnProcessor names p (IsAlone (codes "ipi")) event_text) (sym same) (on_digit names processor _ number blank before between token is ahead following says)
   event_on (events.Call on call) (same, says) =
-      subst (λ (p : Proc). OnProcessor names p (λ rest. SpellsCall names rest call) event_text) (sym same) (on_digit names processor _ number blank before between token is ahead behind says)
+      subst (λ (p : Proc). OnProcessor names p (λ rest. SpellsCall names rest call) event_text) (sym same) (on_digit names processor _ number blank before between token is ahead following says)
 
-pub event_spelled : (names : NameLists) (processor : Proc) (text start first second third behind end rest : List ℕ) (number : ℕ) (event : Event) → IsNumberOf names number processor
-    → IsBehindBlanks text start → start ≡ 80 ∷ first → first ≡ (48 + number) ∷ second → IsBehindBlank second third → IsBehindBlanks third behind
-    → IsFront (Happens names processor) behind event end → IsBehindBlanks end rest → IsFront (SpellsEvent names) text event rest
-event_spelled names processor text start first second third behind end rest number event is ahead begins digit (b, blank, apart) more f tail =
+pub event_spelled : (names : NameLists) (processor : Proc) (text start first second third following end rest : List ℕ) (number : ℕ) (event : Event) → IsNumberOf names number processor
+    → IsAfterBlanks text start → start ≡ 80 ∷ first → first ≡ (48 + number) ∷ second → IsAfterBlank second third → IsAfterBlanks third following
+    → IsFront (Happens names processor) following event end → IsAfterBlanks end rest → IsFront (SpellsEvent names) text event rest
+event_spelled names processor text start first second third following end rest number event is ahead begins digit (b, blank, apart) more f tail =
     let token = f.token ++ tail.blanks in
     let whole = 80 ∷ ((48 + number) ∷ (b ∷ (more.blanks ++ token))) in
-    let inner : behind ≡ token ++ rest = f.parts ∙ ap (λ (r : List ℕ). f.token ++ r) tail.parts ∙ sym (append_assoc f.token tail.blanks rest) in
+    let inner : following ≡ token ++ rest = f.parts ∙ ap (λ (r : List ℕ). f.token ++ r) tail.parts ∙ sym (append_assoc f.token tail.blanks rest) in
     let wide : third ≡ (more.blanks ++ token) ++ rest = more.parts ∙ ap (λ (r : List ℕ). more.blanks ++ r) inner ∙ sym (append_assoc more.blanks token rest) in
     let line : start ≡ whole ++ rest = begins ∙ ap (λ (r : List ℕ). 80 ∷ r) (digit ∙ ap (λ (r : List ℕ). (48 + number) ∷ r) (apart ∙ ap (λ (r : List ℕ). b ∷ r) wide)) in
     record {
@@ -369,29 +369,29 @@ no_feed_ended core line (inr is) all =
     let cores = list_all-weaker (is_of Line) (λ b. not (eqb b 10)) no_feed_byte core all in
     rw is (no_feed (core ++ (13 ∷ [])) (list_all-both (λ b. not (eqb b 10)) core (13 ∷ []) cores refl))
 
-line_ended : (names : NameLists) (bytes line core behind : List ℕ) (event : Event) → AreValid names → SpellsEvent names core event → Ended core line → bytes ≡ line ++ (10 ∷ behind)
-    → IsFirstLine names bytes (Ok (Some event)) (length bytes - length behind)
-line_ended names bytes line core behind event valid spelled ended whole =
-    let long : length bytes ≡ length line + suc (length behind) = ap length whole ∙ length-append line (10 ∷ behind) in
+line_ended : (names : NameLists) (bytes line core following : List ℕ) (event : Event) → AreValid names → SpellsEvent names core event → Ended core line → bytes ≡ line ++ (10 ∷ following)
+    → IsFirstLine names bytes (Ok (Some event)) (length bytes - length following)
+line_ended names bytes line core following event valid spelled ended whole =
+    let long : length bytes ≡ length line + suc (length following) = ap length whole ∙ length-append line (10 ∷ following) in
     record {
       line = line;
       no_feed = no_feed_ended core line ended (line_of_spelled names core event valid spelled);
-      parts = whole ∙ ap (λ (r : List ℕ). line ++ (10 ∷ r)) (sym (rw whole (drop_rest line behind)));
+      parts = whole ∙ ap (λ (r : List ℕ). line ++ (10 ∷ r)) (sym (rw whole (drop_rest line following)));
       some = omega (arith, long);
       within = omega arith;
       says = sym (one_read names line event valid (core, ended, spelled));
     }
 
--- the end of a line behind an event ends the first line
-pub first_ended : (names : NameLists) (bytes rest behind : List ℕ) (event : Event) → AreValid names → IsFront (SpellsEvent names) bytes event rest → IsBehindEnd rest behind
-    → IsFirstLine names bytes (Ok (Some event)) (length bytes - length behind)
-first_ended names bytes rest behind event valid f (inl feed) =
-    line_ended names bytes f.token f.token behind event valid f.spelled (inl refl) (f.parts ∙ ap (λ (r : List ℕ). f.token ++ r) feed)
-first_ended names bytes rest behind event valid f (inr feed) =
-    line_ended names bytes (f.token ++ (13 ∷ [])) f.token behind event valid f.spelled (inr refl)
-    (f.parts ∙ ap (λ (r : List ℕ). f.token ++ r) feed ∙ sym (append_assoc f.token (13 ∷ []) (10 ∷ behind)))
+-- the end of a line after an event ends the first line
+pub first_ended : (names : NameLists) (bytes rest following : List ℕ) (event : Event) → AreValid names → IsFront (SpellsEvent names) bytes event rest → IsAfterEnd rest following
+    → IsFirstLine names bytes (Ok (Some event)) (length bytes - length following)
+first_ended names bytes rest following event valid f (inl feed) =
+    line_ended names bytes f.token f.token following event valid f.spelled (inl refl) (f.parts ∙ ap (λ (r : List ℕ). f.token ++ r) feed)
+first_ended names bytes rest following event valid f (inr feed) =
+    line_ended names bytes (f.token ++ (13 ∷ [])) f.token following event valid f.spelled (inr refl)
+    (f.parts ∙ ap (λ (r : List ℕ). f.token ++ r) feed ∙ sym (append_assoc f.token (13 ∷ []) (10 ∷ following)))
 
 pub ended_some : (names : NameLists) (bytes rest : List ℕ) (event : Event) (found : Option (Bor (List ℕ))) → AreValid names → IsFront (SpellsEvent names) bytes event rest
-    → IfSome found (λ behind. IsBehindEnd rest behind.now) → IfSome found (λ behind. IsFirstLine names bytes (Ok (Some event)) (length bytes - length behind.now))
-ended_some names bytes rest event (Some behind) valid f ends = first_ended names bytes rest behind.now event valid f ends
+    → IfSome found (λ following. IsAfterEnd rest following.now) → IfSome found (λ following. IsFirstLine names bytes (Ok (Some event)) (length bytes - length following.now))
+ended_some names bytes rest event (Some following) valid f ends = first_ended names bytes rest following.now event valid f ends
 ended_some names bytes rest event None valid f ends = tt

@@ -48,7 +48,7 @@ module _ (names : NameLists) (cut : Bool) (lines count : ℕ) where
   unfolding reading_from
   reading_from-last last none = ap (reading_from names cut lines count []) (sym (append-nil last)) ∙ reading_from-append [] last [] none
 
--- however the text goes on, the bytes behind so many lines give what the bytes from a place on give, behind more
+-- however the text goes on, the bytes after so many lines give what the bytes from a place on give, after more
 abbrev pub StandsAt : NameLists → ℕ → List ℕ → ℕ → ℕ → Type 0
 StandsAt names before bytes lines used = (cut : Bool) (count : ℕ) (more : List ℕ) → reading_from names cut before count [] (bytes ++ more)
     ≡ reading_from names cut lines count [] (drop used bytes ++ more)

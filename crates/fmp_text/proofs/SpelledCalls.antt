@@ -6,18 +6,18 @@ use Rattle.std.proofs.lemmas.Bool.{cases_Bool, and_parts, and_from, or_cases, eq
 use Rattle.std.proofs.lemmas.Option.{cond_some}
 use Rattle.fmp_codes.specs.declared.calls.Call.{Call}
 use Rattle.fmp_bytes.specs.declared.classes.Class.TheVariants.{Blank, Word, Argument, Line}
-use Rattle.fmp_bytes.specs.Bytes.{is_of, prefix, after, behind, cut_at, pieces_of, is_identifier}
+use Rattle.fmp_bytes.specs.Bytes.{is_of, prefix, after, following, cut_at, pieces_of, is_identifier}
 use Rattle.fmp_bytes.proofs.Prefixes.{prefix-append, prefix-after, list_all-take_while, stops-cons, stops-append, stops-all, list_all-weaker, list_all-both, list_all-parts, list_all-join}
 use Rattle.fmp_bytes.proofs.Included.{line-blank, line-argument, not_argument-blank, not_word-blank, not_blank-argument}
 use Rattle.fmp_bytes.proofs.Tokens.{AreOfArgument, identifier_bytes, identifier_words, number_bytes}
-use Rattle.fmp_bytes.proofs.Spelled.{behind_is, behind-same}
+use Rattle.fmp_bytes.proofs.Spelled.{after_is, following-same}
 use Rattle.fmp_bytes.proofs.Cutting.{cut_at-append, cut_at-parts, pieces_of-join, join-pieces_of, some-pieces_of}
 use Rattle.fmp_calls.specs.declared.kinds.ArgumentKind.{ArgumentKind}
 use Rattle.fmp_calls.specs.declared.kinds.Value.{Value}
 use Rattle.fmp_text.specs.declared.fault.TextKind.TheVariants.{BadByte, BadWord, WrongArguments}
 use Rattle.fmp_names.specs.Names.{NameLists, AreValid}
 use Rattle.fmp_calls.specs.Table.{text_of, is_bare, kinds_of, name_of, values_of, call_of}
-use Rattle.fmp_text.specs.Argument.{is_argument, token_in, tokens_in, arguments_in, before_close, enclosed_in, arguments_behind, value_at}
+use Rattle.fmp_text.specs.Argument.{is_argument, token_in, tokens_in, arguments_in, before_close, enclosed_in, arguments_after, value_at}
 use Rattle.fmp_text.specs.Reading.{named_call, values_at, call_with, call_after, call_at, call_in}
 use Rattle.fmp_text.specs.Grammar.{AreBlank, Padded, SpellsPieces, SpellsArguments, SpellsEnclosed, FollowsName, SpellsCall}
 use Rattle.fmp_text.proofs.Spelled.{value_at-spelled, value_is_spelled}
@@ -73,20 +73,20 @@ pub padded_read : (token piece : List ℕ) → Padded token piece → is_argumen
 unfolding token_in
 padded_read token piece padded form =
     let bytes = token_bytes token form in
-    let start = prefix-append Blank padded.before (token ++ padded.behind) padded.before_blank (token_first token padded.behind bytes) in
-    let stop = stops-all (is_of Argument) padded.behind (list_all-weaker (is_of Blank) (λ b. not (is_of Argument b)) not-blank padded.behind padded.behind_blank) in
-    let whole = prefix-append Argument token padded.behind bytes.1 stop in
-    let skipped : after Blank piece ≡ token ++ padded.behind = ap (after Blank) padded.parts ∙ start.1 in
+    let start = prefix-append Blank padded.before (token ++ padded.following) padded.before_blank (token_first token padded.following bytes) in
+    let stop = stops-all (is_of Argument) padded.following (list_all-weaker (is_of Blank) (λ b. not (is_of Argument b)) not-blank padded.following padded.after_blank) in
+    let whole = prefix-append Argument token padded.following bytes.1 stop in
+    let skipped : after Blank piece ≡ token ++ padded.following = ap (after Blank) padded.parts ∙ start.1 in
     let one : prefix Argument (after Blank piece) ≡ token = ap (prefix Argument) skipped ∙ whole.0 in
-    let rest : after Argument (after Blank piece) ≡ padded.behind = ap (after Argument) skipped ∙ whole.1 in
-    let blank = padded.behind_blank in
+    let rest : after Argument (after Blank piece) ≡ padded.following = ap (after Argument) skipped ∙ whole.1 in
+    let blank = padded.after_blank in
     rw (one, rest, form, blank) refl
 
 pub padded_inside : (token piece : List ℕ) → Padded token piece → is_argument token ≡ true → list_all inside piece ≡ true
 padded_inside token piece padded form =
     ap (list_all inside) padded.parts
-    ∙ list_all-both inside padded.before (token ++ padded.behind) (list_all-weaker (is_of Blank) inside inside-blank padded.before padded.before_blank)
-    (list_all-both inside token padded.behind (list_all-weaker (is_of Argument) inside inside-argument token (token_bytes token form).1) (list_all-weaker (is_of Blank) inside inside-blank padded.behind padded.behind_blank))
+    ∙ list_all-both inside padded.before (token ++ padded.following) (list_all-weaker (is_of Blank) inside inside-blank padded.before padded.before_blank)
+    (list_all-both inside token padded.following (list_all-weaker (is_of Argument) inside inside-argument token (token_bytes token form).1) (list_all-weaker (is_of Blank) inside inside-blank padded.following padded.after_blank))
 
 pub token_is_padded : (piece token : List ℕ) → token_in piece ≡ Some token → Padded token piece × (is_argument token ≡ true)
 unfolding token_in
@@ -94,7 +94,7 @@ token_is_padded piece token e =
     let t = cond_some (is_argument (prefix Argument (after Blank piece)) && list_all (is_of Blank) (after Argument (after Blank piece))) (prefix Argument (after Blank piece)) token e in
     let p = and_parts (is_argument (prefix Argument (after Blank piece))) (list_all (is_of Blank) (after Argument (after Blank piece))) t.0 in
     let whole : piece ≡ prefix Blank piece ++ (token ++ after Argument (after Blank piece)) = sym (prefix-after Blank piece) ∙ ap (λ (r : List ℕ). prefix Blank piece ++ r) (sym (prefix-after Argument (after Blank piece)) ∙ ap (λ (f : List ℕ). f ++ after Argument (after Blank piece)) t.1) in
-    (record { before = prefix Blank piece; behind = after Argument (after Blank piece); before_blank = list_all-take_while (is_of Blank) piece; behind_blank = p.1; parts = whole }, ap is_argument (sym t.1) ∙ p.0)
+    (record { before = prefix Blank piece; following = after Argument (after Blank piece); before_blank = list_all-take_while (is_of Blank) piece; after_blank = p.1; parts = whole }, ap is_argument (sym t.1) ∙ p.0)
 
 -- ---- the pieces between commas
 
@@ -145,14 +145,14 @@ not_blank-joined names kind kinds (value ∷ values) (piece ∷ []) valid spelle
     let one = spelled.0 in
     let bytes = token_bytes one.0 (value_at-spelled names kind one.0 value valid one.2).0 in
     elim (cases_Bool (list_all (is_of Blank) piece)) [
-      | inl t ↦ absurd (not_all_blank one.1.before one.0 one.1.behind bytes (ap (list_all (is_of Blank)) (sym one.1.parts) ∙ t))
+      | inl t ↦ absurd (not_all_blank one.1.before one.0 one.1.following bytes (ap (list_all (is_of Blank)) (sym one.1.parts) ∙ t))
       | inr f ↦ f
     ]
 not_blank-joined names kind kinds (value ∷ values) (piece ∷ next ∷ pieces) valid spelled =
     let one = spelled.0 in
     let bytes = token_bytes one.0 (value_at-spelled names kind one.0 value valid one.2).0 in
     elim (cases_Bool (list_all (is_of Blank) (piece ++ (44 ∷ join_with_byte 44 (next ∷ pieces))))) [
-      | inl t ↦ absurd (not_all_blank one.1.before one.0 one.1.behind bytes (ap (list_all (is_of Blank)) (sym one.1.parts) ∙ (list_all-parts (is_of Blank) piece (44 ∷ join_with_byte 44 (next ∷ pieces)) t).0))
+      | inl t ↦ absurd (not_all_blank one.1.before one.0 one.1.following bytes (ap (list_all (is_of Blank)) (sym one.1.parts) ∙ (list_all-parts (is_of Blank) piece (44 ∷ join_with_byte 44 (next ∷ pieces)) t).0))
       | inr f ↦ f
     ]
 
@@ -204,7 +204,7 @@ unfolding enclosed_in before_close is_of
 enclosed_read between inner rest blank no_close ended =
     let start = prefix-append Blank between (40 ∷ (inner ++ (41 ∷ rest))) blank (stops-cons (is_of Blank) 40 (inner ++ (41 ∷ rest)) refl) in
     let skipped = start.1 in
-    rw (skipped, behind-same 40 (inner ++ (41 ∷ rest)), cut_at-append 41 inner rest no_close, ended) refl
+    rw (skipped, following-same 40 (inner ++ (41 ∷ rest)), cut_at-append 41 inner rest no_close, ended) refl
 
 pub blanks_in_line : (bytes : List ℕ) → AreBlank bytes → list_all (is_of Line) bytes ≡ true
 blanks_in_line bytes blank = list_all-weaker (is_of Blank) (is_of Line) line-blank bytes blank
@@ -212,13 +212,13 @@ blanks_in_line bytes blank = list_all-weaker (is_of Blank) (is_of Line) line-bla
 -- what reading gives of what follows a call's name
 pub record RestRead (names : NameLists) (call : Call) (rest : List ℕ) : Type 0 where
   pub tokens : List (List ℕ)
-  pub formed : arguments_behind 4 (is_bare call) rest ≡ Some tokens
+  pub formed : arguments_after 4 (is_bare call) rest ≡ Some tokens
   pub judged : values_at names (kinds_of call) tokens ≡ Ok (values_of call)
   pub as_many : length tokens ≡ length (kinds_of call)
   pub in_line : list_all (is_of Line) rest ≡ true
 
 bare_read : (names : NameLists) (call : Call) (rest : List ℕ) → is_bare call ≡ true → AreBlank rest → RestRead names call rest
-unfolding arguments_behind
+unfolding arguments_after
 bare_read names call rest bare blank =
     let alone = bare_alone call bare in
     let no_kinds = alone.0 in let no_values = alone.1 in
@@ -231,17 +231,17 @@ bare_read names call rest bare blank =
     }
 
 enclosed_rest_read : (names : NameLists) (call : Call) (rest : List ℕ) → AreValid names → is_bare call ≡ false → SpellsEnclosed names call rest → RestRead names call rest
-unfolding arguments_behind is_of
+unfolding arguments_after is_of
 enclosed_rest_read names call rest valid bare s =
     let read = inner_read names (kinds_of call) (values_of call) s.inner valid (length-kinds_of-le call) s.arguments in
     let formed = read.formed in let parts = s.parts in
-    let inside_line = list_all-both (is_of Line) s.inner (41 ∷ s.behind) read.in_line (and_from (is_of Line 41) (list_all (is_of Line) s.behind) refl (blanks_in_line s.behind s.behind_blank)) in
+    let inside_line = list_all-both (is_of Line) s.inner (41 ∷ s.following) read.in_line (and_from (is_of Line 41) (list_all (is_of Line) s.following) refl (blanks_in_line s.following s.after_blank)) in
     record {
       tokens = read.tokens;
-      formed = rw (bare, parts, enclosed_read s.between s.inner s.behind s.between_blank read.no_close s.behind_blank) formed;
+      formed = rw (bare, parts, enclosed_read s.between s.inner s.following s.between_blank read.no_close s.after_blank) formed;
       judged = read.judged;
       as_many = read.as_many;
-      in_line = rw parts (list_all-both (is_of Line) s.between (40 ∷ (s.inner ++ (41 ∷ s.behind))) (blanks_in_line s.between s.between_blank) inside_line);
+      in_line = rw parts (list_all-both (is_of Line) s.between (40 ∷ (s.inner ++ (41 ∷ s.following))) (blanks_in_line s.between s.between_blank) inside_line);
     }
 
 rest_read : (names : NameLists) (call : Call) (rest : List ℕ) → AreValid names → FollowsName names call rest → RestRead names call rest
@@ -253,7 +253,7 @@ after_read : (names : NameLists) (call : Call) (rest : List ℕ) → RestRead na
 unfolding call_after call_with
 after_read names call rest read =
     let kinds = kinds_of-name_of call in
-    let formed : arguments_behind 4 (is_bare (name_of call)) rest ≡ Some read.tokens = ap (λ (bare : Bool). arguments_behind 4 bare rest) (is_bare-name_of call) ∙ read.formed in
+    let formed : arguments_after 4 (is_bare (name_of call)) rest ≡ Some read.tokens = ap (λ (bare : Bool). arguments_after 4 bare rest) (is_bare-name_of call) ∙ read.formed in
     let judged : values_at names (kinds_of (name_of call)) read.tokens ≡ Ok (values_of call) = ap (λ (ks : List ArgumentKind). values_at names ks read.tokens) kinds ∙ read.judged in
     let test = eq-eqb (length read.tokens) (length (kinds_of (name_of call))) (read.as_many ∙ ap length (sym kinds)) in
     rw (formed, test, judged, call_of-parts call) refl
@@ -268,7 +268,7 @@ unfolding is_of
 no_word names call rest (inl s) = stops-all (is_of Word) rest (list_all-weaker (is_of Blank) (λ b. not (is_of Word b)) not-word rest s.1)
 no_word names call rest (inr s) =
     let e = s.1 in
-    ap (prefix_len (is_of Word)) e.parts ∙ stops-append (is_of Word) e.between 40 (e.inner ++ (41 ∷ e.behind)) (list_all-weaker (is_of Blank) (λ b. not (is_of Word b)) not-word e.between e.between_blank) refl
+    ap (prefix_len (is_of Word)) e.parts ∙ stops-append (is_of Word) e.between 40 (e.inner ++ (41 ∷ e.following)) (list_all-weaker (is_of Blank) (λ b. not (is_of Word b)) not-word e.between e.between_blank) refl
 
 -- the name is the first word
 name_read : (names : NameLists) (call : Call) (rest : List ℕ) → FollowsName names call rest → (prefix Word (text_of call ++ rest) ≡ text_of call) × (after Word (text_of call ++ rest) ≡ rest)
@@ -291,7 +291,7 @@ skipped_blanks names text call s =
 pub word_of_call : (names : NameLists) (text : List ℕ) (call : Call) → SpellsCall names text call → prefix Word (after Blank text) ≡ text_of call
 word_of_call names text call s = ap (prefix Word) (skipped_blanks names text call s) ∙ (name_read names call s.rest s.follows).0
 
--- behind the blanks before it
+-- after the blanks before it
 pub call_at-spelled : (names : NameLists) (text : List ℕ) (call : Call) → AreValid names → SpellsCall names text call → call_at names (after Blank text) ≡ Ok call
 unfolding call_at
 call_at-spelled names text call valid s =
@@ -364,32 +364,32 @@ inner_spelled names (kind ∷ kinds) values inner tokens formed as_many judged =
 -- the parts of what stands between parentheses
 pub record Enclosed (text inner : List ℕ) : Type 0 where
   pub between : List ℕ
-  pub behind : List ℕ
+  pub following : List ℕ
   pub between_blank : AreBlank between
-  pub behind_blank : AreBlank behind
-  pub parts : text ≡ between ++ (40 ∷ (inner ++ (41 ∷ behind)))
+  pub after_blank : AreBlank following
+  pub parts : text ≡ between ++ (40 ∷ (inner ++ (41 ∷ following)))
 
 pub enclosed_spelled : (text inner : List ℕ) → enclosed_in text ≡ Some inner → Enclosed text inner
 unfolding enclosed_in before_close
 enclosed_spelled text inner e =
-    let p = and_then_parts (behind 40 (after Blank text)) before_close inner e in
+    let p = and_then_parts (following 40 (after Blank text)) before_close inner e in
     let q = and_then_parts (cut_at 41 p.0).1 (λ rest. cond (list_all (is_of Blank) rest) (Some (cut_at 41 p.0).0) None) inner p.2 in
     let t = cond_some (list_all (is_of Blank) q.0) (cut_at 41 p.0).0 inner q.2 in
-    let opened : after Blank text ≡ 40 ∷ p.0 = behind_is 40 (after Blank text) p.0 p.1 in
+    let opened : after Blank text ≡ 40 ∷ p.0 = after_is 40 (after Blank text) p.0 p.1 in
     let closed : p.0 ≡ inner ++ (41 ∷ q.0) = cut_at-parts 41 p.0 q.0 q.1 ∙ ap (λ (i : List ℕ). i ++ (41 ∷ q.0)) t.1 in
     record {
       between = prefix Blank text;
-      behind = q.0;
+      following = q.0;
       between_blank = list_all-take_while (is_of Blank) text;
-      behind_blank = t.0;
+      after_blank = t.0;
       parts = sym (prefix-after Blank text) ∙ ap (λ (r : List ℕ). prefix Blank text ++ r) (opened ∙ ap (λ (r : List ℕ). 40 ∷ r) closed);
     }
 
 -- what follows a name of these kinds and is read as these values
 follows_spelled : (names : NameLists) (bare : Bool) (kinds : List ArgumentKind) (values : List Value) (rest : List ℕ) (tokens : List (List ℕ))
-    → arguments_behind 4 bare rest ≡ Some tokens → length tokens ≡ length kinds → values_at names kinds tokens ≡ Ok values
+    → arguments_after 4 bare rest ≡ Some tokens → length tokens ≡ length kinds → values_at names kinds tokens ≡ Ok values
     → ((bare ≡ true) × AreBlank rest) ⊎ ((bare ≡ false) × ((inner : List ℕ) × Enclosed rest inner × SpellsArguments names kinds values inner))
-unfolding arguments_behind
+unfolding arguments_after
 follows_spelled names true kinds values rest tokens formed as_many judged = inl (refl, (cond_some (list_all (is_of Blank) rest) [] tokens formed).0)
 follows_spelled names false kinds values rest tokens formed as_many judged =
     let i = and_then_parts (enclosed_in rest) (arguments_in 4) tokens formed in
@@ -401,13 +401,13 @@ follows_name : (names : NameLists) (call : Call) (rest : List ℕ)
 follows_name names call rest (inl s) = inl s
 follows_name names call rest (inr s) =
     let e = s.1.1 in
-    inr (s.0, record { between = e.between; inner = s.1.0; behind = e.behind; between_blank = e.between_blank; behind_blank = e.behind_blank; arguments = s.1.2; parts = e.parts })
+    inr (s.0, record { between = e.between; inner = s.1.0; following = e.following; between_blank = e.between_blank; after_blank = e.after_blank; arguments = s.1.2; parts = e.parts })
 
 -- what follows the name of a call that was read
 rest_spelled : (names : NameLists) (name call : Call) (rest : List ℕ) → call_after names name rest ≡ Ok call → FollowsName names call rest × (text_of call ≡ text_of name)
 unfolding call_after call_with
 rest_spelled names name call rest e =
-    let a = bind_parts (ok_or (arguments_behind 4 (is_bare name) rest) WrongArguments) _ call e in
+    let a = bind_parts (ok_or (arguments_after 4 (is_bare name) rest) WrongArguments) _ call e in
     let w = tested_ok (eqb (length a.0) (length (kinds_of name))) _ WrongArguments call a.2 in
     let v = bind_parts (values_at names (kinds_of name) a.0) (λ values. ok_or (call_of name values) WrongArguments) call w.1 in
     let agrees = call_of-agrees name v.0 call (ok_or_parts _ WrongArguments call v.2) in

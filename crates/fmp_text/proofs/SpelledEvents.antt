@@ -15,11 +15,11 @@ use Rattle.fmp_codes.specs.declared.numbers.Proc.{Proc}
 use Rattle.fmp_codes.specs.declared.records.Event.{Event}
 use Rattle.fmp_codes.specs.declared.records.Event.TheVariants as events
 use Rattle.fmp_bytes.specs.declared.classes.Class.TheVariants.{Blank, Word, Line}
-use Rattle.fmp_bytes.specs.Bytes.{is_of, prefix, after, behind}
+use Rattle.fmp_bytes.specs.Bytes.{is_of, prefix, after, following}
 use Rattle.fmp_bytes.specs.Numerals.{are_digits, is_zero_led, magnitude_of}
 use Rattle.fmp_bytes.proofs.Prefixes.{prefix-append, prefix-after, after-stops, list_all-take_while, stops-cons, stops-all, list_all-weaker, list_all-both}
 use Rattle.fmp_bytes.proofs.Included.{line-argument, argument-word, not_word-blank, word-digit}
-use Rattle.fmp_bytes.proofs.Spelled.{own, behind_is, behind-same, list_all-digits, are_digits-from, digits_from, not_zero_led, zero_alone, decimal_alone, magnitude_of-small, magnitude_of-some}
+use Rattle.fmp_bytes.proofs.Spelled.{own, after_is, following-same, list_all-digits, are_digits-from, digits_from, not_zero_led, zero_alone, decimal_alone, magnitude_of-small, magnitude_of-some}
 use Rattle.fmp_text.specs.declared.fault.TextKind.{TextKind}
 use Rattle.fmp_text.specs.declared.fault.TextKind.TheVariants.{BadByte, BadWord, NumberOutOfRange, WrongArguments}
 use Rattle.fmp_names.specs.Names.{NameLists, AreValid}
@@ -62,13 +62,13 @@ processor_read names n least most few =
     let numeral = decimal_is_IsNumeral n lt in
     let size : magnitude_of 10 (decimal n) ≡ Some n = magnitude_of-small 10 (decimal n) (omega (arith, numeral.1, lt)) ∙ ap (λ (m : ℕ). Some m) numeral.1 in
     let low = le-leb 1 n least in let high = le-leb n names.processors most in
-    rw (behind-same 80 (decimal n), digits, led, size, low, high) refl
+    rw (following-same 80 (decimal n), digits, led, size, low, high) refl
 
-pub digits_parts : (word digits : List ℕ) (found : Option (List ℕ)) → behind 80 word ≡ found → option_map_or (λ ds. cond (are_digits 10 ds) (Some ds) None) found None ≡ Some digits → (word ≡ 80 ∷ digits) × (are_digits 10 digits ≡ true)
+pub digits_parts : (word digits : List ℕ) (found : Option (List ℕ)) → following 80 word ≡ found → option_map_or (λ ds. cond (are_digits 10 ds) (Some ds) None) found None ≡ Some digits → (word ≡ 80 ∷ digits) × (are_digits 10 digits ≡ true)
 digits_parts word digits None h e = absurd cc
 digits_parts word digits (Some ds) h e =
     elim (cases_Bool (are_digits 10 ds)) [
-      | inl t ↦ let e2 = rw t at e in let same : ds ≡ digits = cc in (behind_is 80 word ds h ∙ ap (λ (d : List ℕ). 80 ∷ d) same, ap (are_digits 10) (sym same) ∙ t)
+      | inl t ↦ let e2 = rw t at e in let same : ds ≡ digits = cc in (after_is 80 word ds h ∙ ap (λ (d : List ℕ). 80 ∷ d) same, ap (are_digits 10) (sym same) ∙ t)
       | inr f ↦ let e2 = rw f at e in absurd cc
     ]
 
@@ -88,7 +88,7 @@ pub processor_spelled : (names : NameLists) (word : List ℕ) (processor : Proc)
 unfolding processor_in digits_of processor_numbered
 processor_spelled names word processor e =
     let p = bind_parts (ok_or (digits_of word) BadWord) _ processor e in
-    let d = digits_parts word p.0 (behind 80 word) refl (ok_or_parts (digits_of word) BadWord p.0 p.1) in
+    let d = digits_parts word p.0 (following 80 word) refl (ok_or_parts (digits_of word) BadWord p.0 p.1) in
     let z = zero_led_parts (is_zero_led p.0) (ok_or (processor_numbered names p.0) NumberOutOfRange) processor p.2 in
     let n = number_parts names.processors (magnitude_of 10 p.0) processor (ok_or_parts (processor_numbered names p.0) NumberOutOfRange processor z.1) in
     let m = magnitude_of-some 10 p.0 n.0 n.1 in
@@ -130,8 +130,8 @@ module _ (names : NameLists) (processor : Proc) (Happens : List ℕ → Type 0) 
 
   line_of_event : list_all (is_of Line) s.rest ≡ true → list_all (is_of Line) text ≡ true
   line_of_event rest =
-      let behind = list_all-both (is_of Line) s.between s.rest (blanks_in_line s.between s.between_blank) rest in
-      let word = list_all-both (is_of Line) (80 ∷ decimal s.number) (s.between ++ s.rest) (line_of_words (80 ∷ decimal s.number) (word_bytes s.number small)) behind in
+      let following = list_all-both (is_of Line) s.between s.rest (blanks_in_line s.between s.between_blank) rest in
+      let word = list_all-both (is_of Line) (80 ∷ decimal s.number) (s.between ++ s.rest) (line_of_words (80 ∷ decimal s.number) (word_bytes s.number small)) following in
       ap (list_all (is_of Line)) s.parts ∙ list_all-both (is_of Line) s.before (80 ∷ (decimal s.number ++ (s.between ++ s.rest))) (blanks_in_line s.before s.before_blank) word
 
   on_processor_read : (event : Event) → list_all (is_of Line) s.rest ≡ true → event_of names processor (after Blank s.rest) ≡ Ok event → event_in names text ≡ Ok event
@@ -145,22 +145,22 @@ module _ (names : NameLists) (processor : Proc) (Happens : List ℕ → Type 0) 
       rw (line, read, rest_is) happens
 
 -- a word alone
-alone_read : (word rest : List ℕ) (h : IsAlone word rest) → list_all (is_of Word) word ≡ true → prefix_len (is_of Blank) (word ++ h.behind) ≡ 0 → (prefix Word (after Blank rest) ≡ word) × (after Word (after Blank rest) ≡ h.behind) × (list_all (is_of Line) rest ≡ true)
+alone_read : (word rest : List ℕ) (h : IsAlone word rest) → list_all (is_of Word) word ≡ true → prefix_len (is_of Blank) (word ++ h.following) ≡ 0 → (prefix Word (after Blank rest) ≡ word) × (after Word (after Blank rest) ≡ h.following) × (list_all (is_of Line) rest ≡ true)
 alone_read word rest h words starts =
-    let stop = stops-all (is_of Word) h.behind (list_all-weaker (is_of Blank) (λ b. not (is_of Word b)) not-word h.behind h.behind_blank) in
-    let whole = prefix-append Word word h.behind words stop in
-    let here : after Blank rest ≡ word ++ h.behind = ap (after Blank) h.parts ∙ after-none (word ++ h.behind) starts in
-    (ap (prefix Word) here ∙ whole.0, ap (after Word) here ∙ whole.1, ap (list_all (is_of Line)) h.parts ∙ list_all-both (is_of Line) word h.behind (line_of_words word words) (blanks_in_line h.behind h.behind_blank))
+    let stop = stops-all (is_of Word) h.following (list_all-weaker (is_of Blank) (λ b. not (is_of Word b)) not-word h.following h.after_blank) in
+    let whole = prefix-append Word word h.following words stop in
+    let here : after Blank rest ≡ word ++ h.following = ap (after Blank) h.parts ∙ after-none (word ++ h.following) starts in
+    (ap (prefix Word) here ∙ whole.0, ap (after Word) here ∙ whole.1, ap (list_all (is_of Line)) h.parts ∙ list_all-both (is_of Line) word h.following (line_of_words word words) (blanks_in_line h.following h.after_blank))
 
 pub event_in-spelled : (names : NameLists) (text : List ℕ) (event : Event) → AreValid names → SpellsEvent names text event → event_in names text ≡ Ok event
 unfolding event_of is_of
 event_in-spelled names text (events.Tick processor) valid s =
-    let a = alone_read (codes "tick") s.rest s.happens refl (stops-cons (is_of Blank) 116 (105 ∷ 99 ∷ 107 ∷ s.happens.behind) refl) in
-    let word = a.0 in let follows = a.1 in let blank = s.happens.behind_blank in
+    let a = alone_read (codes "tick") s.rest s.happens refl (stops-cons (is_of Blank) 116 (105 ∷ 99 ∷ 107 ∷ s.happens.following) refl) in
+    let word = a.0 in let follows = a.1 in let blank = s.happens.after_blank in
     on_processor_read names processor (IsAlone (codes "tick")) text valid s (events.Tick processor) a.2 (rw (word, follows, blank) refl)
 event_in-spelled names text (events.Ipi processor) valid s =
-    let a = alone_read (codes "ipi") s.rest s.happens refl (stops-cons (is_of Blank) 105 (112 ∷ 105 ∷ s.happens.behind) refl) in
-    let word = a.0 in let follows = a.1 in let blank = s.happens.behind_blank in
+    let a = alone_read (codes "ipi") s.rest s.happens refl (stops-cons (is_of Blank) 105 (112 ∷ 105 ∷ s.happens.following) refl) in
+    let word = a.0 in let follows = a.1 in let blank = s.happens.after_blank in
     on_processor_read names processor (IsAlone (codes "ipi")) text valid s (events.Ipi processor) a.2 (rw (word, follows, blank) refl)
 event_in-spelled names text (events.Call processor call) valid s =
     let word = word_of_call names s.rest call s.happens in
@@ -170,7 +170,7 @@ event_in-spelled names text (events.Call processor call) valid s =
 
 -- ---- what is read is spelled
 
--- the rest behind the processor's word, where it begins with a word, has a blank before it
+-- the rest after the processor's word, where it begins with a word, has a blank before it
 no_blank : (t between : List ℕ) → 1 ≤ length (prefix Word (after Blank (after Word t))) → prefix Blank (after Word t) ≡ between → 1 ≤ length between
 no_blank t [] word e =
     let same : after Blank (after Word t) ≡ after Word t = ap (λ (f : List ℕ). f ++ after Blank (after Word t)) (sym e) ∙ prefix-after Blank (after Word t) in
@@ -204,13 +204,13 @@ on_processor_spelled names text processor Happens read happens word =
       parts = whole;
     }
 
--- a word with blanks behind it
+-- a word with blanks after it
 alone_spelled : (word text : List ℕ) (event found : Event) → bytes_eq (prefix Word text) word ≡ true → alone event (after Word text) ≡ Ok found → IsAlone word text × (event ≡ found) × (length (prefix Word text) ≡ length word)
 alone_spelled word text event found e read =
     let same = (bytes_eq-Decides (prefix Word text) word).0 e in
     let t = tested_ok (list_all (is_of Blank) (after Word text)) (Ok event) WrongArguments found read in
     let is_found : event ≡ found = let e2 = t.1 in cc in
-    (record { behind = after Word text; behind_blank = t.0; parts = sym (prefix-after Word text) ∙ ap (λ (f : List ℕ). f ++ after Word text) same }, is_found, ap length same)
+    (record { following = after Word text; after_blank = t.0; parts = sym (prefix-after Word text) ∙ ap (λ (f : List ℕ). f ++ after Word text) same }, is_found, ap length same)
 
 happens_spelled : (names : NameLists) (text : List ℕ) (processor : Proc) (event : Event) → processor_in names (prefix Word (after Blank text)) ≡ Ok processor
     → event_of names processor (after Blank (after Word (after Blank text))) ≡ Ok event → SpellsEvent names text event

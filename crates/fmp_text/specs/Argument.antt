@@ -6,7 +6,7 @@ use Rattle.std.specs.List.{list_all}
 use Rattle.std.specs.Option.{ok_or, option_map_or, option_or}
 use Rattle.fmp_bytes.specs.declared.classes.Class.TheVariants.{Blank, Argument}
 use Rattle.fmp_bytes.specs.declared.numerals.Number.{Number}
-use Rattle.fmp_bytes.specs.Bytes.{is_of, prefix, after, behind, cut_at, pieces_of, is_identifier, close_parenthesis, comma, open_parenthesis}
+use Rattle.fmp_bytes.specs.Bytes.{is_of, prefix, after, following, cut_at, pieces_of, is_identifier, close_parenthesis, comma, open_parenthesis}
 use Rattle.fmp_bytes.specs.Numerals.{number_of, signed_of, unsigned_limited}
 use Rattle.fmp_calls.specs.declared.kinds.ArgumentKind.{ArgumentKind}
 use Rattle.fmp_calls.specs.declared.kinds.ArgumentKind.TheVariants as kinds
@@ -63,13 +63,13 @@ before_close text = do
 -- what stands between parentheses, with blanks around
 unfoldable pub enclosed_in : List ℕ → Option (List ℕ)
 enclosed_in text = do
-  rest ← behind open_parenthesis (after Blank text)
+  rest ← following open_parenthesis (after Blank text)
   before_close rest
 
--- the arguments in what follows a name, at most so many. Behind a bare name only blanks may stand
-unfoldable pub arguments_behind : ℕ → Bool → List ℕ → Option (List (List ℕ))
-arguments_behind most true rest = if list_all (is_of Blank) rest then Some [] else None
-arguments_behind most false rest = do
+-- the arguments in what follows a name, at most so many. After a bare name only blanks may stand
+unfoldable pub arguments_after : ℕ → Bool → List ℕ → Option (List (List ℕ))
+arguments_after most true rest = if list_all (is_of Blank) rest then Some [] else None
+arguments_after most false rest = do
   inner ← enclosed_in rest
   arguments_in most inner
 

@@ -17,12 +17,12 @@ use Rattle.fmp_text.specs.TextGrammar.{SpellsNothing}
 use Rattle.fmp_text.specs.declared.fault.TextKind.{TextKind}
 use Rattle.fmp_text.specs.declared.fault.TextKind.TheVariants.{BadByte, BadWord, UnknownName, WrongArguments, NumberOutOfRange}
 
--- the first word behind blanks, and what follows it
+-- the first word after blanks, and what follows it
 abbrev pub first_word : List ℕ → List ℕ
 first_word text = prefix Word (after Blank text)
 
-abbrev pub behind_word : List ℕ → List ℕ
-behind_word text = after Word (after Blank text)
+abbrev pub following_word : List ℕ → List ℕ
+following_word text = after Word (after Blank text)
 
 -- ---- the form of a call
 
@@ -41,11 +41,11 @@ AreArguments (token ∷ tokens) text = (pieces : List (List ℕ)) × (text ≡ j
 pub record AreEnclosed (tokens : List (List ℕ)) (text : List ℕ) : Type 0 where
   pub between : List ℕ
   pub inner : List ℕ
-  pub behind : List ℕ
+  pub following : List ℕ
   pub between_blank : AreBlank between
-  pub behind_blank : AreBlank behind
+  pub after_blank : AreBlank following
   pub arguments : AreArguments tokens inner
-  pub parts : text ≡ between ++ (open_parenthesis ∷ (inner ++ (close_parenthesis ∷ behind)))
+  pub parts : text ≡ between ++ (open_parenthesis ∷ (inner ++ (close_parenthesis ∷ following)))
 
 -- what follows a call's name has its form: blanks where the call is bare, else as many arguments as it has
 abbrev pub HasForm : Call → List (List ℕ) → List ℕ → Type 0
@@ -75,12 +75,12 @@ CallFault names call text fault =
     ((fault ≡ WrongArguments) × ((tokens : List (List ℕ)) → ¬ (HasForm call tokens text)))
     ⊎ ((tokens : List (List ℕ)) × HasForm call tokens text × ArgumentsFault names (kinds_of call) tokens fault)
 
--- behind the processor: no event's name; more than blanks behind `tick` or `ipi`; or a fault of a call
+-- after the processor: no event's name; more than blanks after `tick` or `ipi`; or a fault of a call
 abbrev pub HappeningFault : NameLists → List ℕ → TextKind → Type 0
 HappeningFault names text fault =
     ((fault ≡ BadWord) × (first_word text ≢ codes "tick") × (first_word text ≢ codes "ipi") × ((call : Call) → text_of call ≢ first_word text))
-    ⊎ (((fault ≡ WrongArguments) × ((first_word text ≡ codes "tick") ⊎ (first_word text ≡ codes "ipi")) × ¬ (AreBlank (behind_word text)))
-    ⊎ ((call : Call) × (text_of call ≡ first_word text) × CallFault names call (behind_word text) fault))
+    ⊎ (((fault ≡ WrongArguments) × ((first_word text ≡ codes "tick") ⊎ (first_word text ≡ codes "ipi")) × ¬ (AreBlank (following_word text)))
+    ⊎ ((call : Call) × (text_of call ≡ first_word text) × CallFault names call (following_word text) fault))
 
 -- `P` and decimal digits
 abbrev pub IsProcessorWord : List ℕ → Type 0
@@ -90,13 +90,13 @@ IsProcessorWord word = (digits : List ℕ) × (word ≡ letter_p ∷ digits) × 
 abbrev pub NamesProcessor : NameLists → List ℕ → Type 0
 NamesProcessor names word = (number : ℕ) × (1 ≤ number) × (number ≤ names.processors) × (word ≡ letter_p ∷ decimal number)
 
--- a byte that may stand in no line; no processor's word first; no such processor; or a fault behind it
+-- a byte that may stand in no line; no processor's word first; no such processor; or a fault after it
 abbrev pub CoreFault : NameLists → List ℕ → TextKind → Type 0
 CoreFault names text fault =
     ((fault ≡ BadByte) × (list_all (is_of Line) text ≡ false))
     ⊎ ((list_all (is_of Line) text ≡ true) × (((fault ≡ BadWord) × ¬ (IsProcessorWord (first_word text)))
     ⊎ (IsProcessorWord (first_word text) × (((fault ≡ NumberOutOfRange) × ¬ (NamesProcessor names (first_word text)))
-    ⊎ (NamesProcessor names (first_word text) × HappeningFault names (behind_word text) fault)))))
+    ⊎ (NamesProcessor names (first_word text) × HappeningFault names (following_word text) fault)))))
 
 -- a line that is not blank and no comment has this fault
 abbrev pub EventFault : NameLists → List ℕ → TextKind → Type 0

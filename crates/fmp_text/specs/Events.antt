@@ -36,21 +36,21 @@ fault_at kind line = record { events = []; fault = Some (record { kind = kind; l
 abbrev pub with_events : List Event → Reading → Reading
 with_events events reading = record { events = events ++ reading.events; fault = reading.fault }
 
--- an event of this line, where there is room for it behind so many others, and then the rest
+-- an event of this line, where there is room for it after so many others, and then the rest
 abbrev pub with_event : ℕ → ℕ → Event → Reading → Reading
 with_event line count event rest = if nat_lt count most_events then with_events (event ∷ []) rest else fault_at TooMany line
 
--- a whole line behind so many events, and what follows: where the line has no event, and where it has one
+-- a whole line after so many events, and what follows: where the line has no event, and where it has one
 abbrev pub after_line : ℕ → ℕ → Result (Option Event) TextKind → Reading → Reading → Reading
-after_line line count (Ok None) without behind = without
-after_line line count (Ok (Some event)) without behind = with_event line count event behind
-after_line line count (Err kind) without behind = fault_at kind line
+after_line line count (Ok None) without following = without
+after_line line count (Ok (Some event)) without following = with_event line count event following
+after_line line count (Err kind) without following = fault_at kind line
 
 -- the end of a text whose last line has no line feed. A text that went on past its limit is too long
 abbrev pub at_end : Bool → ℕ → List ℕ → Reading
 at_end cut line last = if cut then fault_at TooMany 0 else (if is_skipped last then faultless [] else fault_at CutShort line)
 
--- what bytes give behind so many whole lines and events, and the beginning of a line. The text went on past its
+-- what bytes give after so many whole lines and events, and the beginning of a line. The text went on past its
 -- limit, where it was cut
 unfoldable pub reading_from : NameLists → Bool → ℕ → ℕ → List ℕ → List ℕ → Reading
 reading_from names cut lines count begun [] = at_end cut (lines + 1) begun
@@ -63,7 +63,7 @@ reading_from names cut lines count begun (byte ∷ bytes) =
 unfoldable pub reading_of : NameLists → List ℕ → Reading
 reading_of names text = if nat_lt most_bytes (length text) then fault_at TooMany 0 else reading_from names false 0 0 [] text
 
--- what a text gives that is answered line by line. That it is too long comes behind the faults of its whole lines
+-- what a text gives that is answered line by line. That it is too long comes after the faults of its whole lines
 -- within the limit
 unfoldable pub reading_by_line : NameLists → List ℕ → Reading
 reading_by_line names text = reading_from names (nat_lt most_bytes (length text)) 0 0 [] (take most_bytes text)
@@ -81,7 +81,7 @@ pub record IsFirstLine (names : NameLists) (bytes : List ℕ) (said : Result (Op
   pub within : used ≤ length bytes
   pub says : said ≡ line_event names line
 
--- however the text goes on, the bytes behind so many lines give what the line that was found gives, and then what
+-- however the text goes on, the bytes after so many lines give what the line that was found gives, and then what
 -- follows it
 abbrev pub ScansTo : NameLists → ℕ → List ℕ → Scan → Type 0
 ScansTo names lines bytes scan = (cut : Bool) (count : ℕ) (more : List ℕ) → reading_from names cut lines count [] (bytes ++ more)

@@ -38,10 +38,10 @@ pub record FaultInLine (names : NameLists) (text : List ℕ) (events : List Even
   pub kind : IsFaultOfLine names events line fault.kind
   pub spelled : SpellsText names (lines_text before) events
   pub never : (more : List ℕ) (others : List Event) → SpellsText names (lines_text before ++ (line ++ (line_feed ∷ more))) others → ⊥
-  pub told : (more : List ℕ) → length (lines_text before ++ (line ++ (line_feed ∷ more))) ≤ most_bytes
+  pub report : (more : List ℕ) → length (lines_text before ++ (line ++ (line_feed ∷ more))) ≤ most_bytes
       → reading_of names (lines_text before ++ (line ++ (line_feed ∷ more))) ≡ record { events = events; fault = Some fault }
 
--- the text is cut short: its whole lines spell the events that were given, and what stands behind them is neither blank nor a comment
+-- the text is cut short: its whole lines spell the events that were given, and what stands after them is neither blank nor a comment
 pub record FaultAtEnd (names : NameLists) (text : List ℕ) (events : List Event) (fault : TextFault) : Type 0 where
   pub before : List (List ℕ)
   pub last : List ℕ

@@ -1,5 +1,5 @@
 -- What stands at the front of a text, as the short reader takes it apart: an event, in it a call, and its arguments.
-use Rattle.std.specs.Prelude.{◌≡◌, ℕ, ◌≤◌, ◌⊎◌, true, List, ◌∷◌, ◌++◌, codes}
+use Rattle.std.specs.Prelude.{◌≡◌, ◌≢◌, ℕ, ◌≤◌, ◌⊎◌, Bool, true, false, List, [], ◌∷◌, ◌++◌, codes}
 use Rattle.fmp_bytes.specs.declared.classes.Class.TheVariants.{Blank}
 use Rattle.fmp_bytes.specs.Bytes.{is_of, carriage_return, close_parenthesis, comma, line_feed}
 use Rattle.fmp_codes.specs.Numbers.{as_proc}
@@ -8,6 +8,7 @@ use Rattle.fmp_codes.specs.declared.numbers.Proc.{Proc}
 use Rattle.fmp_codes.specs.declared.records.Event.{Event}
 use Rattle.fmp_codes.specs.declared.records.Event.TheVariants as events
 use Rattle.fmp_calls.specs.declared.kinds.ArgumentKind.{ArgumentKind}
+use Rattle.fmp_calls.specs.declared.kinds.ArgumentKind.TheVariants as kinds
 use Rattle.fmp_calls.specs.declared.kinds.Value.{Value}
 use Rattle.fmp_calls.specs.Table.{text_of, is_bare, kinds_of, values_of}
 use Rattle.fmp_names.specs.Names.{NameLists}
@@ -21,21 +22,21 @@ pub record IsFront {X : Type 0} (Spells : List ℕ → X → Type 0) (text : Lis
   pub parts : text ≡ token ++ rest
 
 -- one blank, and the rest follows
-abbrev pub IsBehindBlank : List ℕ → List ℕ → Type 0
-IsBehindBlank text rest = (blank : ℕ) × (is_of Blank blank ≡ true) × (text ≡ blank ∷ rest)
+abbrev pub IsAfterBlank : List ℕ → List ℕ → Type 0
+IsAfterBlank text rest = (blank : ℕ) × (is_of Blank blank ≡ true) × (text ≡ blank ∷ rest)
 
 -- blanks or none, and the rest follows
-pub record IsBehindBlanks (text rest : List ℕ) : Type 0 where
+pub record IsAfterBlanks (text rest : List ℕ) : Type 0 where
   pub blanks : List ℕ
   pub blank : AreBlank blanks
   pub parts : text ≡ blanks ++ rest
 
 -- the end of a line, and the rest follows
-abbrev pub IsBehindEnd : List ℕ → List ℕ → Type 0
-IsBehindEnd text rest = (text ≡ line_feed ∷ rest) ⊎ (text ≡ carriage_return ∷ (line_feed ∷ rest))
+abbrev pub IsAfterEnd : List ℕ → List ℕ → Type 0
+IsAfterEnd text rest = (text ≡ line_feed ∷ rest) ⊎ (text ≡ carriage_return ∷ (line_feed ∷ rest))
 
 -- a comma and blanks, and the rest follows
-pub record IsBehindComma (text rest : List ℕ) : Type 0 where
+pub record IsAfterComma (text rest : List ℕ) : Type 0 where
   pub blanks : List ℕ
   pub blank : AreBlank blanks
   pub parts : text ≡ comma ∷ (blanks ++ rest)
@@ -46,7 +47,7 @@ pub record IsClosed (names : NameLists) (kinds : List ArgumentKind) (values : Li
   pub arguments : SpellsArguments names kinds values inner
   pub parts : text ≡ inner ++ (close_parenthesis ∷ rest)
 
--- a call of the same name, with the arguments that the text spells behind the opening parenthesis
+-- a call of the same name, with the arguments that the text spells after the opening parenthesis
 pub record IsMade (names : NameLists) (name : Call) (text : List ℕ) (made : Call) (rest : List ℕ) : Type 0 where
   pub same_text : text_of made ≡ text_of name
   pub same_bare : is_bare made ≡ is_bare name
@@ -64,3 +65,12 @@ abbrev pub Happens : NameLists → Proc → List ℕ → Event → Type 0
 Happens names processor token (events.Tick on) = (on ≡ processor) × IsAlone (codes "tick") token
 Happens names processor token (events.Ipi on) = (on ≡ processor) × IsAlone (codes "ipi") token
 Happens names processor token (events.Call on call) = (on ≡ processor) × SpellsCall names token call
+
+-- values of this kind are printed as numbers
+abbrev pub prints_number : ArgumentKind → Bool
+prints_number (kinds.Object kind) = false
+prints_number kind = true
+
+-- a text that is kept is this one. None is kept where it is empty
+abbrev pub IsEcho : List ℕ → List ℕ → Type 0
+IsEcho kept text = kept ≢ [] → kept ≡ text

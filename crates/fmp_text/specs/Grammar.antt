@@ -23,10 +23,10 @@ AreBlank bytes = list_all (is_of Blank) bytes ≡ true
 -- a text is this core with blanks around
 pub record Padded (core text : List ℕ) : Type 0 where
   pub before : List ℕ
-  pub behind : List ℕ
+  pub following : List ℕ
   pub before_blank : AreBlank before
-  pub behind_blank : AreBlank behind
-  pub parts : text ≡ before ++ (core ++ behind)
+  pub after_blank : AreBlank following
+  pub parts : text ≡ before ++ (core ++ following)
 
 -- a number in the range of its kind
 pub record IsNumber (kind : ArgumentKind) (token : List ℕ) (value : Value) : Type 0 where
@@ -63,11 +63,11 @@ SpellsArguments names (kind ∷ kinds) values text = (pieces : List (List ℕ)) 
 pub record SpellsEnclosed (names : NameLists) (call : Call) (text : List ℕ) : Type 0 where
   pub between : List ℕ
   pub inner : List ℕ
-  pub behind : List ℕ
+  pub following : List ℕ
   pub between_blank : AreBlank between
-  pub behind_blank : AreBlank behind
+  pub after_blank : AreBlank following
   pub arguments : SpellsArguments names (kinds_of call) (values_of call) inner
-  pub parts : text ≡ between ++ (open_parenthesis ∷ (inner ++ (close_parenthesis ∷ behind)))
+  pub parts : text ≡ between ++ (open_parenthesis ∷ (inner ++ (close_parenthesis ∷ following)))
 
 -- what follows a call's name: blanks where the call is bare, else its arguments
 abbrev pub FollowsName : NameLists → Call → List ℕ → Type 0

@@ -9,7 +9,7 @@ use Rattle.fmp_codes.specs.declared.numbers.Proc.{Proc}
 use Rattle.fmp_codes.specs.declared.records.Event.{Event}
 use Rattle.fmp_codes.specs.declared.records.Event.TheVariants as events
 use Rattle.fmp_bytes.specs.declared.classes.Class.TheVariants.{Blank, Word, Line}
-use Rattle.fmp_bytes.specs.Bytes.{is_of, prefix, after, behind, letter_p, number_sign, carriage_return}
+use Rattle.fmp_bytes.specs.Bytes.{is_of, prefix, after, following, letter_p, number_sign, carriage_return}
 use Rattle.fmp_bytes.specs.Numerals.{are_digits, is_zero_led, magnitude_of}
 use Rattle.fmp_bytes.specs.Results.{◌>>=◌}
 use Rattle.fmp_text.specs.declared.fault.TextKind.{TextKind}
@@ -28,7 +28,7 @@ processor_numbered names digits = in_processors names.processors (magnitude_of 1
 
 -- `P` and decimal digits
 unfoldable pub digits_of : List ℕ → Option (List ℕ)
-digits_of word = option_map_or (λ digits. if are_digits 10 digits then Some digits else None) (behind letter_p word) None
+digits_of word = option_map_or (λ digits. if are_digits 10 digits then Some digits else None) (following letter_p word) None
 
 -- the processor that `P` and a number name
 unfoldable pub processor_in : NameLists → List ℕ → Result Proc TextKind
@@ -59,7 +59,7 @@ event_in names line = if list_all (is_of Line) line then event_at names (after B
 
 -- a line of blanks, or a comment
 unfoldable pub is_skipped : List ℕ → Bool
-is_skipped line = list_all (is_of Blank) line || is_some (behind number_sign (after Blank line))
+is_skipped line = list_all (is_of Blank) line || is_some (following number_sign (after Blank line))
 
 -- without a carriage return at its end
 unfoldable pub without_return : List ℕ → List ℕ

@@ -13,7 +13,7 @@ use Rattle.fmp_text.specs.declared.fault.TextKind.TheVariants.{BadByte, BadWord,
 use Rattle.fmp_bytes.specs.Bytes.{is_of, prefix, after}
 use Rattle.fmp_bytes.specs.Results.{◌>>=◌}
 use Rattle.fmp_names.specs.Names.{NameLists}
-use Rattle.fmp_text.specs.Argument.{arguments_behind, value_at}
+use Rattle.fmp_text.specs.Argument.{arguments_after, value_at}
 
 -- the call that is written so, with blanks for its arguments
 unfoldable pub named_call : List ℕ → Result Call TextKind
@@ -37,7 +37,7 @@ call_with names name tokens =
 -- the call with this name and what follows the name
 unfoldable pub call_after : NameLists → Call → List ℕ → Result Call TextKind
 call_after names name rest = do
-  tokens ← ok_or (arguments_behind most_arguments (is_bare name) rest) WrongArguments
+  tokens ← ok_or (arguments_after most_arguments (is_bare name) rest) WrongArguments
   call_with names name tokens
 
 -- a call with no blanks before it

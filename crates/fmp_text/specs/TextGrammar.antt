@@ -11,11 +11,11 @@ use Rattle.fmp_text.specs.Limits.{most_bytes, most_events}
 use Rattle.fmp_names.specs.Names.{NameLists}
 use Rattle.fmp_text.specs.Grammar.{AreBlank, SpellsCall}
 
--- a word with blanks behind it
+-- a word with blanks after it
 pub record IsAlone (word text : List ℕ) : Type 0 where
-  pub behind : List ℕ
-  pub behind_blank : AreBlank behind
-  pub parts : text ≡ word ++ behind
+  pub following : List ℕ
+  pub after_blank : AreBlank following
+  pub parts : text ≡ word ++ following
 
 -- blanks, `P` and the processor's number, at least one blank, and what happens there
 pub record OnProcessor (names : NameLists) (processor : Proc) (Happens : List ℕ → Type 0) (text : List ℕ) : Type 0 where
@@ -57,7 +57,7 @@ SpellsNothing line = ((core : List ℕ) × Ended core line × AreBlank core) ⊎
 abbrev pub SpellsOne : NameLists → List ℕ → Event → Type 0
 SpellsOne names line event = (core : List ℕ) × Ended core line × SpellsEvent names core event
 
--- what stands behind the last line feed: blanks without a carriage return, or a comment
+-- what stands after the last line feed: blanks without a carriage return, or a comment
 abbrev pub IsRest : List ℕ → Type 0
 IsRest last = AreBlank last ⊎ IsComment last
 

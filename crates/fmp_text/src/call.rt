@@ -3,7 +3,7 @@ ghost use Rattle.std.specs.Prelude.{◌≡◌, ◌≤◌, length, map};
 ghost use Rattle.fmp_text.specs.Reading as spec;
 ghost use Rattle.fmp_text.specs.Reading.{Gives};
 
-use crate::argument::{arguments_behind, value_at};
+use crate::argument::{arguments_after, value_at};
 use crate::fault::TextKind;
 use arrayvec::ArrayVec;
 use fmp_bytes::{Class, all_of, skip, split_prefix};
@@ -54,7 +54,7 @@ fn call_with(names: &Names, name: Call, tokens: &[&[u8]]) -> Result<Call, TextKi
 fn call_after(names: &Names, name: Call, rest: &[u8]) -> Result<Call, TextKind>
     ensures { result ≡ spec.call_after names.now name rest.now }
 {
-    let tokens = arguments_behind(form(name).bare, rest).ok_or(TextKind::WrongArguments)?;
+    let tokens = arguments_after(form(name).bare, rest).ok_or(TextKind::WrongArguments)?;
     call_with(names, name, tokens.as_slice())
 }
 

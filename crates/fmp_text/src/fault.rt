@@ -46,7 +46,7 @@ impl TextKind {
         }
     }
 
-    /// The fault in words, as it is printed behind its number.
+    /// The fault in words, as it is printed after its number.
     pub const fn words(self) -> &'static str
         ensures { result.now ≡ words_of self }
     {

@@ -87,6 +87,6 @@ pub fn faults_stand_in_their_line()
 pub fn faults_are_those_of_the_table()
     ensures read { (names : NameLists) (line : List ℕ) (fault : TextKind) → AreValid names
         → line_event names line ≡ Err fault → EventFault names line fault }
-    ensures told { (names : NameLists) (line : List ℕ) (fault : TextKind) → AreValid names
+    ensures report { (names : NameLists) (line : List ℕ) (fault : TextKind) → AreValid names
         → EventFault names line fault → line_event names line ≡ Err fault }
 {}

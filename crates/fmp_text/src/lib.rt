@@ -13,6 +13,7 @@
 
 mod argument;
 mod call;
+mod echo;
 mod events;
 mod fault;
 mod laws;
@@ -22,6 +23,7 @@ mod scan;
 
 pub use argument::{is_argument, value_at};
 pub use call::read_call;
+pub use echo::Echo;
 pub use events::{MOST_BYTES, MOST_EVENTS, read_events};
 pub use fault::{TextFault, TextKind};
 pub use fmp_names::{

@@ -5,7 +5,7 @@ ghost use Rattle.fmp_text.specs.Lines as spec;
 
 use crate::call::call_at;
 use crate::fault::TextKind;
-use fmp_bytes::{Class, all_of, are_digits, behind, is_zero_led, magnitude, skip, split_prefix};
+use fmp_bytes::{Class, all_of, are_digits, following, is_zero_led, magnitude, skip, split_prefix};
 use fmp_codes::{Event, Proc};
 use fmp_names::Names;
 
@@ -29,12 +29,12 @@ pub fn processor_numbered(names: &Names, digits: &[u8]) -> Option<Proc>
     in_processors(names.processors(), magnitude(10, digits))
 }
 
-/// The decimal digits behind `P`, where the word is `P` and one or more of them.
+/// The decimal digits after `P`, where the word is `P` and one or more of them.
 #[tactic(auto, unfolding(crate::specs::Lines::digits_of))]
 fn digits_of(word: &[u8]) -> Option<&[u8]>
     ensures { option_copied result ≡ spec.digits_of word.now }
 {
-    let digits = behind(b'P', word)?;
+    let digits = following(b'P', word)?;
     if are_digits(10, digits) {
         Some(digits)
     } else {
@@ -80,7 +80,7 @@ fn event_of(names: &Names, processor: Proc, text: &[u8]) -> Result<Event, TextKi
     Ok(Event::Call(processor, call_at(names, text)?))
 }
 
-/// The event of a line with no blanks before it: its processor, and behind blanks what happens there.
+/// The event of a line with no blanks before it: its processor, and after blanks what happens there.
 #[tactic(auto, unfolding(crate::specs::Lines::event_at))]
 fn event_at(names: &Names, text: &[u8]) -> Result<Event, TextKind>
     ensures { result ≡ spec.event_at names.now text.now }
@@ -107,7 +107,7 @@ fn event_in(names: &Names, line: &[u8]) -> Result<Event, TextKind>
 pub fn is_skipped(line: &[u8]) -> bool
     ensures { result ≡ spec.is_skipped line.now }
 {
-    all_of(Class::Blank, line) || behind(b'#', skip(Class::Blank, line)).is_some()
+    all_of(Class::Blank, line) || following(b'#', skip(Class::Blank, line)).is_some()
 }
 
 /// A line without the carriage return at its end, if it has one.

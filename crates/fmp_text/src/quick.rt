@@ -1,14 +1,19 @@
 //! The short way through an event of the common forms: one pass, in which a call and the names of objects are guessed by their
 //! first bytes and then compared. The text spells what is found. Where nothing is found, the line has to be read in full.
-ghost use Rattle.std.specs.Prelude.{◌≡◌, ◌++◌, ◌∷◌, [], ◌+◌, ◌<◌, ◌≤◌, ◌^◌, IfSome, IsTrue, Some, decimal, length, take};
+ghost use Rattle.std.specs.Prelude.{◌≡◌, ◌++◌, ◌∷◌, [], ◌+◌, ◌<◌, ◌≤◌, ◌^◌, IfSome, IsTrue, Some, true, codes, decimal, length, take};
+ghost use Rattle.fmp_bytes.specs.Bytes.{close_parenthesis};
+ghost use Rattle.fmp_calls.specs.Table.{kinds_of, values_of};
+ghost use Rattle.fmp_names.specs.Names.{NameLists};
 ghost use Rattle.fmp_calls.specs.declared.kinds.ArgumentKind.TheVariants as kinds;
 ghost use Rattle.fmp_calls.specs.Known.{IsKnown};
 ghost use Rattle.fmp_text.specs.Grammar.{IsNumber, IsObjectName, SpellsValue, SpellsCall};
 ghost use Rattle.fmp_text.specs.TextGrammar.{SpellsEvent};
-ghost use Rattle.fmp_text.specs.Fronts.{IsFront, IsBehindBlank, IsBehindBlanks, IsBehindComma, IsClosed, IsMade, IsNumberOf, Happens};
+ghost use Rattle.fmp_text.specs.Fronts.{IsFront, IsAfterBlank, IsAfterBlanks, IsAfterComma, IsClosed, IsEcho, IsMade, IsNumberOf, Happens, prints_number};
+ghost use Rattle.fmp_text.specs.Printed.{arguments_from, call_text, event_text, value_text};
 ghost use Rattle.fmp_text.specs.Argument.{constant_of, ranged};
 
-use fmp_bytes::behind;
+use crate::echo::Echo;
+use fmp_bytes::following;
 use fmp_calls::{
     ArgumentKind, KnownCall, MOST_ARGUMENTS, NameKind, ObjectKind, Value, with_known_values,
 };
@@ -118,7 +123,7 @@ fn is_same(one: &[u8], other: &[u8]) -> bool
 
 /// What follows the prefix, where the text begins with it.
 #[inline(always)]
-fn behind_all<'a>(prefix: &[u8], text: &'a [u8]) -> Option<&'a [u8]>
+fn after_all<'a>(prefix: &[u8], text: &'a [u8]) -> Option<&'a [u8]>
     ensures { IfSome result (λ rest. text.now ≡ prefix.now ++ rest.now) }
 {
     let length = prefix.len();
@@ -137,13 +142,13 @@ fn behind_all<'a>(prefix: &[u8], text: &'a [u8]) -> Option<&'a [u8]>
 pub(crate) fn after_byte(byte: u8, text: &[u8]) -> Option<&[u8]>
     ensures { IfSome result (λ rest. text.now ≡ byte ∷ rest.now) }
 {
-    behind(byte, text)
+    following(byte, text)
 }
 
 /// What follows a space or a tab, where the text begins with one.
 #[inline(always)]
-fn behind_blank(text: &[u8]) -> Option<&[u8]>
-    ensures { IfSome result (λ rest. IsBehindBlank text.now rest.now) }
+fn after_blank(text: &[u8]) -> Option<&[u8]>
+    ensures { IfSome result (λ rest. IsAfterBlank text.now rest.now) }
 {
     match after_byte(b' ', text) {
         Some(rest) => Some(rest),
@@ -152,11 +157,11 @@ fn behind_blank(text: &[u8]) -> Option<&[u8]>
 }
 
 /// What follows the spaces and tabs that the text begins with, if any.
-fn behind_all_blanks(text: &[u8]) -> &[u8]
-    ensures { IsBehindBlanks text.now result.now }
+fn after_all_blanks(text: &[u8]) -> &[u8]
+    ensures { IsAfterBlanks text.now result.now }
 {
     let mut rest = text;
-    while let Some(more) = behind_blank(rest) {
+    while let Some(more) = after_blank(rest) {
         rest = more;
     }
     rest
@@ -165,24 +170,24 @@ fn behind_all_blanks(text: &[u8]) -> &[u8]
 /// The same, where most texts begin with no blank but with a byte above them all.
 #[inline(always)]
 #[tactic(auto, using(crate::proofs::Fronted::no_blanks))]
-fn behind_blanks(text: &[u8]) -> &[u8]
-    ensures { IsBehindBlanks text.now result.now }
+fn after_blanks(text: &[u8]) -> &[u8]
+    ensures { IsAfterBlanks text.now result.now }
 {
     match text {
         [first, ..] if b' ' < *first => text,
-        _ => behind_all_blanks(text),
+        _ => after_all_blanks(text),
     }
 }
 
 /// The same, where most texts begin with a line feed.
 #[inline(always)]
 #[tactic(auto, using(crate::proofs::Fronted::no_blanks))]
-fn behind_end_blanks(text: &[u8]) -> &[u8]
-    ensures { IsBehindBlanks text.now result.now }
+fn after_end_blanks(text: &[u8]) -> &[u8]
+    ensures { IsAfterBlanks text.now result.now }
 {
     match text {
         [b'\n', ..] => text,
-        _ => behind_all_blanks(text),
+        _ => after_all_blanks(text),
     }
 }
 
@@ -240,15 +245,32 @@ fn small_value(kind: ArgumentKind, negative: bool, magnitude: u32) -> Option<Val
     }
 }
 
-/// The value of a number.
+/// Whether values of the kind are printed as numbers.
 #[inline(always)]
-fn number_front(kind: ArgumentKind, text: &[u8]) -> Option<(Value, &[u8])>
-    ensures { IfSome result (λ found. IsFront (IsNumber kind) text.now found.0 found.1.now) }
+fn prints_number(kind: ArgumentKind) -> bool
+    ensures { result ≡ prints_number kind }
 {
+    !matches!(kind, ArgumentKind::Object(_))
+}
+
+/// The value of a number. An object is not printed so, nor is `-0`.
+#[inline(always)]
+fn number_front<'a>(
+    kind: ArgumentKind,
+    text: &'a [u8],
+    is_own: &mut bool,
+) -> Option<(Value, &'a [u8])>
+    ensures front { IfSome result (λ found. IsFront (IsNumber kind) text.now found.0 found.1.now) }
+    ensures kept { is_own.new ≡ true → is_own.old ≡ true }
+    ensures printed { (names : NameLists) → is_own.new ≡ true → IfSome result (λ found. text.now ≡ value_text names kind found.0 ++ found.1.now) }
+{
+    let is_number = prints_number(kind);
+    *is_own = *is_own && is_number;
     if let Some(digits) = after_byte(b'-', text) {
-        let (number, rest) = decimal_front(digits)?;
-        let value = small_value(kind, true, number)?;
-        return Some((value, rest));
+        let (magnitude, rest) = decimal_front(digits)?;
+        let negative = small_value(kind, true, magnitude)?;
+        *is_own = *is_own && magnitude != 0;
+        return Some((negative, rest));
     }
     let (number, rest) = decimal_front(text)?;
     let value = small_value(kind, false, number)?;
@@ -264,17 +286,26 @@ fn word_front<'a>(
     text: &'a [u8],
 ) -> Option<(Value, &'a [u8])>
     requires { constant_of kind word.now ≡ Some value }
-    ensures { IfSome result (λ found. IsFront (λ token value. constant_of kind token ≡ Some value) text.now found.0 found.1.now) }
+    ensures front { IfSome result (λ found. IsFront (λ token value. constant_of kind token ≡ Some value) text.now found.0 found.1.now) }
+    ensures printed { (names : NameLists) → value_text names kind value ≡ word.now → IfSome result (λ found. text.now ≡ value_text names kind found.0 ++ found.1.now) }
 {
-    let rest = behind_all(word, text)?;
+    let rest = after_all(word, text)?;
     Some((value, rest))
 }
 
-/// A constant of the kind.
-#[tactic(auto, unfolding(crate::specs::Argument::constant_of))]
-fn constant_front(kind: ArgumentKind, text: &[u8]) -> Option<(Value, &[u8])>
-    ensures { IfSome result (λ found. IsFront (λ token value. constant_of kind token ≡ Some value) text.now found.0 found.1.now) }
+/// A constant of the kind. Those of tasks and modes are printed, numbers in place of the others.
+#[tactic(auto, unfolding(crate::specs::Argument::constant_of, crate::specs::Printed::value_text, crate::specs::Printed::object_text))]
+fn constant_front<'a>(
+    kind: ArgumentKind,
+    text: &'a [u8],
+    is_own: &mut bool,
+) -> Option<(Value, &'a [u8])>
+    ensures kept { is_own.new ≡ true → is_own.old ≡ true }
+    ensures printed { (names : NameLists) → is_own.new ≡ true → IfSome result (λ found. text.now ≡ value_text names kind found.0 ++ found.1.now) }
+    ensures front { IfSome result (λ found. IsFront (λ token value. constant_of kind token ≡ Some value) text.now found.0 found.1.now) }
 {
+    let is_word = matches!(kind, ArgumentKind::Object(_) | ArgumentKind::Mode);
+    *is_own = *is_own && is_word;
     match kind {
         ArgumentKind::Object(ObjectKind::Task) => {
             word_front(kind, b"TSK_SELF".as_slice(), Value::Number(0), text)
@@ -320,7 +351,7 @@ fn object_front<'a>(
     ensures { IfSome result (λ found. IsFront (IsObjectName names.now (kinds.Object kind)) text.now found.0 found.1.now) }
 {
     let name = names.name(NameKind::Object(kind), usize::from(number))?;
-    let rest = behind_all(name, text)?;
+    let rest = after_all(name, text)?;
     Some((Value::Number(i32::from(number)), rest))
 }
 
@@ -355,14 +386,17 @@ fn value_front<'a>(
     kind: ArgumentKind,
     text: &'a [u8],
     value: &mut Value,
+    is_own: &mut bool,
 ) -> Option<&'a [u8]>
-    ensures { IfSome result (λ rest. IsFront (SpellsValue names.now kind) text.now value.new rest.now) }
+    ensures front { IfSome result (λ rest. IsFront (SpellsValue names.now kind) text.now value.new rest.now) }
+    ensures kept { is_own.new ≡ true → is_own.old ≡ true }
+    ensures printed { is_own.new ≡ true → IfSome result (λ rest. text.now ≡ value_text names.now kind value.new ++ rest.now) }
 {
     let [first, ..] = text else {
         return None;
     };
     if *first <= b'9' {
-        let (number, rest) = number_front(kind, text)?;
+        let (number, rest) = number_front(kind, text, is_own)?;
         *value = number;
         return Some(rest);
     }
@@ -370,20 +404,25 @@ fn value_front<'a>(
         *value = number;
         return Some(rest);
     }
-    let (constant, rest) = constant_front(kind, text)?;
+    let (constant, rest) = constant_front(kind, text, is_own)?;
     *value = constant;
     Some(rest)
 }
 
-/// What follows a comma, with a space behind it or not.
+/// What follows a comma, with a space after it, as it is printed, or not.
 #[inline(always)]
-fn behind_comma(text: &[u8]) -> Option<&[u8]>
-    ensures { IfSome result (λ rest. IsBehindComma text.now rest.now) }
+fn after_comma<'a>(text: &'a [u8], is_own: &mut bool) -> Option<&'a [u8]>
+    ensures kept { is_own.new ≡ true → is_own.old ≡ true }
+    ensures printed { is_own.new ≡ true → IfSome result (λ rest. text.now ≡ codes ", " ++ rest.now) }
+    ensures front { IfSome result (λ rest. IsAfterComma text.now rest.now) }
 {
     let rest = after_byte(b',', text)?;
     match after_byte(b' ', rest) {
         Some(more) => Some(more),
-        None => Some(rest),
+        None => {
+            *is_own = false;
+            Some(rest)
+        }
     }
 }
 
@@ -394,30 +433,42 @@ fn arguments_front<'a>(
     kinds: &[ArgumentKind],
     text: &'a [u8],
     values: &mut [Value; MOST_ARGUMENTS],
+    is_own: &mut bool,
 ) -> Option<&'a [u8]>
     requires { length kinds.now ≤ MOST_ARGUMENTS }
-    ensures { IfSome result (λ rest. IsClosed names.now kinds.now (take (length kinds.now) values.new) text.now rest.now) }
+    ensures closed { IfSome result (λ rest. IsClosed names.now kinds.now (take (length kinds.now) values.new) text.now rest.now) }
+    ensures kept { is_own.new ≡ true → is_own.old ≡ true }
+    ensures printed { is_own.new ≡ true
+        → IfSome result (λ rest. text.now ≡ arguments_from names.now 0 kinds.now (take (length kinds.now) values.new) ++ close_parenthesis ∷ rest.now) }
 {
     let count = kinds.len();
     let mut rest = text;
     for index in 0..count {
-        let more = value_front(names, kinds[index], rest, &mut values[index])?;
+        let more = value_front(names, kinds[index], rest, &mut values[index], is_own)?;
         if index + 1 == count {
             return after_byte(b')', more);
         }
-        rest = behind_comma(more)?;
+        rest = after_comma(more, is_own)?;
     }
     after_byte(b')', rest)
 }
 
-/// The call of this name with the arguments in the text behind the opening parenthesis, and what follows the closing one.
+/// The call of this name with the arguments in the text after the opening parenthesis, and what follows the closing one.
 #[inline(always)]
-fn call_closed<'a>(names: &Names, known: &KnownCall, text: &'a [u8]) -> Option<(Call, &'a [u8])>
+fn call_closed<'a>(
+    names: &Names,
+    known: &KnownCall,
+    text: &'a [u8],
+    is_own: &mut bool,
+) -> Option<(Call, &'a [u8])>
     requires { IsKnown known.now }
-    ensures { IfSome result (λ found. IsMade names.now known.now.call text.now found.0 found.1.now) }
+    ensures made { IfSome result (λ found. IsMade names.now known.now.call text.now found.0 found.1.now) }
+    ensures kept { is_own.new ≡ true → is_own.old ≡ true }
+    ensures printed { is_own.new ≡ true
+        → IfSome result (λ found. text.now ≡ arguments_from names.now 0 (kinds_of found.0) (values_of found.0) ++ close_parenthesis ∷ found.1.now) }
 {
     let mut values = [Value::Number(0); MOST_ARGUMENTS];
-    let end = arguments_front(names, known.form.kinds, text, &mut values)?;
+    let end = arguments_front(names, known.form.kinds, text, &mut values, is_own)?;
     Some((with_known_values(known.call, &values), end))
 }
 
@@ -426,13 +477,24 @@ fn call_closed<'a>(names: &Names, known: &KnownCall, text: &'a [u8]) -> Option<(
 pub fn quick_call<'a>(names: &Names, text: &'a [u8]) -> Option<(Call, &'a [u8])>
     ensures { IfSome result (λ found. IsFront (SpellsCall names.now) text.now found.0 found.1.now) }
 {
+    let mut is_own = true;
+    call_front(names, text, &mut is_own)
+}
+
+/// The same, and whether it is written as it is printed.
+#[inline(always)]
+fn call_front<'a>(names: &Names, text: &'a [u8], is_own: &mut bool) -> Option<(Call, &'a [u8])>
+    ensures front { IfSome result (λ found. IsFront (SpellsCall names.now) text.now found.0 found.1.now) }
+    ensures kept { is_own.new ≡ true → is_own.old ≡ true }
+    ensures printed { is_own.new ≡ true → IfSome result (λ found. text.now ≡ call_text names.now found.0 ++ found.1.now) }
+{
     let known = names.likely_call(word_key(text))?;
-    let rest = behind_all(known.form.text, text)?;
+    let rest = after_all(known.form.text, text)?;
     if known.form.bare {
         return Some((known.call, rest));
     }
     let inner = after_byte(b'(', rest)?;
-    let (made, end) = call_closed(names, known, inner)?;
+    let (made, end) = call_closed(names, known, inner, is_own)?;
     Some((made, end))
 }
 
@@ -456,34 +518,45 @@ fn happening_front<'a>(
     processor: Proc,
     text: &'a [u8],
     event: &mut Event,
+    is_own: &mut bool,
 ) -> Option<&'a [u8]>
-    ensures { IfSome result (λ rest. IsFront (Happens names.now processor) text.now event.new rest.now) }
+    ensures front { IfSome result (λ rest. IsFront (Happens names.now processor) text.now event.new rest.now) }
+    ensures printed { is_own.old ≡ true → is_own.new ≡ true → IfSome result (λ rest. text.now ≡ event_text names.now event.new ++ rest.now) }
 {
-    if let Some(rest) = behind_all(b"tick".as_slice(), text) {
+    if let Some(rest) = after_all(b"tick".as_slice(), text) {
         *event = Event::Tick(processor);
         return Some(rest);
     }
-    if let Some((call, rest)) = quick_call(names, text) {
+    if let Some((call, rest)) = call_front(names, text, is_own) {
         *event = Event::Call(processor, call);
         return Some(rest);
     }
-    let rest = behind_all(b"ipi".as_slice(), text)?;
+    let rest = after_all(b"ipi".as_slice(), text)?;
     *event = Event::Ipi(processor);
     Some(rest)
 }
 
-/// The event that the text begins with, with the blanks around it, is written into one that is there. Gives what follows. `None` says
-/// nothing of the text, and then nothing is said of the event.
+/// The event that the text begins with, with the blanks around it, is written into one that is there, and its text is kept where it is
+/// printed so. Gives what follows. `None` says nothing of the text, and then nothing is said of the event and what is kept.
 #[inline(always)]
-pub fn quick_event<'a>(names: &Names, text: &'a [u8], event: &mut Event) -> Option<&'a [u8]>
-    ensures { IfSome result (λ rest. IsFront (SpellsEvent names.now) text.now event.new rest.now) }
+pub fn quick_event<'a>(
+    names: &Names,
+    text: &'a [u8],
+    event: &mut Event,
+    echo: &mut Echo,
+) -> Option<&'a [u8]>
+    ensures front { IfSome result (λ rest. IsFront (SpellsEvent names.now) text.now event.new rest.now) }
+    ensures echo { IfSome result (λ rest. IsEcho echo.new (event_text names.now event.new)) }
 {
-    let start = behind_blanks(text);
+    let start = after_blanks(text);
     let first = after_byte(b'P', start)?;
     let (number, second) = digit_front(first)?;
-    let third = behind_blank(second)?;
-    let behind = behind_blanks(third);
+    let third = after_blank(second)?;
+    let following = after_blanks(third);
     let processor = processor_at(names, number)?;
-    let end = happening_front(names, processor, behind, event)?;
-    Some(behind_end_blanks(end))
+    let mut is_own = true;
+    let end = happening_front(names, processor, following, event, &mut is_own)?;
+    let bytes = following.len() - end.len();
+    echo.keep(is_own, following, bytes);
+    Some(after_end_blanks(end))
 }

@@ -1,8 +1,10 @@
 //! Finding the next line of an event text that says something.
 ghost use Rattle.std.specs.Prelude.{◌≡◌, ◌≢◌, ◌<◌, ◌≤◌, ◌+◌, ◌-◌, ◌^◌, length, drop, Ok, Some, None, IfSome};
 ghost use Rattle.fmp_text.specs.Events.{ScansTo, HasNoFeed, IsFirstLine};
-ghost use Rattle.fmp_text.specs.Fronts.{IsBehindEnd};
+ghost use Rattle.fmp_text.specs.Fronts.{IsAfterEnd, IsEcho};
+ghost use Rattle.fmp_text.specs.Printed.{event_text};
 
+use crate::echo::Echo;
 use crate::fault::TextKind;
 use crate::line::line_event;
 use crate::quick::{after_byte, quick_event};
@@ -27,8 +29,8 @@ struct SaidLine {
 
 /// What follows the end of a line, a line feed with a carriage return before it or not, where the text begins with that.
 #[inline(always)]
-fn behind_end(text: &[u8]) -> Option<&[u8]>
-    ensures { IfSome result (λ rest. IsBehindEnd text.now rest.now) }
+fn after_end(text: &[u8]) -> Option<&[u8]>
+    ensures { IfSome result (λ rest. IsAfterEnd text.now rest.now) }
 {
     match after_byte(b'\n', text) {
         Some(rest) => Some(rest),
@@ -36,15 +38,22 @@ fn behind_end(text: &[u8]) -> Option<&[u8]>
     }
 }
 
-/// The first line, where it is whole and an event of the common form, which is written into one that is there. Gives what follows the
-/// line. `None` says nothing of the bytes, and then nothing is said of the event.
+/// The first line, where it is whole and an event of the common form, which is written into one that is there, and whose text is kept
+/// where it is printed so. Gives what follows the line. `None` says nothing of the bytes, and then nothing is said of the event and
+/// what is kept.
 #[inline(always)]
-pub fn quick_line<'a>(names: &Names, bytes: &'a [u8], event: &mut Event) -> Option<&'a [u8]>
-    ensures { IfSome result (λ rest. IsFirstLine names.now bytes.now (Ok (Some event.new)) (length bytes.now - length rest.now)) }
+pub fn quick_line<'a>(
+    names: &Names,
+    bytes: &'a [u8],
+    event: &mut Event,
+    echo: &mut Echo,
+) -> Option<&'a [u8]>
+    ensures line { IfSome result (λ rest. IsFirstLine names.now bytes.now (Ok (Some event.new)) (length bytes.now - length rest.now)) }
+    ensures echo { IfSome result (λ rest. IsEcho echo.new (event_text names.now event.new)) }
 {
     names.validity();
-    let rest = quick_event(names, bytes, event)?;
-    behind_end(rest)
+    let rest = quick_event(names, bytes, event, echo)?;
+    after_end(rest)
 }
 
 /// The first line, where it is whole.
@@ -54,7 +63,8 @@ fn first_line(names: &Names, bytes: &[u8]) -> Option<SaidLine>
     ensures none { result ≡ None → HasNoFeed bytes.now }
 {
     let mut event = Event::Tick(Proc::new(1));
-    if let Some(rest) = quick_line(names, bytes, &mut event) {
+    let mut echo = Echo::new();
+    if let Some(rest) = quick_line(names, bytes, &mut event, &mut echo) {
         return Some(SaidLine {
             said: Ok(Some(event)),
             length: bytes.len() - rest.len(),
@@ -67,7 +77,7 @@ fn first_line(names: &Names, bytes: &[u8]) -> Option<SaidLine>
     })
 }
 
-/// The first whole line that is not skipped, behind so many lines. Where there is none, it says no event.
+/// The first whole line that is not skipped, after so many lines. Where there is none, it says no event.
 #[inline(always)]
 pub fn first_said(names: &Names, before: u32, bytes: &[u8]) -> Scan
     requires { before + length bytes.now < 2 ^ 32 }

@@ -77,7 +77,7 @@ pub ahead_closed : (names : NameLists) (f : Feed) (more : List ℕ) → f.ended 
 unfolding ahead
 ahead_closed names f more open_yet = rw open_yet refl
 
--- what comes behind the end counts for nothing
+-- what comes after the end counts for nothing
 ahead_coming : (names : NameLists) (f : Feed) (ended : Bool) → f.ended ≡ ended → (more : List ℕ) → ahead names f (coming ended more) ≡ ahead names f more
 unfolding ahead
 ahead_coming names f true is more = rw is refl
@@ -85,19 +85,19 @@ ahead_coming names f false is more = refl
 
 -- ---- calls one after the other
 
--- no piece is pushed behind the end
-no_text_behind : (names : NameLists) (moves : List Move) (old new : Feed) → LeadsTo names old moves new → old.ended ≡ true → (text_of moves ≡ []) × (new.ended ≡ true)
-no_text_behind names [] old new leads ended = (refl, rw leads ended)
-no_text_behind names (Move.Push piece ∷ moves) old new leads ended = let no = sym leads.0 ∙ ended in absurd cc
-no_text_behind names (Move.Close ∷ moves) old new leads ended = let no = sym leads.0 ∙ ended in absurd cc
-no_text_behind names (Move.Next answer ∷ moves) old new leads ended = no_text_behind names moves leads.0 new leads.3 (leads.2 ∙ ended)
+-- no piece is pushed after the end
+no_text_after : (names : NameLists) (moves : List Move) (old new : Feed) → LeadsTo names old moves new → old.ended ≡ true → (text_of moves ≡ []) × (new.ended ≡ true)
+no_text_after names [] old new leads ended = (refl, rw leads ended)
+no_text_after names (Move.Push piece ∷ moves) old new leads ended = let no = sym leads.0 ∙ ended in absurd cc
+no_text_after names (Move.Close ∷ moves) old new leads ended = let no = sym leads.0 ∙ ended in absurd cc
+no_text_after names (Move.Next answer ∷ moves) old new leads ended = no_text_after names moves leads.0 new leads.3 (leads.2 ∙ ended)
 
--- what an answer gives comes before what is given behind it
+-- what an answer gives comes before what is given after it
 given : (names : NameLists) (old next : Feed) (answer : Result (Option Event) TextFault) (events : List Event) (text : List ℕ) (last : Reading) → Gives names old answer next
     → ahead names next text ≡ with_events events last → ahead names old text ≡ with_events (given_before answer events) last
-given names old next (Ok (Some event)) events text last gives behind = gives text ∙ ap (with_events (event ∷ [])) behind
-given names old next (Ok None) events text last gives behind = gives text ∙ behind
-given names old next (Err fault) events text last gives behind = gives.0 text ∙ sym (ahead_failed names next fault (ap (λ (f : Feed). f.fault) gives.1) text) ∙ behind
+given names old next (Ok (Some event)) events text last gives following = gives text ∙ ap (with_events (event ∷ [])) following
+given names old next (Ok None) events text last gives following = gives text ∙ following
+given names old next (Err fault) events text last gives following = gives.0 text ∙ sym (ahead_failed names next fault (ap (λ (f : Feed). f.fault) gives.1) text) ∙ following
 
 -- what is ahead at first is what the calls gave, and then what is ahead at last
 moved : (names : NameLists) (moves : List Move) (old new : Feed) → LeadsTo names old moves new → (more : List ℕ)
@@ -106,8 +106,8 @@ moved names [] old new leads more = rw leads (ahead_coming names old old.ended r
 moved names (Move.Push piece ∷ moves) old new leads more =
     rw (append_assoc piece (text_of moves)) (ahead_pushed names old piece (text_of moves ++ coming new.ended more) leads.0) ∙ moved names moves (pushed old piece) new leads.1 more
 moved names (Move.Close ∷ moves) old new leads more =
-    let behind = no_text_behind names moves (closed old) new leads.1 refl in
-    let none : text_of moves ++ coming new.ended more ≡ [] = rw (behind.0, behind.1) refl in
+    let following = no_text_after names moves (closed old) new leads.1 refl in
+    let none : text_of moves ++ coming new.ended more ≡ [] = rw (following.0, following.1) refl in
     rw none (ahead_closed names old [] leads.0) ∙ rw none at (moved names moves (closed old) new leads.1 more)
 moved names (Move.Next answer ∷ moves) old new leads more =
     given names old leads.0 answer (events_of moves) (text_of moves ++ coming new.ended more) (ahead names new more) leads.1 (moved names moves leads.0 new leads.3 more)

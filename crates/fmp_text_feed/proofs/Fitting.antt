@@ -17,14 +17,14 @@ module _ (names : NameLists) (P : Event → Type 0) (one : (line : List ℕ) (ev
   end_all false false line last is = rw is (All-nil P)
 
   event_all : (room : Bool) (line count : ℕ) (event : Event) (rest : Reading) → nat_lt count most_events ≡ room → P event → All P rest.events → All P (with_event line count event rest).events
-  event_all true line count event rest is here behind = rw is (All-cons P event rest.events here behind)
-  event_all false line count event rest is here behind = rw is (All-nil P)
+  event_all true line count event rest is here following = rw is (All-cons P event rest.events here following)
+  event_all false line count event rest is here following = rw is (All-nil P)
 
-  line_all : (line count : ℕ) (said : Result (Option Event) TextKind) (without behind : Reading) → ((event : Event) → said ≡ Ok (Some event) → P event) → All P without.events → All P behind.events
-      → All P (after_line line count said without behind).events
-  line_all line count (Ok None) without behind here w b = w
-  line_all line count (Ok (Some event)) without behind here w b = event_all (nat_lt count most_events) line count event behind refl (here event refl) b
-  line_all line count (Err kind) without behind here w b = All-nil P
+  line_all : (line count : ℕ) (said : Result (Option Event) TextKind) (without following : Reading) → ((event : Event) → said ≡ Ok (Some event) → P event) → All P without.events → All P following.events
+      → All P (after_line line count said without following).events
+  line_all line count (Ok None) without following here w b = w
+  line_all line count (Ok (Some event)) without following here w b = event_all (nat_lt count most_events) line count event following refl (here event refl) b
+  line_all line count (Err kind) without following here w b = All-nil P
 
   either_all : (test : Bool) (left right : Reading) → All P left.events → All P right.events → All P (if test then left else right).events
   either_all true left right a b = a

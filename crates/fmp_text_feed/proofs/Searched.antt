@@ -1,4 +1,4 @@
--- A search for a line feed that begins behind bytes that hold none.
+-- A search for a line feed that begins after bytes that hold none.
 use Rattle.std.proofs.Common.{◌≡◌, ◌≢◌, ℕ, suc, ◌+◌, ◌-◌, ◌<◌, ◌≤◌, Bool, true, false, List, [], ◌++◌, length, take, drop, slice_index, Option, Some, None, Result, Ok, refl, ap, sym, ◌∙◌, arith}
 use Rattle.std.specs.Prelude.{nat_lt}
 use Rattle.std.proofs.lemmas.Grind.{common_steps}
@@ -59,13 +59,13 @@ module _ (names : NameLists) (before : ℕ) (bytes piece : List ℕ) (end : ℕ)
   line_said said is cut count more = rw is (line cut count more)
 
   -- it is skipped, and what follows says this
-  pub line_skipped : (behind : List ℕ) (scan : Scan) → line_event names piece ≡ Ok None → behind ≡ drop (end + 1) bytes → ScansTo names (before + 1) behind scan
+  pub line_skipped : (following : List ℕ) (scan : Scan) → line_event names piece ≡ Ok None → following ≡ drop (end + 1) bytes → ScansTo names (before + 1) following scan
       → ScansTo names before bytes (record { said = scan.said; used = end + 1 + scan.used; lines = scan.lines })
-  line_skipped behind scan skipped is_behind scans cut count more =
+  line_skipped following scan skipped is_after scans cut count more =
       let here = rw skipped at (line cut count more) in
-      let there = rw (is_behind, drop-drop scan.used (end + 1) bytes) at (scans cut count more) in
+      let there = rw (is_after, drop-drop scan.used (end + 1) bytes) at (scans cut count more) in
       here ∙ there
 
--- no line feed is left behind what was used
-pub none_left : (bytes behind : List ℕ) (start used : ℕ) → behind ≡ drop start bytes → HasNoFeed (drop used behind) → HasNoFeed (drop (start + used) bytes)
-none_left bytes behind start used is_behind none = rw (is_behind, drop-drop used start bytes) at none
+-- no line feed is left after what was used
+pub none_left : (bytes following : List ℕ) (start used : ℕ) → following ≡ drop start bytes → HasNoFeed (drop used following) → HasNoFeed (drop (start + used) bytes)
+none_left bytes following start used is_after none = rw (is_after, drop-drop used start bytes) at none

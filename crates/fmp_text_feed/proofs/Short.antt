@@ -8,10 +8,10 @@ use Rattle.fmp_text.specs.Events.{HasNoFeed}
 use Rattle.fmp_text_feed.specs.Feed.{Feed, HasLinesWithin, IsEndOf, pushed}
 
 module _ (most : ℕ) where
-  -- the lines behind some bytes are short where all lines are
-  behind_short : (front bytes : List ℕ) → HasLinesWithin most (front ++ bytes) → HasLinesWithin most bytes
-  behind_short front bytes short before line behind parts none =
-      short (front ++ before) line behind (ap (λ (xs : List ℕ). front ++ xs) parts ∙ sym (append_assoc front before (line ++ behind))) none
+  -- the lines after some bytes are short where all lines are
+  after_short : (front bytes : List ℕ) → HasLinesWithin most (front ++ bytes) → HasLinesWithin most bytes
+  after_short front bytes short before line following parts none =
+      short (front ++ before) line following (ap (λ (xs : List ℕ). front ++ xs) parts ∙ sym (append_assoc front before (line ++ following))) none
 
   -- what is left of some bytes has short lines where these have
   pub end_short : (all rest more : List ℕ) → IsEndOf all rest → HasLinesWithin most (all ++ more) → HasLinesWithin most (rest ++ more)
@@ -19,7 +19,7 @@ module _ (most : ℕ) where
       let front = take end.taken all in
       let parts : all ++ more ≡ front ++ (rest ++ more) =
       ap (λ (xs : List ℕ). xs ++ more) (sym (take-append-drop end.taken all) ∙ ap (λ (xs : List ℕ). front ++ xs) (sym end.is)) ∙ append_assoc front rest more in
-      behind_short front (rest ++ more) (subst (HasLinesWithin most) parts short)
+      after_short front (rest ++ more) (subst (HasLinesWithin most) parts short)
 
   -- a piece that was taken in whole moves from what is still to come to the rest
   pub pushed_short : (f : Feed) (piece more : List ℕ) → (pushed f piece).dropped ≡ false → HasLinesWithin most (f.rest ++ (piece ++ more)) → HasLinesWithin most ((pushed f piece).rest ++ more)

@@ -11,7 +11,7 @@ pub data Move : Type 0 where
   Close : Move
   Next : Result (Option Event) TextFault → Move
 
--- the pieces, one behind the other
+-- the pieces, one after the other
 abbrev pub text_of : List Move → List ℕ
 text_of [] = []
 text_of (Push piece ∷ moves) = piece ++ text_of moves

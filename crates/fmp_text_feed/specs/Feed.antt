@@ -29,7 +29,7 @@ new_feed = record { rest = []; lines = 0; events = 0; taken = 0; dropped = false
 abbrev pub first_room : ℕ
 first_room = 131072
 
--- a piece stands behind the rest, up to the limit
+-- a piece stands after the rest, up to the limit
 abbrev pub pushed : Feed → List ℕ → Feed
 pushed f piece = record f {
   rest = f.rest ++ take (most_bytes - f.taken) piece;
@@ -57,7 +57,7 @@ too_many line = record { kind = TooMany; line = line }
 abbrev pub only : TextFault → Reading
 only fault = record { events = []; fault = Some fault }
 
--- nothing comes behind the end
+-- nothing comes after the end
 abbrev pub coming : Bool → List ℕ → List ℕ
 coming true more = []
 coming false more = more
@@ -115,7 +115,7 @@ pub record IsWanting (f : Feed) : Type 0 where
 
 -- no line of these bytes has more than so many, its line feed left out
 abbrev pub HasLinesWithin : ℕ → List ℕ → Type 0
-HasLinesWithin most bytes = (before line behind : List ℕ) → bytes ≡ before ++ (line ++ behind) → HasNoFeed line → length line ≤ most
+HasLinesWithin most bytes = (before line following : List ℕ) → bytes ≡ before ++ (line ++ following) → HasNoFeed line → length line ≤ most
 
 -- what every feed keeps of its numbers
 pub record IsFeed (rest lines events taken : ℕ) (dropped : Bool) : Type 0 where
@@ -124,7 +124,7 @@ pub record IsFeed (rest lines events taken : ℕ) (dropped : Bool) : Type 0 wher
   pub events_fit : events ≤ most_events
   pub dropped_full : dropped ≡ true → taken ≡ most_bytes
 
--- there is no line feed among the first so many bytes behind a place
+-- there is no line feed among the first so many bytes after a place
 pub record IsSearched (bytes : List ℕ) (start searched : ℕ) : Type 0 where
   pub within : start + searched ≤ length bytes
   pub none : HasNoFeed (take searched (drop start bytes))

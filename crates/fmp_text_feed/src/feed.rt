@@ -3,14 +3,16 @@ ghost use Rattle.std.specs.Prelude.{◌≡◌, ◌+◌, ◌-◌, ◌*◌, ◌<�
 ghost use Rattle.std.specs.Prelude.{IfErr, IfSome, OnOk, OnErr};
 ghost use Rattle.fmp_calls.specs.Arguments.{EventInBits};
 ghost use Rattle.fmp_codes.specs.Records.{processor_of};
+ghost use Rattle.fmp_text.specs.Fronts.{IsEcho};
 ghost use Rattle.fmp_text.specs.Limits.{most_bytes, most_events};
+ghost use Rattle.fmp_text.specs.Printed.{event_text};
 ghost use Rattle.fmp_text_feed.specs.Feed.{TakesOff, Gives, IsDone, IsEndOf, IsWanting, answered, closed, failed, first_room, new_feed, pushed, rest_fault, too_many};
 ghost use Rattle.fmp_text_feed.specs.Feed.{want_of_memory};
 
 use crate::scan::next_said;
 use fmp_codes::Event;
 use fmp_names::Names;
-use fmp_text::{MOST_BYTES, MOST_EVENTS, TextFault, TextKind, is_skipped, quick_line};
+use fmp_text::{Echo, MOST_BYTES, MOST_EVENTS, TextFault, TextKind, is_skipped, quick_line};
 use std::alloc::{AllocError, Global};
 use std::marker::Model;
 
@@ -203,6 +205,7 @@ impl EventFeed {
     /// `None` means that a further piece is wanted or, once the text has ended, that it is done. The error is the next line's
     /// first fault. Where no line is whole, a text that went on past its limit is too long, at line 0, and a rest that is not
     /// to be skipped is cut short once the text has ended. A fault is answered from then on, and changes nothing more.
+    #[inline(never)]
     pub fn next(&mut self, names: &Names) -> Result<Option<Event>, TextFault>
         ensures gives { Gives names.now self.old result self.new }
         ensures wanting { result ≡ Ok None → IsWanting self.new }
@@ -237,9 +240,9 @@ impl EventFeed {
     }
 
     /// Takes the next line off the front, where it is whole and an event of the common form, which is written into one that is there.
-    /// Otherwise nothing changes but what stands in the event.
+    /// Its text is kept where it is printed so. Otherwise nothing changes except what stands in the event and what is kept.
     #[inline(always)]
-    fn take_quick(&mut self, names: &Names, event: &mut Event) -> bool
+    fn take_quick(&mut self, names: &Names, event: &mut Event, echo: &mut Echo) -> bool
         ensures kept { result ≡ false → self.new ≡ self.old }
         ensures fine { result ≡ true → self.old.fault ≡ None }
         ensures gives { result ≡ true → Gives names.now self.old (Ok (Some event.new)) self.new }
@@ -248,13 +251,14 @@ impl EventFeed {
         ensures few { self.new.events ≤ most_events }
         ensures on { result ≡ true → (processor_of event.new).number ≤ names.now.processors }
         ensures in_bits { result ≡ true → EventInBits event.new }
+        ensures echo { result ≡ true → IsEcho echo.new (event_text names.now event.new) }
     {
         names.validity();
         if self.searched != 0 || self.events == MOST_EVENTS || self.fault.is_some() {
             return false;
         }
         let bytes = &self.bytes[self.start..];
-        let Some(rest) = quick_line(names, bytes, event) else {
+        let Some(rest) = quick_line(names, bytes, event, echo) else {
             return false;
         };
         self.start += bytes.len() - rest.len();
@@ -263,10 +267,15 @@ impl EventFeed {
         true
     }
 
-    /// As [`EventFeed::next`], where the event is written into one that is there: whether there is one. Where there is none, or a
-    /// fault, nothing is said of what stands in it.
+    /// As [`EventFeed::next`], where the event is written into one that is there: whether there is one. Its text may be kept, where it
+    /// is printed so. Where there is none, or a fault, nothing is said of what stands in it and of what is kept.
     #[inline(always)]
-    pub fn next_into(&mut self, names: &Names, event: &mut Event) -> Result<bool, TextFault>
+    pub fn next_into(
+        &mut self,
+        names: &Names,
+        event: &mut Event,
+        echo: &mut Echo,
+    ) -> Result<bool, TextFault>
         ensures gives { Gives names.now self.old (answered result event.new) self.new }
         ensures wanting { result ≡ Ok false → IsWanting self.new }
         ensures done { result ≡ Ok false → self.old.ended ≡ true → IsDone names.now self.new }
@@ -279,10 +288,12 @@ impl EventFeed {
         // The event is on a processor of the names, and its arguments are within the bits of their kinds.
         ensures on { result ≡ Ok true → (processor_of event.new).number ≤ names.now.processors }
         ensures in_bits { result ≡ Ok true → EventInBits event.new }
+        ensures echo { result ≡ Ok true → IsEcho echo.new (event_text names.now event.new) }
     {
-        if self.take_quick(names, event) {
+        if self.take_quick(names, event, echo) {
             return Ok(true);
         }
+        echo.clear();
         match self.next(names)? {
             Some(found) => {
                 *event = found;

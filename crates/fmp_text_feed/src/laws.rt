@@ -7,7 +7,7 @@ ghost use Rattle.fmp_text_feed.specs.Feed.{Feed, IsDone, ahead, closed, coming, 
 ghost use Rattle.fmp_text_feed.specs.Cuts.{Move, LeadsTo, text_of, events_of};
 
 /// What is ahead of a new feed is what the text gives that comes; and it stays the same when a piece of it is pushed, and when
-/// the text is closed behind its last piece.
+/// the text is closed after its last piece.
 pub fn cuts_do_not_matter()
     ensures start { (names : NameLists) (text : List ℕ) → ahead names new_feed text ≡ reading_by_line names text }
     ensures piece { (names : NameLists) (feed : Feed) (piece more : List ℕ) → feed.ended ≡ false

@@ -1,4 +1,4 @@
-//! Finding the next line that says something behind bytes that were searched before.
+//! Finding the next line that says something after bytes that were searched before.
 ghost use Rattle.std.specs.Prelude.{◌≡◌, ◌≢◌, ◌<◌, ◌≤◌, ◌+◌, ◌^◌, length, take, drop, Ok, None};
 ghost use Rattle.fmp_text.specs.Events.{ScansTo, HasNoFeed};
 
@@ -6,7 +6,7 @@ use fmp_names::Names;
 use fmp_text::{Scan, first_said, line_event};
 use memchr::memchr;
 
-/// The first whole line that is not skipped, behind so many lines, where the first `searched` bytes hold no line feed. Where
+/// The first whole line that is not skipped, after so many lines, where the first `searched` bytes hold no line feed. Where
 /// there is none, it says no event.
 #[inline(always)]
 pub fn next_said(names: &Names, before: u32, searched: usize, bytes: &[u8]) -> Scan
@@ -32,11 +32,11 @@ pub fn next_said(names: &Names, before: u32, searched: usize, bytes: &[u8]) -> S
     let said = line_event(names, &bytes[..end]);
     match said {
         Ok(None) => {
-            let behind = first_said(names, before + 1, &bytes[end + 1..]);
+            let following = first_said(names, before + 1, &bytes[end + 1..]);
             Scan {
-                said: behind.said,
-                used: end + 1 + behind.used,
-                lines: behind.lines,
+                said: following.said,
+                used: end + 1 + following.used,
+                lines: following.lines,
             }
         }
         _ => Scan {

@@ -1,4 +1,4 @@
--- A fault of a script text stands in its line: the lines before it are read without one, and nothing behind it is.
+-- A fault of a script text stands in its line: the lines before it are read without one, and nothing after it is.
 use Rattle.std.proofs.Common.{◌≡◌, ℕ, ◌+◌, ◌<◌, ◌≤◌, ◌==◌, Bool, true, false, not, ◌⊎◌, cond, eqb, ltb, inl, inr, List, [], ◌∷◌, ◌++◌, length, Option, Some, None, Result, Ok, Err, is_some, refl, sym, ap, subst, ◌∙◌, arith, length-append, append_assoc}
 use Rattle.std.specs.Prelude.{All, codes}
 use Rattle.std.specs.List.{list_all, list_any, join_with_byte}
@@ -37,7 +37,7 @@ use Rattle.fmp_text.specs.TextGrammar.{SpellsNothing}
 use Rattle.fmp_text_scripts.specs.declared.linking.Jump.{Jump}
 use Rattle.fmp_text_scripts.specs.declared.linking.Label.{Label}
 use Rattle.fmp_text_scripts.specs.ScriptGrammar.{IsLabelName, IsLine, SpellsEnd, SpellsHead, SpellsLabel, SpellsPart, SpellsParts, SpellsScripts}
-use Rattle.fmp_text_scripts.specs.Sources.{Part, Asks, Stands, Jumps, ArePlaced, AreNew, calls_of, is_behind, jumps_of, labels_of}
+use Rattle.fmp_text_scripts.specs.Sources.{Part, Asks, Stands, Jumps, ArePlaced, AreNew, calls_of, is_after, jumps_of, labels_of}
 use Rattle.fmp_text_scripts.proofs.ScriptFaults.{line_fault}
 use Rattle.fmp_text_scripts.specs.FirstFaults.{HaveNoFault, LeaveOpen, Say, all_labels, ending, FaultInLine, AreOpen, FaultAtEnd, FirstFault}
 use Rattle.fmp_text_scripts.proofs.Read.{scripts_from-cut, judged}
@@ -50,7 +50,7 @@ same_fault a b e = cc
 no_fault : (scripts : List Steps) (fault : TextFault) → ◌≡◌ {A = Result (List Steps) TextFault} (Ok scripts) (Err fault) → ⊥
 no_fault scripts fault e = absurd cc
 
--- ---- faults behind so many lines
+-- ---- faults after so many lines
 
 abbrev IsLate : ℕ → TextFault → Type 0
 IsLate lines fault = (lines < fault.line) ⊎ (fault.kind ≡ CutShort)
@@ -66,8 +66,8 @@ later lines fault (inr cut) = inr cut
 
 line_is_late : (lines : ℕ) (said : Result Reading TextKind) (rest : Reading → Result (List Steps) TextFault) (fault : TextFault) → ((next : Reading) → rest next ≡ Err fault → IsLate (lines + 1) fault)
     → after_line (lines + 1) said rest ≡ Err fault → IsLate lines fault
-line_is_late lines (Ok next) rest fault behind e = later lines fault (behind next e)
-line_is_late lines (Err kind) rest fault behind e = inl (let at : lines + 1 ≡ fault.line = ap (λ (f : TextFault). f.line) (same_fault (record { kind = kind; line = lines + 1 }) fault e) in omega (arith, at))
+line_is_late lines (Ok next) rest fault following e = later lines fault (following next e)
+line_is_late lines (Err kind) rest fault following e = inl (let at : lines + 1 ≡ fault.line = ap (λ (f : TextFault). f.line) (same_fault (record { kind = kind; line = lines + 1 }) fault e) in omega (arith, at))
 
 faults_are_late : (names : NameLists) (bytes : List ℕ) (lines : ℕ) (r : Reading) (begun : List ℕ) (fault : TextFault) → scripts_from names lines r begun bytes ≡ Err fault → IsLate lines fault
 unfolding scripts_from
@@ -76,23 +76,23 @@ faults_are_late names (b ∷ bytes) lines r begun fault e =
     elim (cases_Bool (eqb b 10)) [
       | inl t ↦
           line_is_late lines (with_line names (lines + 1) r begun) (λ next. scripts_from names (lines + 1) next [] bytes) fault
-          (λ next behind. faults_are_late names bytes (lines + 1) next [] fault behind) (rw t at e)
+          (λ next following. faults_are_late names bytes (lines + 1) next [] fault following) (rw t at e)
       | inr f ↦ faults_are_late names bytes lines r (begun ++ b ∷ []) fault (rw f at e)
     ]
 
--- ---- what is read behind some lines
+-- ---- what is read after some lines
 
 -- a script is open since line n
 record IsOpenSince (names : NameLists) (lines : List (List ℕ)) (n : ℕ) : Type 0 where
   before : List (List ℕ)
   head : List ℕ
-  behind : List (List ℕ)
+  following : List (List ℕ)
   function : ℕ
-  parts : lines ≡ before ++ (head ∷ behind)
+  parts : lines ≡ before ++ (head ∷ following)
   number : n ≡ length before + 1
   spelled : length (lines_text before) ≤ most_bytes → (scripts : List Steps) × SpellsScripts names (lines_text before) scripts
   opens : IsLine (λ text. SpellsHead names text function) head
-  unended : All (λ line. ¬ (IsLine SpellsEnd line)) behind
+  unended : All (λ line. ¬ (IsLine SpellsEnd line)) following
 
 abbrev Opened : NameLists → List (List ℕ) → List Steps → Option Open → Type 0
 Opened names lines done None = Unit {0}
@@ -196,7 +196,7 @@ record IsEnded (names : NameLists) (n : ℕ) (done : List Steps) (o : Open) (lab
 end_ended : (names : NameLists) (n : ℕ) (done : List Steps) (o : Open) (ws : List Way) → linked o.labels o.jumps ≡ Some ws → IsEnded names n done o o.labels (codes "end" ++ (10 ∷ []))
 unfolding scripts_from is_skipped
 end_ended names n done o ws is =
-    let is_end : IsLine SpellsEnd (codes "end") = (codes "end", inl refl, record { before = []; behind = []; before_blank = refl; behind_blank = refl; parts = refl }) in
+    let is_end : IsLine SpellsEnd (codes "end") = (codes "end", inl refl, record { before = []; following = []; before_blank = refl; after_blank = refl; parts = refl }) in
     let says = end_read names (codes "end") is_end in
     let read : with_line names (n + 1) (reading done (Some o)) (codes "end") ≡ Ok (reading (done ++ (record_of o ws ∷ [])) None) = rw (says, is) refl in
     record {
@@ -211,7 +211,7 @@ label_line name is = record {
   between = [];
   between_blank = refl;
   is_name = is;
-  padded = record { before = []; behind = []; before_blank = refl; behind_blank = refl; parts = sym (append-nil (name ++ (58 ∷ []))) };
+  padded = record { before = []; following = []; before_blank = refl; after_blank = refl; parts = sym (append-nil (name ++ (58 ∷ []))) };
 }
 
 -- an open script is ended with these labels for its other jumps
@@ -281,7 +281,7 @@ says_open : (names : NameLists) (valid : AreValid names) (before : List (List �
 says_open names valid before done None after = λ fits. whole names before done after fits
 says_open names valid before done (Some o) after =
     let left = after.open_since.1 in
-    let fit = subst (λ (l : List Jump). All (λ (j : Jump). IsLabelName j.name) l) (sym left.jumps) (names_fit names left.behind left.parts left.says 0) in
+    let fit = subst (λ (l : List Jump). All (λ (j : Jump). IsLabelName j.name) l) (sym left.jumps) (names_fit names left.following left.parts left.says 0) in
     let e = can_end names valid done o.jumps (length before) o [] refl refl fit in
     let more : List ℕ = ending (length o.steps) o.labels o.jumps in (
       left,
@@ -319,13 +319,13 @@ labels_snoc n (Asks call ∷ parts) p = labels_snoc (n + 1) parts p ∙ ap (λ (
 labels_snoc n (Stands name ∷ parts) p = ap (λ (l : List Label). record { name = name; at = n } ∷ l) (labels_snoc n parts p)
 labels_snoc n (Jumps answer name ∷ parts) p = labels_snoc n parts p
 
-behind_snoc : (b : Bool) (parts : List Part) (p : Part) → is_behind b (parts ++ (p ∷ [])) ≡ is_behind (is_behind b parts) (p ∷ [])
-behind_snoc b [] p = refl
-behind_snoc b (Asks call ∷ parts) p = behind_snoc true parts p
-behind_snoc b (Stands name ∷ parts) p = behind_snoc false parts p
-behind_snoc b (Jumps answer name ∷ parts) p = behind_snoc (not (is_any answer)) parts p
+after_snoc : (b : Bool) (parts : List Part) (p : Part) → is_after b (parts ++ (p ∷ [])) ≡ is_after (is_after b parts) (p ∷ [])
+after_snoc b [] p = refl
+after_snoc b (Asks call ∷ parts) p = after_snoc true parts p
+after_snoc b (Stands name ∷ parts) p = after_snoc false parts p
+after_snoc b (Jumps answer name ∷ parts) p = after_snoc (not (is_any answer)) parts p
 
-placed_snoc : (b : Bool) (parts : List Part) (p : Part) → ArePlaced b parts → ArePlaced (is_behind b parts) (p ∷ []) → ArePlaced b (parts ++ (p ∷ []))
+placed_snoc : (b : Bool) (parts : List Part) (p : Part) → ArePlaced b parts → ArePlaced (is_after b parts) (p ∷ []) → ArePlaced b (parts ++ (p ∷ []))
 placed_snoc b [] p all here = here
 placed_snoc b (Asks call ∷ parts) p all here = placed_snoc true parts p all here
 placed_snoc b (Stands name ∷ parts) p all here = placed_snoc false parts p all here
@@ -353,17 +353,17 @@ parts_snoc names (l ∷ lines) line parts p (inr s) is = inr (s.0, s.1 ++ (p ∷
 
 module _ (names : NameLists) (before : List (List ℕ)) (line : List ℕ) where
   -- one line more, which is no end
-  behind_more : (n : ℕ) → ¬ (IsLine SpellsEnd line) → IsOpenSince names before n → IsOpenSince names (before ++ (line ∷ [])) n
-  behind_more n other s = record {
+  after_more : (n : ℕ) → ¬ (IsLine SpellsEnd line) → IsOpenSince names before n → IsOpenSince names (before ++ (line ∷ [])) n
+  after_more n other s = record {
     before = s.before;
     head = s.head;
-    behind = s.behind ++ (line ∷ []);
+    following = s.following ++ (line ∷ []);
     function = s.function;
-    parts = ap (λ (ls : List (List ℕ)). ls ++ (line ∷ [])) s.parts ∙ append_assoc s.before (s.head ∷ s.behind) (line ∷ []);
+    parts = ap (λ (ls : List (List ℕ)). ls ++ (line ∷ [])) s.parts ∙ append_assoc s.before (s.head ∷ s.following) (line ∷ []);
     number = s.number;
     spelled = s.spelled;
     opens = s.opens;
-    unended = All-push (λ l. ¬ (IsLine SpellsEnd l)) s.behind line s.unended other;
+    unended = All-push (λ l. ¬ (IsLine SpellsEnd l)) s.following line s.unended other;
   }
 
   no_end : (what : Option Said) → said_in names true line ≡ Ok what → (Some said.Closes ≡ what → ⊥) → ¬ (IsLine SpellsEnd line)
@@ -381,17 +381,17 @@ module _ (names : NameLists) (before : List (List ℕ)) (line : List ℕ) where
   nothing_left done o nothing s = record {
     before = s.before;
     head = s.head;
-    behind = s.behind ++ (line ∷ []);
+    following = s.following ++ (line ∷ []);
     parts = s.parts;
-    lines_are = ap (λ (ls : List (List ℕ)). ls ++ (line ∷ [])) s.lines_are ∙ append_assoc s.before (s.head ∷ s.behind) (line ∷ []);
+    lines_are = ap (λ (ls : List (List ℕ)). ls ++ (line ∷ [])) s.lines_are ∙ append_assoc s.before (s.head ∷ s.following) (line ∷ []);
     number = s.number;
     spelled = s.spelled;
     opens = s.opens;
-    says = parts_nothing names s.behind line s.parts s.says nothing;
+    says = parts_nothing names s.following line s.parts s.says nothing;
     steps = s.steps;
     jumps = s.jumps;
     labels = s.labels;
-    behind_is = s.behind_is;
+    after_is = s.after_is;
     placed = s.placed;
     new = s.new;
   }
@@ -407,17 +407,17 @@ module _ (names : NameLists) (before : List (List ℕ)) (line : List ℕ) where
       by (Asks call) is2 may2 = record {
         before = s.before;
         head = s.head;
-        behind = s.behind ++ (line ∷ []);
+        following = s.following ++ (line ∷ []);
         parts = s.parts ++ (Asks call ∷ []);
-        lines_are = ap (λ (ls : List (List ℕ)). ls ++ (line ∷ [])) s.lines_are ∙ append_assoc s.before (s.head ∷ s.behind) (line ∷ []);
+        lines_are = ap (λ (ls : List (List ℕ)). ls ++ (line ∷ [])) s.lines_are ∙ append_assoc s.before (s.head ∷ s.following) (line ∷ []);
         number = s.number;
         spelled = s.spelled;
         opens = s.opens;
-        says = parts_snoc names s.behind line s.parts (Asks call) s.says is2;
+        says = parts_snoc names s.following line s.parts (Asks call) s.says is2;
         steps = ap (λ (l : List Call). l ++ (call ∷ [])) s.steps ∙ sym (calls_snoc s.parts (Asks call));
         jumps = s.jumps ∙ sym (append-nil (jumps_of 0 s.parts)) ∙ sym (jumps_snoc 0 s.parts (Asks call));
         labels = s.labels ∙ sym (append-nil (labels_of 0 s.parts)) ∙ sym (labels_snoc 0 s.parts (Asks call));
-        behind_is = sym (behind_snoc false s.parts (Asks call));
+        after_is = sym (after_snoc false s.parts (Asks call));
         placed = placed_snoc false s.parts (Asks call) s.placed tt;
         new = new_snoc 0 [] s.parts (Asks call) s.new tt;
       }
@@ -426,17 +426,17 @@ module _ (names : NameLists) (before : List (List ℕ)) (line : List ℕ) where
           record {
             before = s.before;
             head = s.head;
-            behind = s.behind ++ (line ∷ []);
+            following = s.following ++ (line ∷ []);
             parts = s.parts ++ (Stands name ∷ []);
-            lines_are = ap (λ (ls : List (List ℕ)). ls ++ (line ∷ [])) s.lines_are ∙ append_assoc s.before (s.head ∷ s.behind) (line ∷ []);
+            lines_are = ap (λ (ls : List (List ℕ)). ls ++ (line ∷ [])) s.lines_are ∙ append_assoc s.before (s.head ∷ s.following) (line ∷ []);
             number = s.number;
             spelled = s.spelled;
             opens = s.opens;
-            says = parts_snoc names s.behind line s.parts (Stands name) s.says is2;
+            says = parts_snoc names s.following line s.parts (Stands name) s.says is2;
             steps = s.steps ∙ sym (append-nil (calls_of s.parts)) ∙ sym (calls_snoc s.parts (Stands name));
             jumps = s.jumps ∙ sym (append-nil (jumps_of 0 s.parts)) ∙ sym (jumps_snoc 0 s.parts (Stands name));
             labels = ap (λ (l : List Label). l ++ (label ∷ [])) s.labels ∙ ap (λ (k : ℕ). labels_of 0 s.parts ++ (record { name = name; at = k } ∷ [])) count ∙ sym (labels_snoc 0 s.parts (Stands name));
-            behind_is = sym (behind_snoc false s.parts (Stands name));
+            after_is = sym (after_snoc false s.parts (Stands name));
             placed = placed_snoc false s.parts (Stands name) s.placed tt;
             new = new_snoc 0 [] s.parts (Stands name) s.new (ap (λ (l : List Label). has_label l name) (sym s.labels) ∙ may2.0, subst (λ (l : List Label). length l < most_labels) s.labels may2.1, tt);
           }
@@ -445,22 +445,22 @@ module _ (names : NameLists) (before : List (List ℕ)) (line : List ℕ) where
           record {
             before = s.before;
             head = s.head;
-            behind = s.behind ++ (line ∷ []);
+            following = s.following ++ (line ∷ []);
             parts = s.parts ++ (Jumps answer name ∷ []);
-            lines_are = ap (λ (ls : List (List ℕ)). ls ++ (line ∷ [])) s.lines_are ∙ append_assoc s.before (s.head ∷ s.behind) (line ∷ []);
+            lines_are = ap (λ (ls : List (List ℕ)). ls ++ (line ∷ [])) s.lines_are ∙ append_assoc s.before (s.head ∷ s.following) (line ∷ []);
             number = s.number;
             spelled = s.spelled;
             opens = s.opens;
-            says = parts_snoc names s.behind line s.parts (Jumps answer name) s.says is2;
+            says = parts_snoc names s.following line s.parts (Jumps answer name) s.says is2;
             steps = s.steps ∙ sym (append-nil (calls_of s.parts)) ∙ sym (calls_snoc s.parts (Jumps answer name));
             jumps = ap (λ (l : List Jump). l ++ (jump ∷ [])) s.jumps ∙ ap (λ (k : ℕ). jumps_of 0 s.parts ++ (record { after = k; answer = answer; name = name } ∷ [])) count ∙ sym (jumps_snoc 0 s.parts (Jumps answer name));
             labels = s.labels ∙ sym (append-nil (labels_of 0 s.parts)) ∙ sym (labels_snoc 0 s.parts (Jumps answer name));
-            behind_is = sym (behind_snoc false s.parts (Jumps answer name));
-            placed = placed_snoc false s.parts (Jumps answer name) s.placed (sym s.behind_is ∙ may2.0, tt);
+            after_is = sym (after_snoc false s.parts (Jumps answer name));
+            placed = placed_snoc false s.parts (Jumps answer name) s.placed (sym s.after_is ∙ may2.0, tt);
             new = new_snoc 0 [] s.parts (Jumps answer name) s.new tt;
           }
 
-  -- behind a part the same script is open
+  -- after a part the same script is open
   part_opens : (done : List Steps) (o : Open) (part : Part) (next : Reading) → IsLine (λ text. SpellsPart names text part) line → After names before done (Some o) → said_in names true line ≡ Ok (Some (said_of part))
       → took (length before + 1) (reading done (Some o)) (Some (said_of part)) ≡ Ok next → (Some said.Closes ≡ Some (said_of part) → ⊥) → Opened names (before ++ (line ∷ [])) next.scripts next.unclosed
   part_opens done o part next spelled after says takes other =
@@ -468,11 +468,11 @@ module _ (names : NameLists) (before : List (List ℕ)) (line : List ℕ) where
       subst (λ (r : Reading). Opened names (before ++ (line ∷ [])) r.scripts r.unclosed) t.1 (still part spelled t.0)
     where
       still : (part2 : Part) → IsLine (λ text. SpellsPart names text part2) line → MayCome o part2 → Opened names (before ++ (line ∷ [])) done (Some (with_part o part2))
-      still (Asks call) is may = (behind_more o.line (no_end (Some (said_of part)) says other) after.open_since.0, part_left done o (Asks call) is may after.open_since.1)
-      still (Stands name) is may = (behind_more o.line (no_end (Some (said_of part)) says other) after.open_since.0, part_left done o (Stands name) is may after.open_since.1)
-      still (Jumps answer name) is may = (behind_more o.line (no_end (Some (said_of part)) says other) after.open_since.0, part_left done o (Jumps answer name) is may after.open_since.1)
+      still (Asks call) is may = (after_more o.line (no_end (Some (said_of part)) says other) after.open_since.0, part_left done o (Asks call) is may after.open_since.1)
+      still (Stands name) is may = (after_more o.line (no_end (Some (said_of part)) says other) after.open_since.0, part_left done o (Stands name) is may after.open_since.1)
+      still (Jumps answer name) is may = (after_more o.line (no_end (Some (said_of part)) says other) after.open_since.0, part_left done o (Jumps answer name) is may after.open_since.1)
 
-  -- what is open behind the line
+  -- what is open after the line
   line_opens : (done : List Steps) (unclosed : Option Open) (what : Option Said) (next : Reading) → After names before done unclosed → said_in names (is_some unclosed) line ≡ Ok what
       → LineSays names (is_some unclosed) line what → took (length before + 1) (reading done unclosed) what ≡ Ok next → Opened names (before ++ (line ∷ [])) next.scripts next.unclosed
   line_opens done None None next after says spelled takes =
@@ -480,7 +480,7 @@ module _ (names : NameLists) (before : List (List ℕ)) (line : List ℕ) where
       subst (λ (r : Reading). Opened names (before ++ (line ∷ [])) r.scripts r.unclosed) same tt
   line_opens done (Some o) None next after says spelled takes =
       let same : reading done (Some o) ≡ next = cc in
-      subst (λ (r : Reading). Opened names (before ++ (line ∷ [])) r.scripts r.unclosed) same (behind_more o.line (no_end None says (λ e. absurd cc)) after.open_since.0, nothing_left done o (nothing_said spelled) after.open_since.1)
+      subst (λ (r : Reading). Opened names (before ++ (line ∷ [])) r.scripts r.unclosed) same (after_more o.line (no_end None says (λ e. absurd cc)) after.open_since.0, nothing_left done o (nothing_said spelled) after.open_since.1)
   line_opens done unclosed (Some what) next after says (inl spelled) takes = absurd (let none = spelled.0 in cc)
   line_opens done None (Some (said.Opens f)) next after says (inr spelled) takes =
       let same = opening_parts (list_any (λ s. s.function == f) done) (reading done (Some (opened (length before + 1) f))) next takes in
@@ -488,7 +488,7 @@ module _ (names : NameLists) (before : List (List ℕ)) (line : List ℕ) where
         record {
           before = before;
           head = line;
-          behind = [];
+          following = [];
           function = f;
           parts = refl;
           number = refl;
@@ -499,7 +499,7 @@ module _ (names : NameLists) (before : List (List ℕ)) (line : List ℕ) where
         record {
           before = before;
           head = line;
-          behind = [];
+          following = [];
           parts = [];
           lines_are = refl;
           number = refl;
@@ -509,7 +509,7 @@ module _ (names : NameLists) (before : List (List ℕ)) (line : List ℕ) where
           steps = refl;
           jumps = refl;
           labels = refl;
-          behind_is = refl;
+          after_is = refl;
           placed = tt;
           new = tt;
         },
@@ -551,7 +551,7 @@ module _ (names : NameLists) (valid : AreValid names) (before : List (List ℕ))
     stops kind text rest read parts =
         let reads_fault : (more : List ℕ) → scripts_from names 0 nothing_read [] (lines_text before ++ (line ++ (10 ∷ more))) ≡ Err (record { kind = kind; line = length before + 1 }) =
         (λ more. reads_line more ∙ ap (λ (s : Result Reading TextKind). after_line (length before + 1) s (λ x. scripts_from names (length before + 1) x [] more)) read) in
-        let told : (more : List ℕ) → length (lines_text before ++ (line ++ (10 ∷ more))) ≤ most_bytes
+        let report : (more : List ℕ) → length (lines_text before ++ (line ++ (10 ∷ more))) ≤ most_bytes
         → scripts_in names (lines_text before ++ (line ++ (10 ∷ more))) ≡ Err (record { kind = kind; line = length before + 1 }) =
         (λ more fits. judged names (lines_text before ++ (line ++ (10 ∷ more))) fits ∙ reads_fault more) in
         record {
@@ -564,8 +564,8 @@ module _ (names : NameLists) (valid : AreValid names) (before : List (List ℕ))
           faultless = no_faults names valid before done unclosed after;
           kind = (done, unclosed, says_open names valid before done unclosed after, line_fault names (length before + 1) (reading done unclosed) line kind valid read);
           never = λ more scripts s. no_fault scripts (record { kind = kind; line = length before + 1 })
-              (sym (scripts_in-spelled names (lines_text before ++ (line ++ (10 ∷ more))) scripts valid s) ∙ told more s.short);
-          told = told;
+              (sym (scripts_in-spelled names (lines_text before ++ (line ++ (10 ∷ more))) scripts valid s) ∙ report more s.short);
+          report = report;
         }
 
 -- the end of the text
@@ -574,10 +574,10 @@ module _ (names : NameLists) (valid : AreValid names) (text : List ℕ) (fault :
   open_lines : (n : ℕ) → IsOpenSince names before n → AreOpen names before n
   open_lines n s =
       let long : length text ≡ length (lines_text before ++ last) = ap length parts in
-      let beginning : lines_text before ≡ lines_text (s.before ++ (s.head ∷ s.behind)) = ap lines_text s.parts in
-      let short : length (lines_text s.before) ≤ length (lines_text (s.before ++ (s.head ∷ s.behind))) = lines_longer s.before (s.head ∷ s.behind) in
+      let beginning : lines_text before ≡ lines_text (s.before ++ (s.head ∷ s.following)) = ap lines_text s.parts in
+      let short : length (lines_text s.before) ≤ length (lines_text (s.before ++ (s.head ∷ s.following))) = lines_longer s.before (s.head ∷ s.following) in
       let spelled = s.spelled (omega (arith, fits, long, length-append (lines_text before) last, ap length beginning, short)) in
-      record { before = s.before; head = s.head; behind = s.behind; function = s.function; scripts = spelled.0; parts = s.parts; number = s.number; spelled = spelled.1; opens = s.opens; unended = s.unended }
+      record { before = s.before; head = s.head; following = s.following; function = s.function; scripts = spelled.0; parts = s.parts; number = s.number; spelled = spelled.1; opens = s.opens; unended = s.unended }
     where
       lines_longer : (first rest : List (List ℕ)) → length (lines_text first) ≤ length (lines_text (first ++ rest))
       lines_longer [] rest = omega arith
@@ -614,14 +614,14 @@ module _ (names : NameLists) (valid : AreValid names) (text : List ℕ) (fault :
 abbrev Found : NameLists → List ℕ → TextFault → Type 0
 Found names text fault = FaultInLine names text fault ⊎ FaultAtEnd names text fault
 
--- what is found behind these lines, where the others are left
-abbrev Behind : NameLists → List ℕ → TextFault → List (List ℕ) → Type 0
-Behind names text fault lines =
+-- what is found after these lines, where the others are left
+abbrev Following : NameLists → List ℕ → TextFault → List (List ℕ) → Type 0
+Following names text fault lines =
     (before : List (List ℕ)) (done : List Steps) (unclosed : Option Open) → After names before done unclosed → text ≡ lines_text before ++ join_with_byte 10 lines
     → scripts_from names (length before) (reading done unclosed) [] (join_with_byte 10 lines) ≡ Err fault → Found names text fault
 
 module _ (names : NameLists) (valid : AreValid names) (text : List ℕ) (fault : TextFault) (fits : length text ≤ most_bytes) where
-  one_line : (line next : List ℕ) (lines : List (List ℕ)) → list_all (λ b. not (eqb b 10)) line ≡ true → Behind names text fault (next ∷ lines)
+  one_line : (line next : List ℕ) (lines : List (List ℕ)) → list_all (λ b. not (eqb b 10)) line ≡ true → Following names text fault (next ∷ lines)
       → (before : List (List ℕ)) (done : List Steps) (unclosed : Option Open) → After names before done unclosed → text ≡ lines_text before ++ (line ++ (10 ∷ join_with_byte 10 (next ∷ lines)))
       → (read : Result Reading TextKind) → with_line names (length before + 1) (reading done unclosed) line ≡ read
       → after_line (length before + 1) read (λ x. scripts_from names (length before + 1) x [] (join_with_byte 10 (next ∷ lines))) ≡ Err fault → Found names text fault
@@ -632,7 +632,7 @@ module _ (names : NameLists) (valid : AreValid names) (text : List ℕ) (fault :
       inl (subst (FaultInLine names text) (same_fault (record { kind = kind; line = length before + 1 }) fault e)
       (stops names valid before done unclosed after line here kind text (join_with_byte 10 (next ∷ lines)) read parts))
 
-  find : (lines : List (List ℕ)) → 0 < length lines → AreApart lines → Behind names text fault lines
+  find : (lines : List (List ℕ)) → 0 < length lines → AreApart lines → Following names text fault lines
   find [] some apart before done unclosed after parts e = absurd (omega (arith, some))
   find (last ∷ []) some apart before done unclosed after parts e =
       inr (ends names valid text fault fits before last parts (and_parts (list_all (λ b. not (eqb b 10)) last) true apart).0 done unclosed after (is_skipped last) refl

@@ -7,7 +7,7 @@ use Rattle.std.proofs.lemmas.Bool.{cond_both, ltb-true, eqb-false}
 use Rattle.std.proofs.lemmas.List.Elements.{All-nil, All-push}
 use Rattle.std.proofs.lemmas.List.Quantifiers.{all_pairs_push}
 use Rattle.fmp_bytes.specs.declared.classes.Class.TheVariants.{Argument, Blank, Word}
-use Rattle.fmp_bytes.specs.Bytes.{is_of, prefix, after, behind, colon, is_identifier}
+use Rattle.fmp_bytes.specs.Bytes.{is_of, prefix, after, following, colon, is_identifier}
 use Rattle.fmp_bytes.specs.Results.{◌>>=◌}
 use Rattle.fmp_calls.specs.Arguments.{CallInBits}
 use Rattle.fmp_codes.specs.declared.calls.Call.{Call}
@@ -97,7 +97,7 @@ module _ (names : NameLists) (P : Call → Type 0) (reads : (text : List ℕ) (c
       (λ _. cond_both (bytes_eq (prefix Word (after Blank text)) (codes "ret_hdr")) _ _ (SaidFits P) (λ _. tt)
       (λ _. cond_both (bytes_eq (prefix Word (after Blank text)) (codes "on")) _ _ (SaidFits P) (λ _. turns_fits inside _)
       (λ _. cond_both (bytes_eq (prefix Word (after Blank text)) (codes "goto")) _ _ (SaidFits P) (λ _. goes_fits inside _)
-      (λ _. other_fits inside text (behind colon (after Blank (after Word (after Blank text)))))))))
+      (λ _. other_fits inside text (following colon (after Blank (after Word (after Blank text)))))))))
 
   said_fits : (inside : Bool) (line : List ℕ) → SaidFits P (said_in names inside line)
   unfolding said_in
@@ -165,7 +165,7 @@ module _ (P : Call → Type 0) where
   jumped_fits : (r : Reading) (a : Pattern) (name : List ℕ) (o : Option Open) → Fits P r.scripts → UnclosedFits P r.scripts o → ReadingFits P r → TookFits P (jumped r a name o)
   jumped_fits r a name None fits open_fits all = all
   jumped_fits r a name (Some o) fits open_fits all =
-      cond_both o.behind _ _ (TookFits P)
+      cond_both o.following _ _ (TookFits P)
       (λ _. cond_both (nat_lt (length o.jumps) most_ways) _ _ (TookFits P)
       (λ small. record {
         scripts = fits;

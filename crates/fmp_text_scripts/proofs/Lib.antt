@@ -5,6 +5,6 @@ pub mod Same  -- Calls of one name with the same arguments are equal.
 pub mod Linked  -- The ways of jumps, jump by jump.
 pub mod SpelledLines  -- A line of a script text is read exactly where it is spelled.
 pub mod SpelledScripts  -- A script text is read exactly where it is spelled.
-pub mod FirstFaults  -- A fault of a script text stands in its line: the lines before it are read without one, and nothing behind it is.
+pub mod FirstFaults  -- A fault of a script text stands in its line: the lines before it are read without one, and nothing after it is.
 pub mod ScriptFaults  -- A line of a script text is read with a fault exactly where the table of faults has it.
 pub mod Straight  -- Scripts without ways.

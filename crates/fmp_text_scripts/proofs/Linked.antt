@@ -48,6 +48,6 @@ linked_long labels (j ∷ jumps) ways is = one (way_of labels j) (linked labels 
     one (Some x) None all e long = absurd cc
     one (Some x) (Some more) all e long = let here : all ≡ x ∷ more = cc in ap length here ∙ ap suc (long more refl)
 
--- behind the last jump
+-- after the last jump
 pub link_ends : (labels : List Label) (jumps : List Jump) (ways : List Way) (rest : List Jump) → rest ≡ [] → linked labels jumps ≡ joined ways (linked labels rest) → linked labels jumps ≡ Some ways
 link_ends labels jumps ways rest none so_far = so_far ∙ ap (λ (js : List Jump). joined ways (linked labels js)) none ∙ ap Some (append-nil ways)

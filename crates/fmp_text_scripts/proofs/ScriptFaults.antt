@@ -25,11 +25,11 @@ use Rattle.fmp_names.specs.Names.{NameLists, AreValid, number_of}
 use Rattle.fmp_names.proofs.Placed.{number_of-name_of, name_of-number_of}
 use Rattle.fmp_text.specs.declared.fault.TextKind.{TextKind}
 use Rattle.fmp_text.specs.declared.fault.TextKind.TheVariants.{BadByte, BadWord, NumberOutOfRange, UnknownName, WrongArguments, TooMany}
-use Rattle.fmp_text.specs.EventFaults.{behind_word, first_word, CallFault, CoreFault, EventFault, HappeningFault}
+use Rattle.fmp_text.specs.EventFaults.{following_word, first_word, CallFault, CoreFault, EventFault, HappeningFault}
 use Rattle.fmp_text.specs.Lines.{is_skipped, processor_in, without_return, event_in, event_at, event_of, line_event}
 use Rattle.fmp_text.specs.Reading.{named_call, call_after, call_at, call_in}
 use Rattle.fmp_text.proofs.EventFaults.{call_fault, err_is, ok_is_none}
-use Rattle.fmp_text.proofs.EventFaultsRead.{event_told}
+use Rattle.fmp_text.proofs.EventFaultsRead.{event_reported}
 use Rattle.fmp_text.specs.Grammar.{AreBlank, SpellsCall}
 use Rattle.fmp_text.proofs.SpelledCalls.{call_in-spelled, call_is_spelled}
 use Rattle.fmp_text.proofs.SpelledEvents.{blanks_stop, processor_read}
@@ -39,7 +39,7 @@ use Rattle.fmp_text_scripts.specs.declared.line.Said.{Said}
 use Rattle.fmp_text_scripts.specs.declared.ways.Pattern.{Pattern}
 use Rattle.fmp_text_scripts.specs.declared.ways.Pattern.TheVariants as pattern
 use Rattle.fmp_text_scripts.specs.declared.ways.Way.{Way}
-use Rattle.fmp_bytes.specs.Bytes.{behind, colon}
+use Rattle.fmp_bytes.specs.Bytes.{following, colon}
 use Rattle.fmp_bytes.specs.Numerals.{signed_of}
 use Rattle.fmp_bytes.specs.Numerals.{number_of as numeral}
 use Rattle.fmp_bytes.specs.declared.numerals.Number.{Number}
@@ -64,23 +64,23 @@ use Rattle.fmp_text_scripts.proofs.SpelledScripts.{reading}
 
 -- there is one name exactly where the reader finds it
 abbrev one_name : List ℕ → Bool
-one_name text = is_identifier (first_word text) && list_all (is_of Blank) (behind_word text)
+one_name text = is_identifier (first_word text) && list_all (is_of Blank) (following_word text)
 
 name_found : (text : List ℕ) → one_name text ≡ true → IsOneName (first_word text) text
 name_found text t =
-    let parts = and_parts (is_identifier (first_word text)) (list_all (is_of Blank) (behind_word text)) t in (
-      record { before = prefix Blank text; behind = behind_word text; before_blank = list_all-take_while (is_of Blank) text; behind_blank = parts.1; parts = by_word text (first_word text) refl },
+    let parts = and_parts (is_identifier (first_word text)) (list_all (is_of Blank) (following_word text)) t in (
+      record { before = prefix Blank text; following = following_word text; before_blank = list_all-take_while (is_of Blank) text; after_blank = parts.1; parts = by_word text (first_word text) refl },
       parts.0,
     )
 
 name_is : (name text : List ℕ) → IsOneName name text → (first_word text ≡ name) × (one_name text ≡ true)
 name_is name text (padded, identifier) =
-    let here = first_word_of padded.before name padded.behind text padded.before_blank (identifier_words name identifier) (identifier_bytes name identifier).0
-    (blanks_no_word padded.behind padded.behind_blank) padded.parts in
-    let word = here.0 in let behind = here.1 in let blank = padded.behind_blank in
-    (word, rw (word, behind, identifier, blank) refl)
+    let here = first_word_of padded.before name padded.following text padded.before_blank (identifier_words name identifier) (identifier_bytes name identifier).0
+    (blanks_no_word padded.following padded.after_blank) padded.parts in
+    let word = here.0 in let following = here.1 in let blank = padded.after_blank in
+    (word, rw (word, following, identifier, blank) refl)
 
--- what a head says behind these scripts
+-- what a head says after these scripts
 abbrev headed : NameLists → ℕ → List Steps → List ℕ → Result Reading TextKind
 headed lists n done text = (begins lists false text >>= λ s. took n (reading done None) s)
 
@@ -108,12 +108,12 @@ module _ (lists : NameLists) (valid : AreValid lists) (n : ℕ) (done : List Ste
             | inr g ↦ absurd (let bad = rw (is, g) at e2 in cc)
           ]
 
-  head_told : (kind : TextKind) → HeadFault lists done text kind → headed lists n done text ≡ Err kind
+  head_reported : (kind : TextKind) → HeadFault lists done text kind → headed lists n done text ≡ Err kind
   unfolding begins function_in name_in
-  head_told kind (inl (wrong, none)) =
+  head_reported kind (inl (wrong, none)) =
       let f = false_from_ne_true (one_name text) (λ t. none (first_word text) (name_found text t)) in
       rw (f, wrong) refl
-  head_told kind (inr (name, is, inl (unknown, none))) =
+  head_reported kind (inr (name, is, inl (unknown, none))) =
       let here = name_is name text is in
       let t = here.1 in
       by (number_of lists Function (first_word text)) refl t
@@ -121,7 +121,7 @@ module _ (lists : NameLists) (valid : AreValid lists) (n : ℕ) (done : List Ste
       by : (found : Option ℕ) → number_of lists Function (first_word text) ≡ found → one_name text ≡ true → headed lists n done text ≡ Err kind
       by None number t = rw (t, number, unknown) refl
       by (Some f) number t = absurd (none f (name_of-number_of lists Function f (first_word text) number ∙ ap Some (name_is name text is).0))
-  head_told kind (inr (name, is, inr (f, named, wrong, has))) =
+  head_reported kind (inr (name, is, inr (f, named, wrong, has))) =
       let here = name_is name text is in
       let t = here.1 in let word = here.0 in
       let number : number_of lists Function (first_word text) ≡ Some f = ap (λ w. number_of lists Function w) word ∙ number_of-name_of lists Function f name valid named in
@@ -129,7 +129,7 @@ module _ (lists : NameLists) (valid : AreValid lists) (n : ℕ) (done : List Ste
 
 -- ---- a step
 
--- what a call says behind an open script
+-- what a call says after an open script
 abbrev stepped : NameLists → ℕ → List Steps → Open → List ℕ → Result Reading TextKind
 stepped lists n done o text = (asks lists true text >>= λ s. took n (reading done (Some o)) s)
 
@@ -147,15 +147,15 @@ module _ (lists : NameLists) (valid : AreValid lists) (text : List ℕ) (line : 
 
   -- a call with a fault: no name of a call, or a fault of that call
   abbrev CallFails : TextKind → Type 0
-  CallFails kind = ((kind ≡ BadWord) × ((call : Call) → text_of call ≢ first_word text)) ⊎ ((call : Call) × (text_of call ≡ first_word text) × CallFault lists call (behind_word text) kind)
+  CallFails kind = ((kind ≡ BadWord) × ((call : Call) → text_of call ≢ first_word text)) ⊎ ((call : Call) × (text_of call ≡ first_word text) × CallFault lists call (following_word text) kind)
 
   call_fails : (kind : TextKind) → call_in lists text ≡ Err kind → CallFails kind
   unfolding call_in call_at named_call
   call_fails kind e = by (named (first_word text)) refl (rw line at e)
     where
-      by : (found : Option Call) → named (first_word text) ≡ found → (named_call (first_word text) >>= λ name. call_after lists name (behind_word text)) ≡ Err kind → CallFails kind
+      by : (found : Option Call) → named (first_word text) ≡ found → (named_call (first_word text) >>= λ name. call_after lists name (following_word text)) ≡ Err kind → CallFails kind
       by None is e2 = inl (sym (err_is {A = Call} BadWord kind (rw is at e2)), no_call is)
-      by (Some call) is e2 = inr (call, text_of-named (first_word text) call is, call_fault lists call (behind_word text) kind valid (rw is at e2))
+      by (Some call) is e2 = inr (call, text_of-named (first_word text) call is, call_fault lists call (following_word text) kind valid (rw is at e2))
 
   step_fault : (n : ℕ) (done : List Steps) (o : Open) (kind : TextKind) → stepped lists n done o text ≡ Err kind → StepFault lists o text kind
   unfolding asks
@@ -194,12 +194,12 @@ label_err text kind e =
       | inr f ↦ inl (sym (err_is {A = List ℕ} WrongArguments kind (rw f at e)), λ name is. false≢true (sym f ∙ (name_is name text is).1))
     ]
 
-label_told : (text : List ℕ) (kind : TextKind) → NameFault text kind → label_in text ≡ Err kind
+label_reported : (text : List ℕ) (kind : TextKind) → NameFault text kind → label_in text ≡ Err kind
 unfolding label_in name_in
-label_told text kind (inl (wrong, none)) =
+label_reported text kind (inl (wrong, none)) =
     let f = false_from_ne_true (one_name text) (λ t. none (first_word text) (name_found text t)) in
     rw (f, wrong) refl
-label_told text kind (inr (name, is, unknown, taken)) =
+label_reported text kind (inr (name, is, unknown, taken)) =
     let here = name_is name text is in
     let t = here.1 in
     let taken2 : is_taken (first_word text) ≡ true = ap is_taken here.0 ∙ taken in
@@ -209,14 +209,14 @@ goal_err : (text : List ℕ) (kind : TextKind) → goal_in text ≡ Err kind →
 unfolding goal_in
 goal_err text kind e =
     elim (cases_Bool (bytes_eq (first_word text) (codes "goto"))) [
-      | inl t ↦ inr (is_word (first_word text) (codes "goto") t, label_err (behind_word text) kind (rw t at e))
+      | inl t ↦ inr (is_word (first_word text) (codes "goto") t, label_err (following_word text) kind (rw t at e))
       | inr f ↦ inl (sym (err_is {A = List ℕ} WrongArguments kind (rw f at e)), not_word (first_word text) (codes "goto") f)
     ]
 
-goal_told : (text : List ℕ) (kind : TextKind) → GoalFault text kind → goal_in text ≡ Err kind
+goal_reported : (text : List ℕ) (kind : TextKind) → GoalFault text kind → goal_in text ≡ Err kind
 unfolding goal_in
-goal_told text kind (inl (wrong, other)) = let f = other_word (first_word text) (codes "goto") other in rw (f, wrong) refl
-goal_told text kind (inr (word, fault)) = let t = same_word (first_word text) (codes "goto") word in rw t (label_told (behind_word text) kind fault)
+goal_reported text kind (inl (wrong, other)) = let f = other_word (first_word text) (codes "goto") other in rw (f, wrong) refl
+goal_reported text kind (inr (word, fault)) = let t = same_word (first_word text) (codes "goto") word in rw t (label_reported (following_word text) kind fault)
 
 data_read : (token : List ℕ) (v : ℤ) → SpellsData token v → value_in token ≡ Ok v
 unfolding value_in
@@ -243,13 +243,13 @@ value_err token kind e = by (numeral token) refl
     by None is = inl (none_kind token kind e is, is)
     by (Some r) is = inr (value_kind token r kind is e, ap is_some is, λ v s. not_ok {A = ℤ} v kind (sym (data_read token v s) ∙ e))
 
-none_told : (token : List ℕ) (kind : TextKind) → kind ≡ WrongArguments → numeral token ≡ None → value_in token ≡ Err kind
+none_reported : (token : List ℕ) (kind : TextKind) → kind ≡ WrongArguments → numeral token ≡ None → value_in token ≡ Err kind
 unfolding value_in
-none_told token kind wrong is = rw (is, wrong) refl
+none_reported token kind wrong is = rw (is, wrong) refl
 
-value_told : (token : List ℕ) (kind : TextKind) → ValueFault token kind → value_in token ≡ Err kind
-value_told token kind (inl (wrong, none)) = none_told token kind wrong none
-value_told token kind (inr (range, some, none)) = by (value_in token) refl
+value_reported : (token : List ℕ) (kind : TextKind) → ValueFault token kind → value_in token ≡ Err kind
+value_reported token kind (inl (wrong, none)) = none_reported token kind wrong none
+value_reported token kind (inr (range, some, none)) = by (value_in token) refl
   where
     from_none : (k : TextKind) → ValueFault token k → value_in token ≡ Err k → value_in token ≡ Err kind
     from_none k (inl (wrong, nothing)) is = absurd (let bad : false ≡ true = ap is_some (sym nothing) ∙ some in cc)
@@ -282,8 +282,8 @@ turned_err answer rest kind e =
           ]
     ]
 
-turned_told : (answer : Result Pattern TextKind) (rest : List ℕ) (kind : TextKind) (a : Pattern) → answer ≡ Ok a → GoalFault rest kind → turned answer rest ≡ Err kind
-turned_told answer rest kind a is fault = let goal = goal_told rest kind fault in rw (is, goal) refl
+turned_reported : (answer : Result Pattern TextKind) (rest : List ℕ) (kind : TextKind) (a : Pattern) → answer ≡ Ok a → GoalFault rest kind → turned answer rest ≡ Err kind
+turned_reported answer rest kind a is fault = let goal = goal_reported rest kind fault in rw (is, goal) refl
 
 turn_err : (word rest : List ℕ) (o : Option (List ℕ)) (kind : TextKind) → turn_with word rest o ≡ Err kind → TurnFault word rest o kind
 unfolding pattern_of valued
@@ -353,30 +353,30 @@ not_refused QueueOverflow = refl
 not_refused WaitReleased = refl
 not_refused TimedOut = refl
 
-turn_told : (word rest : List ℕ) (o : Option (List ℕ)) (kind : TextKind) → TurnFault word rest o kind → turn_with word rest o ≡ Err kind
+turn_reported : (word rest : List ℕ) (o : Option (List ℕ)) (kind : TextKind) → TurnFault word rest o kind → turn_with word rest o ≡ Err kind
 unfolding pattern_of valued
-turn_told word rest None kind (inl (wrong, f)) = rw (f, wrong) refl
-turn_told word rest None kind (inr (t, inl (unknown, other, none))) =
+turn_reported word rest None kind (inl (wrong, f)) = rw (f, wrong) refl
+turn_reported word rest None kind (inr (t, inl (unknown, other, none))) =
     let g = other_word word (codes "refused") other in
     let is = code_none word none in
     rw (t, g, is, unknown) refl
-turn_told word rest None kind (inr (t, inr (inl refused, goal))) =
+turn_reported word rest None kind (inr (t, inr (inl refused, goal))) =
     let r = same_word word (codes "refused") refused in
-    rw (t, r) (turned_told (Ok pattern.Refused) rest kind pattern.Refused refl goal)
-turn_told word rest None kind (inr (t, inr (inr (c, name), goal))) =
+    rw (t, r) (turned_reported (Ok pattern.Refused) rest kind pattern.Refused refl goal)
+turn_reported word rest None kind (inr (t, inr (inr (c, name), goal))) =
     let g : bytes_eq word (codes "refused") ≡ false = ap (λ (w : List ℕ). bytes_eq w (codes "refused")) (sym name) ∙ not_refused c in
     let is : code_in word ≡ Some c = ap code_in (sym name) ∙ (code_read c).code_is in
-    rw (t, g, is) (turned_told (Ok (pattern.Coded c)) rest kind (pattern.Coded c) refl goal)
-turn_told word rest (Some text) kind (inl (wrong, f)) = rw (f, wrong) refl
-turn_told word rest (Some text) kind (inr (t, inl (unknown, none))) = let is = code_none word none in rw (t, is, unknown) refl
-turn_told word rest (Some text) kind (inr (t, inr (c, name, inl fault))) =
+    rw (t, g, is) (turned_reported (Ok (pattern.Coded c)) rest kind (pattern.Coded c) refl goal)
+turn_reported word rest (Some text) kind (inl (wrong, f)) = rw (f, wrong) refl
+turn_reported word rest (Some text) kind (inr (t, inl (unknown, none))) = let is = code_none word none in rw (t, is, unknown) refl
+turn_reported word rest (Some text) kind (inr (t, inr (c, name, inl fault))) =
     let is : code_in word ≡ Some c = ap code_in (sym name) ∙ (code_read c).code_is in
-    let value = value_told (prefix Argument text) kind fault in
+    let value = value_reported (prefix Argument text) kind fault in
     rw (t, is, value) refl
-turn_told word rest (Some text) kind (inr (t, inr (c, name, inr (v, spells, goal)))) =
+turn_reported word rest (Some text) kind (inr (t, inr (c, name, inr (v, spells, goal)))) =
     let is : code_in word ≡ Some c = ap code_in (sym name) ∙ (code_read c).code_is in
     let value = data_read (prefix Argument text) v spells in
-    rw (t, is, value) (turned_told (Ok (pattern.Valued c v)) (after Argument text) kind (pattern.Valued c v) refl goal)
+    rw (t, is, value) (turned_reported (Ok (pattern.Valued c v)) (after Argument text) kind (pattern.Valued c v) refl goal)
 
 -- ---- what the table has of calls is read
 
@@ -385,7 +385,7 @@ module _ (lists : NameLists) (valid : AreValid lists) (text : List ℕ) (line : 
   abbrev on_first : List ℕ
   on_first = codes "P1 " ++ text
 
-  first_is : (first_word on_first ≡ codes "P1") × (behind_word on_first ≡ 32 ∷ text)
+  first_is : (first_word on_first ≡ codes "P1") × (following_word on_first ≡ 32 ∷ text)
   unfolding is_of
   first_is = first_word_of [] (codes "P1") (32 ∷ text) on_first refl refl (omega arith) (blanks_stop (32 ∷ []) text refl (omega arith)) refl
 
@@ -409,7 +409,7 @@ module _ (lists : NameLists) (valid : AreValid lists) (text : List ℕ) (line : 
   first_number = ap (λ d. 80 ∷ d) (sym (decimal_digit 1 (omega arith)))
 
   module _ (call : Call) (word : text_of call ≡ first_word text) where
-    first_fault : (kind : TextKind) → CallFault lists call (behind_word text) kind → EventFault lists on_first kind
+    first_fault : (kind : TextKind) → CallFault lists call (following_word text) kind → EventFault lists on_first kind
     first_fault kind fault =
         let happening : HappeningFault lists (32 ∷ text) kind =
         inr (inr (call, word ∙ ap (prefix Word) (sym blank_first), subst (λ (t : List ℕ). CallFault lists call (after Word t) kind) (sym blank_first) fault)) in
@@ -424,24 +424,24 @@ module _ (lists : NameLists) (valid : AreValid lists) (text : List ℕ) (line : 
           subst (λ (t : List ℕ). CoreFault lists t kind) (sym first_kept) core,
         )
 
-    call_told : (kind : TextKind) → CallFault lists call (behind_word text) kind → call_in lists text ≡ Err kind
+    call_reported : (kind : TextKind) → CallFault lists call (following_word text) kind → call_in lists text ≡ Err kind
     unfolding line_event event_in event_at event_of call_in
-    call_told kind fault =
-        let e = event_told lists on_first kind valid (first_fault kind fault) in
+    call_reported kind fault =
+        let e = event_reported lists on_first kind valid (first_fault kind fault) in
         let processor : processor_in lists (first_word on_first) ≡ Ok (as_proc 1) = ap (processor_in lists) (first_is.0 ∙ first_number) ∙ processor_read lists 1 (omega arith) valid.least valid.most in
         let tick : bytes_eq (first_word text) (codes "tick") ≡ false = ap (λ (w : List ℕ). bytes_eq w (codes "tick")) (sym word) ∙ no_tick call in
         let ipi : bytes_eq (first_word text) (codes "ipi") ≡ false = ap (λ (w : List ℕ). bytes_eq w (codes "ipi")) (sym word) ∙ no_ipi call in
-        let behind = first_is.1 in
-        by (call_at lists (after Blank text)) refl (rw (first_kept, first_stays, first_line, processor, behind, blank_first, tick, ipi) at e)
+        let following = first_is.1 in
+        by (call_at lists (after Blank text)) refl (rw (first_kept, first_stays, first_line, processor, following, blank_first, tick, ipi) at e)
       where
         by : (read : Result Call TextKind) → call_at lists (after Blank text) ≡ read
             → ((read >>= λ c. Ok (event.Call (as_proc 1) c)) >>= λ happened. Ok (Some happened)) ≡ Err kind → call_in lists text ≡ Err kind
         by (Ok c) is e2 = absurd (ok_is_none (Some (event.Call (as_proc 1) c)) kind e2)
         by (Err k) is e2 = rw (line, is) (ap (λ x. Err x) (err_is {A = Option Event} k kind e2))
 
-  name_told : ((call : Call) → text_of call ≢ first_word text) → call_in lists text ≡ Err BadWord
+  name_reported : ((call : Call) → text_of call ≢ first_word text) → call_in lists text ≡ Err BadWord
   unfolding call_in call_at named_call
-  name_told none = let no_name = none_named lists valid text line none in rw (line, no_name) refl
+  name_reported none = let no_name = none_named lists valid text line none in rw (line, no_name) refl
 
 -- ---- steps, labels and jumps of an open script
 
@@ -464,16 +464,16 @@ module _ (lists : NameLists) (valid : AreValid lists) (n : ℕ) (done : List Ste
           byte_kind : list_all (is_of Line) text ≡ false → kind ≡ BadByte
           byte_kind no_line = bad_byte lists n done o text kind no_line e
 
-  step_told : (kind : TextKind) → StepFault lists o text kind → said_more n done o (asks lists true text) ≡ Err kind
+  step_recorded : (kind : TextKind) → StepFault lists o text kind → said_more n done o (asks lists true text) ≡ Err kind
   unfolding asks call_in
-  step_told kind (inl (bad, byte)) = rw (byte, bad) refl
-  step_told kind (inr (line, fault)) = by fault
+  step_recorded kind (inl (bad, byte)) = rw (byte, bad) refl
+  step_recorded kind (inr (line, fault)) = by fault
     where
       by : (((kind ≡ BadWord) × ((call : Call) → text_of call ≢ first_word text))
-          ⊎ (((call : Call) × (text_of call ≡ first_word text) × CallFault lists call (behind_word text) kind)
+          ⊎ (((call : Call) × (text_of call ≡ first_word text) × CallFault lists call (following_word text) kind)
           ⊎ (((call : Call) × SpellsCall lists text call) × (kind ≡ TooMany) × (most_steps ≤ length o.steps)))) → said_more n done o (asks lists true text) ≡ Err kind
-      by (inl (bad, none)) = ap (λ (c : Result Call TextKind). said_more n done o (c >>= λ call. Ok (Some (said.Asks call)))) (name_told lists valid text line none) ∙ ap (λ x. Err x) (sym bad)
-      by (inr (inl (call, word, fault2))) = ap (λ (c : Result Call TextKind). said_more n done o (c >>= λ x. Ok (Some (said.Asks x)))) (call_told lists valid text line call word kind fault2)
+      by (inl (bad, none)) = ap (λ (c : Result Call TextKind). said_more n done o (c >>= λ call. Ok (Some (said.Asks call)))) (name_reported lists valid text line none) ∙ ap (λ x. Err x) (sym bad)
+      by (inr (inl (call, word, fault2))) = ap (λ (c : Result Call TextKind). said_more n done o (c >>= λ x. Ok (Some (said.Asks x)))) (call_reported lists valid text line call word kind fault2)
       by (inr (inr ((call, spells), many, full))) =
           let test = le-ltb (length o.steps) most_steps full in
           ap (λ (c : Result Call TextKind). said_more n done o (c >>= λ x. Ok (Some (said.Asks x)))) (call_in-spelled lists text call valid spells) ∙ rw (test, many) refl
@@ -498,28 +498,28 @@ module _ (lists : NameLists) (valid : AreValid lists) (n : ℕ) (done : List Ste
             ]
       ]
 
-  label_fault_told : (name rest : List ℕ) (kind : TextKind) → LabelFault o name rest kind → said_more n done o (stands true name rest) ≡ Err kind
+  label_fault_reported : (name rest : List ℕ) (kind : TextKind) → LabelFault o name rest kind → said_more n done o (stands true name rest) ≡ Err kind
   unfolding stands
-  label_fault_told name rest kind (inl (wrong, inl f)) = rw (f, wrong) refl
-  label_fault_told name rest kind (inl (wrong, inr more)) =
+  label_fault_reported name rest kind (inl (wrong, inl f)) = rw (f, wrong) refl
+  label_fault_reported name rest kind (inl (wrong, inr more)) =
       let other = false_from_ne_true (list_all (is_of Blank) rest) more in
       elim (cases_Bool (is_identifier name)) [ inl t ↦ rw (t, other, wrong) refl | inr f ↦ rw (f, wrong) refl ]
-  label_fault_told name rest kind (inr (t, blank, inl (wrong, has))) = rw (t, blank, has, wrong) refl
-  label_fault_told name rest kind (inr (t, blank, inr (many, new, full))) = let test = le-ltb (length o.labels) most_labels full in rw (t, blank, new, test, many) refl
+  label_fault_reported name rest kind (inr (t, blank, inl (wrong, has))) = rw (t, blank, has, wrong) refl
+  label_fault_reported name rest kind (inr (t, blank, inr (many, new, full))) = let test = le-ltb (length o.labels) most_labels full in rw (t, blank, new, test, many) refl
 
   other_fault : (found : Option (List ℕ)) (kind : TextKind) → said_more n done o (other_said lists true text found) ≡ Err kind → OtherFault lists o text found kind
   other_fault None kind e = step_err kind e
   other_fault (Some rest) kind e = label_fault (first_word text) rest kind e
 
-  other_told : (found : Option (List ℕ)) (kind : TextKind) → OtherFault lists o text found kind → said_more n done o (other_said lists true text found) ≡ Err kind
-  other_told None kind fault = step_told kind fault
-  other_told (Some rest) kind fault = label_fault_told (first_word text) rest kind fault
+  other_reported : (found : Option (List ℕ)) (kind : TextKind) → OtherFault lists o text found kind → said_more n done o (other_said lists true text found) ≡ Err kind
+  other_reported None kind fault = step_recorded kind fault
+  other_reported (Some rest) kind fault = label_fault_reported (first_word text) rest kind fault
 
   -- a jump that was read and may not stand there
   misplaced : (answer : Pattern) (name : List ℕ) (kind : TextKind) → took n (reading done (Some o)) (Some (said.Jumps answer name)) ≡ Err kind → JumpFault o kind
-  misplaced answer name kind e = by o.behind refl
+  misplaced answer name kind e = by o.following refl
     where
-      by : (b : Bool) → o.behind ≡ b → JumpFault o kind
+      by : (b : Bool) → o.following ≡ b → JumpFault o kind
       by true is =
           elim (cases_Bool (nat_lt (length o.jumps) most_ways)) [
             | inl room ↦ absurd (let bad = rw (is, room) at e in cc)
@@ -527,22 +527,22 @@ module _ (lists : NameLists) (valid : AreValid lists) (n : ℕ) (done : List Ste
           ]
       by false is = inl (sym (err_is {A = Reading} BadWord kind (rw is at e)), is)
 
-  end_fault : (kind : TextKind) → said_more n done o (ends true (behind_word text)) ≡ Err kind → EndFault o (behind_word text) kind
+  end_fault : (kind : TextKind) → said_more n done o (ends true (following_word text)) ≡ Err kind → EndFault o (following_word text) kind
   unfolding ends
   end_fault kind e =
-      elim (cases_Bool (list_all (is_of Blank) (behind_word text))) [
+      elim (cases_Bool (list_all (is_of Blank) (following_word text))) [
         | inr more ↦ inl (sym (err_is {A = Reading} WrongArguments kind (rw more at e)), λ blank. false≢true (sym more ∙ blank))
         | inl blank ↦ by blank (linked o.labels o.jumps) refl (rw blank at e)
       ]
     where
-      by : AreBlank (behind_word text) → (ways : Option (List Way)) → linked o.labels o.jumps ≡ ways → ended (reading done (Some o)) o (linked o.labels o.jumps) ≡ Err kind → EndFault o (behind_word text) kind
+      by : AreBlank (following_word text) → (ways : Option (List Way)) → linked o.labels o.jumps ≡ ways → ended (reading done (Some o)) o (linked o.labels o.jumps) ≡ Err kind → EndFault o (following_word text) kind
       by blank None is e2 = inr (blank, sym (err_is {A = Reading} UnknownName kind (rw is at e2)), is)
       by blank (Some ways) is e2 = absurd (let bad = rw is at e2 in cc)
 
-  end_told : (kind : TextKind) → EndFault o (behind_word text) kind → said_more n done o (ends true (behind_word text)) ≡ Err kind
+  end_reported : (kind : TextKind) → EndFault o (following_word text) kind → said_more n done o (ends true (following_word text)) ≡ Err kind
   unfolding ends
-  end_told kind (inl (wrong, more)) = let other = false_from_ne_true (list_all (is_of Blank) (behind_word text)) more in rw (other, wrong) refl
-  end_told kind (inr (blank, unknown, none)) = rw (blank, none, unknown) refl
+  end_reported kind (inl (wrong, more)) = let other = false_from_ne_true (list_all (is_of Blank) (following_word text)) more in rw (other, wrong) refl
+  end_reported kind (inr (blank, unknown, none)) = rw (blank, none, unknown) refl
 
 -- ---- a line by its first word
 
@@ -561,7 +561,7 @@ module _ (lists : NameLists) (valid : AreValid lists) (n : ℕ) (done : List Ste
   unfolding said_by begins ends asks turns goes stands
   outside_fault kind e =
       elim (cases_Bool (is_first (codes "script"))) [
-        | inl t ↦ inr (is_word (first_word text) (codes "script") t, head_fault lists valid n done (behind_word text) kind (rw t at e))
+        | inl t ↦ inr (is_word (first_word text) (codes "script") t, head_fault lists valid n done (following_word text) kind (rw t at e))
         | inr f ↦ inl (bad f, not_word (first_word text) (codes "script") f)
       ]
     where
@@ -582,19 +582,19 @@ module _ (lists : NameLists) (valid : AreValid lists) (n : ℕ) (done : List Ste
                         | inr i ↦
                             elim (cases_Bool (is_first (codes "goto"))) [
                               | inl t ↦ sym (err_is {A = Reading} BadWord kind (rw (f, g, h, i, t) at e))
-                              | inr j ↦ other_bad (behind colon (after Blank (behind_word text))) (rw (f, g, h, i, j) at e)
+                              | inr j ↦ other_bad (following colon (after Blank (following_word text))) (rw (f, g, h, i, j) at e)
                             ]
                       ]
                 ]
           ]
 
-  outside_told : (kind : TextKind) → WordFault lists done None text kind → worded lists n done None text ≡ Err kind
+  outside_reported : (kind : TextKind) → WordFault lists done None text kind → worded lists n done None text ≡ Err kind
   unfolding said_by begins ends asks turns goes stands
-  outside_told kind (inr (word, fault)) =
+  outside_reported kind (inr (word, fault)) =
       let t = same_word (first_word text) (codes "script") word in
-      let told = head_told lists valid n done (behind_word text) kind fault in
-      rw t told
-  outside_told kind (inl (bad, other)) =
+      let report = head_reported lists valid n done (following_word text) kind fault in
+      rw t report
+  outside_reported kind (inl (bad, other)) =
       let f = other_word (first_word text) (codes "script") other in
       elim (cases_Bool (is_first (codes "end"))) [
         | inl t ↦ rw (f, t, bad) refl
@@ -607,7 +607,7 @@ module _ (lists : NameLists) (valid : AreValid lists) (n : ℕ) (done : List Ste
                     | inr i ↦
                         elim (cases_Bool (is_first (codes "goto"))) [
                           | inl t ↦ rw (f, g, h, i, t, bad) refl
-                          | inr j ↦ rw (f, g, h, i, j) (other_bad (behind colon (after Blank (behind_word text))))
+                          | inr j ↦ rw (f, g, h, i, j) (other_bad (following colon (after Blank (following_word text))))
                         ]
                   ]
             ]
@@ -643,17 +643,17 @@ module _ (lists : NameLists) (valid : AreValid lists) (n : ℕ) (done : List Ste
             let d = bind_parts (goal_in rest2) (λ name. Ok (Some (said.Jumps b.0 name))) what2 b.2 in
             (b.0, d.0, (let e3 = d.2 in cc))
 
-    goto_jumps : (what : Option Said) → goes true (behind_word text) ≡ Ok what → (answer : Pattern) × (name : List ℕ) × (what ≡ Some (said.Jumps answer name))
+    goto_jumps : (what : Option Said) → goes true (following_word text) ≡ Ok what → (answer : Pattern) × (name : List ℕ) × (what ≡ Some (said.Jumps answer name))
     unfolding goes
     goto_jumps what e =
-        let b = bind_parts (label_in (behind_word text)) (λ name. Ok (Some (said.Jumps pattern.Any name))) what e in
+        let b = bind_parts (label_in (following_word text)) (λ name. Ok (Some (said.Jumps pattern.Any name))) what e in
         (pattern.Any, b.0, (let e3 = b.2 in cc))
 
-    goto_kind : (kind : TextKind) → goes true (behind_word text) ≡ Err kind → NameFault (behind_word text) kind
+    goto_kind : (kind : TextKind) → goes true (following_word text) ≡ Err kind → NameFault (following_word text) kind
     unfolding goes
     goto_kind kind e =
-        elim (bind_err (label_in (behind_word text)) (λ name. Ok (Some (said.Jumps pattern.Any name))) kind e) [
-          | inl s ↦ label_err (behind_word text) kind s
+        elim (bind_err (label_in (following_word text)) (λ name. Ok (Some (said.Jumps pattern.Any name))) kind e) [
+          | inl s ↦ label_err (following_word text) kind s
           | inr s ↦ absurd (not_ok {A = Option Said} (Some (said.Jumps pattern.Any s.0)) kind s.2)
         ]
 
@@ -671,76 +671,76 @@ module _ (lists : NameLists) (valid : AreValid lists) (n : ℕ) (done : List Ste
                       | inr h ↦
                           elim (cases_Bool (is_first (codes "on"))) [
                             | inl t ↦
-                                let word = first_word (behind_word text) in
-                                let rest = behind_word (behind_word text) in
-                                let whole : said_by lists true text ≡ turn_with word rest (behind colon rest) = rw (f, g, h, t) refl in
-                                elim (jump_fault (turn_with word rest (behind colon rest)) kind whole (λ what is. turn_jumps word rest (behind colon rest) what is) (rw (f, g, h, t) at e)) [
-                                  | inl s ↦ inr (inr (inl (is_word (first_word text) (codes "on") t, turn_err word rest (behind colon rest) kind s)))
+                                let word = first_word (following_word text) in
+                                let rest = following_word (following_word text) in
+                                let whole : said_by lists true text ≡ turn_with word rest (following colon rest) = rw (f, g, h, t) refl in
+                                elim (jump_fault (turn_with word rest (following colon rest)) kind whole (λ what is. turn_jumps word rest (following colon rest) what is) (rw (f, g, h, t) at e)) [
+                                  | inl s ↦ inr (inr (inl (is_word (first_word text) (codes "on") t, turn_err word rest (following colon rest) kind s)))
                                   | inr s ↦ inr (inr (inr (inr (inl s))))
                                 ]
                             | inr i ↦
                                 elim (cases_Bool (is_first (codes "goto"))) [
                                   | inl t ↦
-                                      let whole : said_by lists true text ≡ goes true (behind_word text) = rw (f, g, h, i, t) refl in
-                                      elim (jump_fault (goes true (behind_word text)) kind whole goto_jumps (rw (f, g, h, i, t) at e)) [
+                                      let whole : said_by lists true text ≡ goes true (following_word text) = rw (f, g, h, i, t) refl in
+                                      elim (jump_fault (goes true (following_word text)) kind whole goto_jumps (rw (f, g, h, i, t) at e)) [
                                         | inl s ↦ inr (inr (inr (inl (is_word (first_word text) (codes "goto") t, goto_kind kind s))))
                                         | inr s ↦ inr (inr (inr (inr (inl s))))
                                       ]
                                   | inr j ↦
                                       let free : is_taken (first_word text) ≡ false = rw (f, g, h, i, j) refl in
-                                      inr (inr (inr (inr (inr (free, other_fault lists valid n done o text (behind colon (after Blank (behind_word text))) kind (rw (f, g, h, i, j) at e))))))
+                                      inr (inr (inr (inr (inr (free, other_fault lists valid n done o text (following colon (after Blank (following_word text))) kind (rw (f, g, h, i, j) at e))))))
                                 ]
                           ]
                     ]
               ]
         ]
 
-    inside_told : (kind : TextKind) → WordFault lists done (Some o) text kind → worded lists n done (Some o) text ≡ Err kind
+    inside_reported : (kind : TextKind) → WordFault lists done (Some o) text kind → worded lists n done (Some o) text ≡ Err kind
     unfolding said_by begins turns turn_in goes
-    inside_told kind (inl (bad, inl word)) = let t = same_word (first_word text) (codes "script") word in rw (t, bad) refl
-    inside_told kind (inl (bad, inr word)) =
+    inside_reported kind (inl (bad, inl word)) = let t = same_word (first_word text) (codes "script") word in rw (t, bad) refl
+    inside_reported kind (inl (bad, inr word)) =
         let f : is_first (codes "script") ≡ false = ap (λ (w : List ℕ). bytes_eq w (codes "script")) word in
         let g : is_first (codes "end") ≡ false = ap (λ (w : List ℕ). bytes_eq w (codes "end")) word in
         let t = same_word (first_word text) (codes "ret_hdr") word in
         rw (f, g, t, bad) refl
-    inside_told kind (inr (inl (word, fault))) =
+    inside_reported kind (inr (inl (word, fault))) =
         let f : is_first (codes "script") ≡ false = ap (λ (w : List ℕ). bytes_eq w (codes "script")) word in
         let t = same_word (first_word text) (codes "end") word in
-        rw (f, t) (end_told lists valid n done o text kind fault)
-    inside_told kind (inr (inr (inl (word, fault)))) =
+        rw (f, t) (end_reported lists valid n done o text kind fault)
+    inside_reported kind (inr (inr (inl (word, fault)))) =
         let f : is_first (codes "script") ≡ false = ap (λ (w : List ℕ). bytes_eq w (codes "script")) word in
         let g : is_first (codes "end") ≡ false = ap (λ (w : List ℕ). bytes_eq w (codes "end")) word in
         let h : is_first (codes "ret_hdr") ≡ false = ap (λ (w : List ℕ). bytes_eq w (codes "ret_hdr")) word in
         let t = same_word (first_word text) (codes "on") word in
-        let told = turn_told (first_word (behind_word text)) (behind_word (behind_word text)) (behind colon (behind_word (behind_word text))) kind fault in
-        rw (f, g, h, t, told) refl
-    inside_told kind (inr (inr (inr (inl (word, fault))))) =
+        let report = turn_reported (first_word (following_word text)) (following_word (following_word text)) (following colon (following_word (following_word text))) kind fault in
+        rw (f, g, h, t, report) refl
+    inside_reported kind (inr (inr (inr (inl (word, fault))))) =
         let f : is_first (codes "script") ≡ false = ap (λ (w : List ℕ). bytes_eq w (codes "script")) word in
         let g : is_first (codes "end") ≡ false = ap (λ (w : List ℕ). bytes_eq w (codes "end")) word in
         let h : is_first (codes "ret_hdr") ≡ false = ap (λ (w : List ℕ). bytes_eq w (codes "ret_hdr")) word in
         let i : is_first (codes "on") ≡ false = ap (λ (w : List ℕ). bytes_eq w (codes "on")) word in
         let t = same_word (first_word text) (codes "goto") word in
-        let told = label_told (behind_word text) kind fault in
-        rw (f, g, h, i, t, told) refl
-    inside_told kind (inr (inr (inr (inr (inl (answer, name, spells, inl (bad, there))))))) =
+        let report = label_reported (following_word text) kind fault in
+        rw (f, g, h, i, t, report) refl
+    inside_reported kind (inr (inr (inr (inr (inl (answer, name, spells, inl (bad, there))))))) =
         let says = (part_says lists text (Jumps answer name) valid spells).says in
         ap (said_more n done o) says ∙ rw (there, bad) refl
-    inside_told kind (inr (inr (inr (inr (inl (answer, name, spells, inr (many, there, full))))))) =
+    inside_reported kind (inr (inr (inr (inr (inl (answer, name, spells, inr (many, there, full))))))) =
         let says = (part_says lists text (Jumps answer name) valid spells).says in
         let test = le-ltb (length o.jumps) most_ways full in
         ap (said_more n done o) says ∙ rw (there, test, many) refl
-    inside_told kind (inr (inr (inr (inr (inr (free, fault)))))) =
+    inside_reported kind (inr (inr (inr (inr (inr (free, fault)))))) =
         let w = free_parts (first_word text) free in
         let f = w.no_script in let g = w.no_end in let h = w.no_return in let i = w.no_on in let j = w.no_goto in
-        rw (f, g, h, i, j) (other_told lists valid n done o text (behind colon (after Blank (behind_word text))) kind fault)
+        rw (f, g, h, i, j) (other_reported lists valid n done o text (following colon (after Blank (following_word text))) kind fault)
 
   word_fault : (unclosed : Option Open) (kind : TextKind) → worded lists n done unclosed text ≡ Err kind → WordFault lists done unclosed text kind
   word_fault None kind e = outside_fault kind e
   word_fault (Some o) kind e = inside_fault o kind e
 
-  word_told : (unclosed : Option Open) (kind : TextKind) → WordFault lists done unclosed text kind → worded lists n done unclosed text ≡ Err kind
-  word_told None kind fault = outside_told kind fault
-  word_told (Some o) kind fault = inside_told o kind fault
+  word_reported : (unclosed : Option Open) (kind : TextKind) → WordFault lists done unclosed text kind → worded lists n done unclosed text ≡ Err kind
+  word_reported None kind fault = outside_reported kind fault
+  word_reported (Some o) kind fault = inside_reported o kind fault
 
 pub line_fault : (lists : NameLists) (n : ℕ) (r : Reading) (line : List ℕ) (kind : TextKind) → AreValid lists → with_line lists n r line ≡ Err kind → ScriptFault lists r.scripts r.unclosed line kind
 unfolding said_in
@@ -756,12 +756,12 @@ line_fault lists n r line kind valid e =
       )
     ]
 
-pub line_told : (lists : NameLists) (n : ℕ) (r : Reading) (line : List ℕ) (kind : TextKind) → AreValid lists → ScriptFault lists r.scripts r.unclosed line kind → with_line lists n r line ≡ Err kind
+pub line_reported : (lists : NameLists) (n : ℕ) (r : Reading) (line : List ℕ) (kind : TextKind) → AreValid lists → ScriptFault lists r.scripts r.unclosed line kind → with_line lists n r line ≡ Err kind
 unfolding said_in
-line_told lists n r line kind valid (some, inl (bad, byte)) =
+line_reported lists n r line kind valid (some, inl (bad, byte)) =
     let stays = false_from_ne_true (is_skipped (without_return line)) (λ t. some (nothing_spelled line t)) in
     rw (stays, byte, bad) refl
-line_told lists n r line kind valid (some, inr (bytes, fault)) =
+line_reported lists n r line kind valid (some, inr (bytes, fault)) =
     let stays = false_from_ne_true (is_skipped (without_return line)) (λ t. some (nothing_spelled line t)) in
-    let told = word_told lists valid n r.scripts (without_return line) r.unclosed kind fault in
-    rw (stays, bytes) told
+    let report = word_reported lists valid n r.scripts (without_return line) r.unclosed kind fault in
+    rw (stays, bytes) report

@@ -21,12 +21,12 @@ use Rattle.fmp_bytes.specs.Spelling.{SpellsNumber}
 use Rattle.std.specs.Prelude.{is_some, find}
 use Rattle.std.proofs.lemmas.List.{take_at}
 use Rattle.fmp_bytes.specs.declared.classes.Class.TheVariants.{Argument, Blank, Word, Line}
-use Rattle.fmp_bytes.specs.Bytes.{is_of, prefix, after, behind, colon, is_identifier}
+use Rattle.fmp_bytes.specs.Bytes.{is_of, prefix, after, following, colon, is_identifier}
 use Rattle.fmp_bytes.specs.Numerals.{signed_of}
 use Rattle.fmp_bytes.specs.Numerals.{number_of as numeral}
 use Rattle.fmp_bytes.specs.Results.{◌>>=◌}
 use Rattle.fmp_text.specs.declared.fault.TextKind.{TextKind}
-use Rattle.fmp_bytes.proofs.Spelled.{number_of-spelled, number_is_spelled, behind-same, behind_is}
+use Rattle.fmp_bytes.proofs.Spelled.{number_of-spelled, number_is_spelled, following-same, after_is}
 use Rattle.fmp_bytes.proofs.Words.{is_word}
 use Rattle.fmp_codes.specs.Codes as code
 use Rattle.fmp_codes.specs.declared.codes.Code.{Code}
@@ -180,31 +180,31 @@ unfolding said_by begins function_in name_in
 head_says names text f valid s =
     let p = s.padded in
     let name : List ℕ = s.name in
-    let rest : List ℕ = s.between ++ (name ++ p.behind) in
+    let rest : List ℕ = s.between ++ (name ++ p.following) in
     let identifier = function_name names f name valid s.is_name in
     let words = identifier_words name identifier in
-    let parts : text ≡ p.before ++ (codes "script" ++ rest) = p.parts ∙ ap (λ (l : List ℕ). p.before ++ l) (append_assoc (codes "script") (s.between ++ name) p.behind ∙ ap (λ (l : List ℕ). codes "script" ++ l) (append_assoc s.between name p.behind)) in
-    let first = first_word_of p.before (codes "script") rest text p.before_blank script_words (omega arith) (blanks_stop s.between (name ++ p.behind) s.between_blank s.apart) parts in
-    let second = first_word_of s.between name p.behind rest s.between_blank words (identifier_bytes name identifier).0 (blanks_no_word p.behind p.behind_blank) refl in
-    let word = first.0 in let follows = first.1 in let inner = second.0 in let behind = second.1 in
-    let blank = p.behind_blank in let number = number_of-name_of names Function f name valid s.is_name in
+    let parts : text ≡ p.before ++ (codes "script" ++ rest) = p.parts ∙ ap (λ (l : List ℕ). p.before ++ l) (append_assoc (codes "script") (s.between ++ name) p.following ∙ ap (λ (l : List ℕ). codes "script" ++ l) (append_assoc s.between name p.following)) in
+    let first = first_word_of p.before (codes "script") rest text p.before_blank script_words (omega arith) (blanks_stop s.between (name ++ p.following) s.between_blank s.apart) parts in
+    let second = first_word_of s.between name p.following rest s.between_blank words (identifier_bytes name identifier).0 (blanks_no_word p.following p.after_blank) refl in
+    let word = first.0 in let follows = first.1 in let inner = second.0 in let following = second.1 in
+    let blank = p.after_blank in let number = number_of-name_of names Function f name valid s.is_name in
     record {
       line = ap are_line parts ∙ list_all-both may_stand p.before (codes "script" ++ rest) (blank_bytes p.before p.before_blank)
           (list_all-both may_stand (codes "script") rest (word_bytes (codes "script") script_words)
-          (list_all-both may_stand s.between (name ++ p.behind) (blank_bytes s.between s.between_blank)
-          (list_all-both may_stand name p.behind (word_bytes name words) (blank_bytes p.behind p.behind_blank))));
+          (list_all-both may_stand s.between (name ++ p.following) (blank_bytes s.between s.between_blank)
+          (list_all-both may_stand name p.following (word_bytes name words) (blank_bytes p.following p.after_blank))));
       some = omega (arith, ap length word);
-      says = rw (word, follows, inner, behind, identifier, blank, number) refl;
+      says = rw (word, follows, inner, following, identifier, blank, number) refl;
     }
 
 end_says : (names : NameLists) (text : List ℕ) → SpellsEnd text → IsSaying names true text said.Closes
 unfolding said_by ends
 end_says names text p =
-    let first = first_word_of p.before (codes "end") p.behind text p.before_blank end_words (omega arith) (blanks_no_word p.behind p.behind_blank) p.parts in
-    let word = first.0 in let follows = first.1 in let blank = p.behind_blank in
+    let first = first_word_of p.before (codes "end") p.following text p.before_blank end_words (omega arith) (blanks_no_word p.following p.after_blank) p.parts in
+    let word = first.0 in let follows = first.1 in let blank = p.after_blank in
     record {
-      line = ap are_line p.parts ∙ list_all-both may_stand p.before (codes "end" ++ p.behind) (blank_bytes p.before p.before_blank)
-          (list_all-both may_stand (codes "end") p.behind (word_bytes (codes "end") end_words) (blank_bytes p.behind p.behind_blank));
+      line = ap are_line p.parts ∙ list_all-both may_stand p.before (codes "end" ++ p.following) (blank_bytes p.before p.before_blank)
+          (list_all-both may_stand (codes "end") p.following (word_bytes (codes "end") end_words) (blank_bytes p.following p.after_blank));
       some = omega (arith, ap length word);
       says = rw (word, follows, blank) refl;
     }
@@ -227,9 +227,9 @@ other_word (calls.System system.GetTid) = record { no_script = refl; no_end = re
 other_word (calls.Spin (spin.LocSpn x)) = record { no_script = refl; no_end = refl; no_return = λ n. refl; no_on = refl; no_goto = refl }
 other_word _ = record { no_script = refl; no_end = refl; no_return = λ n. refl; no_on = refl; no_goto = refl }
 
--- behind the name of a call stands no colon: its line has none
-no_colon : (xs : List ℕ) → list_all (is_of Line) xs ≡ true → behind colon xs ≡ None
-unfolding behind is_of
+-- after the name of a call stands no colon: its line has none
+no_colon : (xs : List ℕ) → list_all (is_of Line) xs ≡ true → following colon xs ≡ None
+unfolding following is_of
 no_colon [] line = refl
 no_colon (b ∷ xs) line =
     elim (cases_Bool (eqb b 58)) [
@@ -250,7 +250,7 @@ step_says names text call valid s =
     let a = other.no_script in let b = other.no_end in let c = other.no_return s.1 in let d = other.no_on in let e = other.no_goto in
     let read = call_in-spelled names text call valid s.0 in
     let line = line_of_call names text call valid s.0 in
-    let none : behind colon (after Blank (after Word (after Blank text))) ≡ None = no_colon _ (after_line_bytes Blank _ (after_line_bytes Word _ (after_line_bytes Blank text line))) in
+    let none : following colon (after Blank (after Word (after Blank text))) ≡ None = no_colon _ (after_line_bytes Blank _ (after_line_bytes Word _ (after_line_bytes Blank text line))) in
     record {
       line = line_bytes text line;
       some = omega (arith, (identifier_bytes (text_of call) (is_identifier-text_of call)).0, ap length word);
@@ -295,21 +295,21 @@ label_says : (names : NameLists) (text name : List ℕ) → SpellsLabel text nam
 unfolding said_by stands
 label_says names text name s =
     let p = s.padded in
-    let rest : List ℕ = s.between ++ (58 ∷ p.behind) in
+    let rest : List ℕ = s.between ++ (58 ∷ p.following) in
     let words = identifier_words name s.is_name.0 in
     let parts : text ≡ p.before ++ (name ++ rest) =
-    p.parts ∙ ap (λ (l : List ℕ). p.before ++ l) (append_assoc name (s.between ++ (58 ∷ [])) p.behind ∙ ap (λ (l : List ℕ). name ++ l) (append_assoc s.between (58 ∷ []) p.behind)) in
-    let first = first_word_of p.before name rest text p.before_blank words (identifier_bytes name s.is_name.0).0 (colon_stops s.between p.behind s.between_blank) parts in
+    p.parts ∙ ap (λ (l : List ℕ). p.before ++ l) (append_assoc name (s.between ++ (58 ∷ [])) p.following ∙ ap (λ (l : List ℕ). name ++ l) (append_assoc s.between (58 ∷ []) p.following)) in
+    let first = first_word_of p.before name rest text p.before_blank words (identifier_bytes name s.is_name.0).0 (colon_stops s.between p.following s.between_blank) parts in
     let free = free_parts name s.is_name.1 in
     let word = first.0 in let follows = first.1 in
     let a = free.no_script in let b = free.no_end in let c = free.no_return in let d = free.no_on in let e = free.no_goto in
-    let there : behind colon (after Blank (after Word (after Blank text))) ≡ Some p.behind =
-    ap (λ (l : List ℕ). behind colon (after Blank l)) follows ∙ ap (behind colon) (after_first s.between 58 p.behind s.between_blank blank_no_colon) ∙ behind-same 58 p.behind in
-    let identifier = s.is_name.0 in let blank = p.behind_blank in
+    let there : following colon (after Blank (after Word (after Blank text))) ≡ Some p.following =
+    ap (λ (l : List ℕ). following colon (after Blank l)) follows ∙ ap (following colon) (after_first s.between 58 p.following s.between_blank blank_no_colon) ∙ following-same 58 p.following in
+    let identifier = s.is_name.0 in let blank = p.after_blank in
     record {
       line = ap are_line parts ∙ list_all-both may_stand p.before (name ++ rest) (blank_bytes p.before p.before_blank)
           (list_all-both may_stand name rest (word_bytes name words)
-          (list_all-both may_stand s.between (58 ∷ p.behind) (blank_bytes s.between s.between_blank) (list_all-both may_stand (58 ∷ []) p.behind colon_stands (blank_bytes p.behind p.behind_blank))));
+          (list_all-both may_stand s.between (58 ∷ p.following) (blank_bytes s.between s.between_blank) (list_all-both may_stand (58 ∷ []) p.following colon_stands (blank_bytes p.following p.after_blank))));
       some = omega (arith, (identifier_bytes name s.is_name.0).0, ap length word);
       says = rw (there, word, a, b, c, d, e, identifier, blank) refl;
     }
@@ -324,21 +324,21 @@ goal_read : (text name : List ℕ) → SpellsGoal text name → IsGoal text name
 unfolding label_in name_in
 goal_read text name s =
     let p = s.padded in
-    let rest : List ℕ = s.between ++ (name ++ p.behind) in
+    let rest : List ℕ = s.between ++ (name ++ p.following) in
     let words = identifier_words name s.is_name.0 in
     let parts : text ≡ p.before ++ (codes "goto" ++ rest) =
-    p.parts ∙ ap (λ (l : List ℕ). p.before ++ l) (append_assoc (codes "goto") (s.between ++ name) p.behind ∙ ap (λ (l : List ℕ). codes "goto" ++ l) (append_assoc s.between name p.behind)) in
-    let first = first_word_of p.before (codes "goto") rest text p.before_blank goto_words (omega arith) (blanks_stop s.between (name ++ p.behind) s.between_blank s.apart) parts in
-    let second = first_word_of s.between name p.behind rest s.between_blank words (identifier_bytes name s.is_name.0).0 (blanks_no_word p.behind p.behind_blank) refl in
-    let follows = first.1 in let inner = second.0 in let behind_name = second.1 in
-    let identifier = s.is_name.0 in let blank = p.behind_blank in let free = s.is_name.1 in
+    p.parts ∙ ap (λ (l : List ℕ). p.before ++ l) (append_assoc (codes "goto") (s.between ++ name) p.following ∙ ap (λ (l : List ℕ). codes "goto" ++ l) (append_assoc s.between name p.following)) in
+    let first = first_word_of p.before (codes "goto") rest text p.before_blank goto_words (omega arith) (blanks_stop s.between (name ++ p.following) s.between_blank s.apart) parts in
+    let second = first_word_of s.between name p.following rest s.between_blank words (identifier_bytes name s.is_name.0).0 (blanks_no_word p.following p.after_blank) refl in
+    let follows = first.1 in let inner = second.0 in let after_name = second.1 in
+    let identifier = s.is_name.0 in let blank = p.after_blank in let free = s.is_name.1 in
     record {
       word = first.0;
-      read = rw (follows, inner, behind_name, identifier, blank, free) refl;
+      read = rw (follows, inner, after_name, identifier, blank, free) refl;
       line = ap are_line parts ∙ list_all-both may_stand p.before (codes "goto" ++ rest) (blank_bytes p.before p.before_blank)
           (list_all-both may_stand (codes "goto") rest (word_bytes (codes "goto") goto_words)
-          (list_all-both may_stand s.between (name ++ p.behind) (blank_bytes s.between s.between_blank)
-          (list_all-both may_stand name p.behind (word_bytes name words) (blank_bytes p.behind p.behind_blank))));
+          (list_all-both may_stand s.between (name ++ p.following) (blank_bytes s.between s.between_blank)
+          (list_all-both may_stand name p.following (word_bytes name words) (blank_bytes p.following p.after_blank))));
     }
 
 goto_says : (names : NameLists) (text name : List ℕ) → SpellsGoal text name → IsSaying names true text (said.Jumps pattern.Any name)
@@ -386,8 +386,8 @@ number_line : (number : List ℕ) (negative : Bool) (n : ℕ) → SpellsNumber n
 number_line number negative n s = (number_bytes number (ap is_some (number_of-spelled number negative n s))).1
 
 -- blanks in front of a text that begins with a blank
-blank_front : (before rest : List ℕ) → AreBlank before → 1 ≤ length before → behind colon (before ++ rest) ≡ None
-unfolding behind is_of
+blank_front : (before rest : List ℕ) → AreBlank before → 1 ≤ length before → following colon (before ++ rest) ≡ None
+unfolding following is_of
 blank_front [] rest blank some = absurd (omega (arith, some))
 blank_front (b ∷ before) rest blank some =
     elim (cases_Bool (eqb b 58)) [
@@ -399,7 +399,7 @@ no_argument : (before rest : List ℕ) → AreBlank before → 1 ≤ length befo
 no_argument [] rest blank some = absurd (omega (arith, some))
 no_argument (b ∷ before) rest blank some = stops-cons (is_of Argument) b (before ++ rest) (not_argument-blank b (and_parts (is_of Blank b) (list_all (is_of Blank) before) blank).0)
 
--- what is read behind `on`
+-- what is read after `on`
 record IsTurn (text : List ℕ) (answer : Pattern) (name : List ℕ) : Type 0 where
   read : turn_in text ≡ Ok (Some (said.Jumps answer name))
   line : are_line text ≡ true
@@ -410,9 +410,9 @@ word_turn : (between word rest : List ℕ) (answer : Pattern) (name : List ℕ) 
 unfolding turn_in goal_in
 word_turn between word rest answer name blank apart words some reads g goal_apart =
     let p = g.padded in
-    let front : rest ≡ p.before ++ ((codes "goto" ++ (g.between ++ name)) ++ p.behind) = p.parts in
-    let stops : prefix_len (is_of Word) rest ≡ 0 = ap (prefix_len (is_of Word)) front ∙ blanks_stop p.before ((codes "goto" ++ (g.between ++ name)) ++ p.behind) p.before_blank goal_apart in
-    let none : behind colon rest ≡ None = ap (behind colon) front ∙ blank_front p.before ((codes "goto" ++ (g.between ++ name)) ++ p.behind) p.before_blank goal_apart in
+    let front : rest ≡ p.before ++ ((codes "goto" ++ (g.between ++ name)) ++ p.following) = p.parts in
+    let stops : prefix_len (is_of Word) rest ≡ 0 = ap (prefix_len (is_of Word)) front ∙ blanks_stop p.before ((codes "goto" ++ (g.between ++ name)) ++ p.following) p.before_blank goal_apart in
+    let none : following colon rest ≡ None = ap (following colon) front ∙ blank_front p.before ((codes "goto" ++ (g.between ++ name)) ++ p.following) p.before_blank goal_apart in
     let first = first_word_of between word rest (between ++ (word ++ rest)) blank words some stops refl in
     let goal = goal_read rest name g in
     let a = first.0 in let b = first.1 in let c = goal.word in let d = goal.read in
@@ -427,8 +427,8 @@ valued_turn : (between number rest : List ℕ) (c : Code) (v : ℤ) (negative : 
 unfolding turn_in goal_in valued value_in
 valued_turn between number rest c v negative n name blank apart spelled is_value g goal_apart =
     let p = g.padded in
-    let front : rest ≡ p.before ++ ((codes "goto" ++ (g.between ++ name)) ++ p.behind) = p.parts in
-    let stops : prefix_len (is_of Argument) rest ≡ 0 = ap (prefix_len (is_of Argument)) front ∙ no_argument p.before ((codes "goto" ++ (g.between ++ name)) ++ p.behind) p.before_blank goal_apart in
+    let front : rest ≡ p.before ++ ((codes "goto" ++ (g.between ++ name)) ++ p.following) = p.parts in
+    let stops : prefix_len (is_of Argument) rest ≡ 0 = ap (prefix_len (is_of Argument)) front ∙ no_argument p.before ((codes "goto" ++ (g.between ++ name)) ++ p.following) p.before_blank goal_apart in
     let arguments = number_line number negative n spelled in
     let whole = prefix-append Argument number rest arguments stops in
     let is = code_read c in
@@ -437,7 +437,7 @@ valued_turn between number rest c v negative n name blank apart spelled is_value
     let first = first_word_of between (code.name_of c) (58 ∷ (number ++ rest)) (between ++ ((code.name_of c ++ (58 ∷ number)) ++ rest)) blank is.words is.some (colon_stops [] (number ++ rest) refl)
     (ap (λ (l : List ℕ). between ++ l) text) in
     let goal = goal_read rest name g in
-    let a = first.0 in let b = first.1 in let there = behind-same 58 (number ++ rest) in let q = whole.0 in let r = whole.1 in
+    let a = first.0 in let b = first.1 in let there = following-same 58 (number ++ rest) in let q = whole.0 in let r = whole.1 in
     let identifier = is.identifier in let code_is = is.code_is in let read = number_of-spelled number negative n spelled in
     let e = goal.word in let f = goal.read in
     record {
@@ -462,11 +462,11 @@ on_says : (names : NameLists) (text : List ℕ) (answer : Pattern) (name : List 
 unfolding said_by turns
 on_says names text answer name s =
     let t = turn_read answer s.between s.token s.rest name s.is_answer s.between_blank s.apart s.goal s.goal_apart in
-    let behind_on : List ℕ = s.between ++ (s.token ++ s.rest) in
-    let first = first_word_of s.before (codes "on") behind_on text s.before_blank on_words (omega arith) (blanks_stop s.between (s.token ++ s.rest) s.between_blank s.apart) s.parts in
+    let after_on : List ℕ = s.between ++ (s.token ++ s.rest) in
+    let first = first_word_of s.before (codes "on") after_on text s.before_blank on_words (omega arith) (blanks_stop s.between (s.token ++ s.rest) s.between_blank s.apart) s.parts in
     let word = first.0 in let follows = first.1 in let read = t.read in
     record {
-      line = ap are_line s.parts ∙ list_all-both may_stand s.before (codes "on" ++ behind_on) (blank_bytes s.before s.before_blank) (list_all-both may_stand (codes "on") behind_on (word_bytes (codes "on") on_words) t.line);
+      line = ap are_line s.parts ∙ list_all-both may_stand s.before (codes "on" ++ after_on) (blank_bytes s.before s.before_blank) (list_all-both may_stand (codes "on") after_on (word_bytes (codes "on") on_words) t.line);
       some = omega (arith, ap length word);
       says = rw (word, follows, read) refl;
     }
@@ -524,7 +524,7 @@ unfolding asks
 asks_parts names false text found e = absurd cc
 asks_parts names true text found e = let b = bind_parts (call_in names text) (λ call. Ok (Some (said.Asks call))) found e in (b.0, refl, b.1, (let e2 = b.2 in cc))
 
--- what is known of the name behind `script`
+-- what is known of the name after `script`
 record IsNamed (names : NameLists) (rest : List ℕ) (f : ℕ) : Type 0 where
   identifier : is_identifier (prefix Word (after Blank rest)) ≡ true
   blank : AreBlank (after Word (after Blank rest))
@@ -550,8 +550,8 @@ head_spelled names text f word e =
     let rest : List ℕ = after Word (after Blank text) in
     let s = named_parts names (after Word (after Blank text)) f e in
     let name : List ℕ = prefix Word (after Blank rest) in
-    let behind : List ℕ = after Word (after Blank rest) in
-    let inner : rest ≡ prefix Blank rest ++ (name ++ behind) = by_word rest name refl in
+    let following : List ℕ = after Word (after Blank rest) in
+    let inner : rest ≡ prefix Blank rest ++ (name ++ following) = by_word rest name refl in
     let some = (identifier_bytes (prefix Word (after Blank (after Word (after Blank text)))) s.identifier).0 in
     record {
       between = prefix Blank rest;
@@ -561,19 +561,19 @@ head_spelled names text f word e =
       is_name = s.is_name;
       padded = record {
         before = prefix Blank text;
-        behind = behind;
+        following = following;
         before_blank = list_all-take_while (is_of Blank) text;
-        behind_blank = s.blank;
-        parts = by_word text (codes "script") word ∙ ap (λ (l : List ℕ). prefix Blank text ++ l) (ap (λ (l : List ℕ). codes "script" ++ l) (inner ∙ sym (append_assoc (prefix Blank rest) name behind)) ∙ sym (append_assoc (codes "script") (prefix Blank rest ++ name) behind));
+        after_blank = s.blank;
+        parts = by_word text (codes "script") word ∙ ap (λ (l : List ℕ). prefix Blank text ++ l) (ap (λ (l : List ℕ). codes "script" ++ l) (inner ∙ sym (append_assoc (prefix Blank rest) name following)) ∙ sym (append_assoc (codes "script") (prefix Blank rest ++ name) following));
       };
     }
 
 end_spelled : (text : List ℕ) → prefix Word (after Blank text) ≡ codes "end" → AreBlank (after Word (after Blank text)) → SpellsEnd text
 end_spelled text word blank = record {
   before = prefix Blank text;
-  behind = after Word (after Blank text);
+  following = after Word (after Blank text);
   before_blank = list_all-take_while (is_of Blank) text;
-  behind_blank = blank;
+  after_blank = blank;
   parts = by_word text (codes "end") word;
 }
 
@@ -609,8 +609,8 @@ goal_from text name word e =
     let rest : List ℕ = after Word (after Blank text) in
     let l = label_parts (after Word (after Blank text)) name e in
     let n = name_parts (after Word (after Blank text)) name l.0 in
-    let behind_name : List ℕ = after Word (after Blank rest) in
-    let inner : rest ≡ prefix Blank rest ++ (name ++ behind_name) = by_word rest name n.2 in
+    let after_name : List ℕ = after Word (after Blank rest) in
+    let inner : rest ≡ prefix Blank rest ++ (name ++ after_name) = by_word rest name n.2 in
     let some = (identifier_bytes name n.0).0 in
     record {
       between = prefix Blank rest;
@@ -619,10 +619,10 @@ goal_from text name word e =
       is_name = (n.0, l.1);
       padded = record {
         before = prefix Blank text;
-        behind = behind_name;
+        following = after_name;
         before_blank = list_all-take_while (is_of Blank) text;
-        behind_blank = n.1;
-        parts = by_word text (codes "goto") word ∙ ap (λ (l : List ℕ). prefix Blank text ++ l) (ap (λ (l : List ℕ). codes "goto" ++ l) (inner ∙ sym (append_assoc (prefix Blank rest) name behind_name)) ∙ sym (append_assoc (codes "goto") (prefix Blank rest ++ name) behind_name));
+        after_blank = n.1;
+        parts = by_word text (codes "goto") word ∙ ap (λ (l : List ℕ). prefix Blank text ++ l) (ap (λ (l : List ℕ). codes "goto" ++ l) (inner ∙ sym (append_assoc (prefix Blank rest) name after_name)) ∙ sym (append_assoc (codes "goto") (prefix Blank rest ++ name) after_name));
       };
     }
 
@@ -748,7 +748,7 @@ turned_parts answer rest found e =
     let d = bind_parts (goal_in rest) (λ name. Ok (Some (said.Jumps b.0 name))) found b.2 in
     (b.0, d.0, b.1, d.1, (let e2 = d.2 in cc))
 
-turn_by : (text : List ℕ) (found : Option Said) (word rest : List ℕ) → prefix Word (after Blank text) ≡ word → after Word (after Blank text) ≡ rest → (o : Option (List ℕ)) → behind colon rest ≡ o
+turn_by : (text : List ℕ) (found : Option Said) (word rest : List ℕ) → prefix Word (after Blank text) ≡ word → after Word (after Blank text) ≡ rest → (o : Option (List ℕ)) → following colon rest ≡ o
     → turn_with word rest o ≡ Ok found → IsTurned text found
 unfolding goal_from
 turn_by text found word rest is_word is_rest None is e2 =
@@ -774,7 +774,7 @@ turn_by text found word rest is_word is_rest (Some more) is e2 =
     let number : List ℕ = prefix Argument more in
     let spelled : SpellsAnswer (word ++ (58 ∷ number)) (pattern.Valued v.code_is v.value) =
     (number, v.number.negative, v.number.magnitude, v.number.spelled, v.number.in_range, ap (λ (w : List ℕ). w ++ (58 ∷ number)) v.name) in
-    let inner : rest ≡ 58 ∷ (number ++ after Argument more) = behind_is 58 rest more is ∙ ap (λ (l : List ℕ). 58 ∷ l) (sym (prefix-after Argument more)) in
+    let inner : rest ≡ 58 ∷ (number ++ after Argument more) = after_is 58 rest more is ∙ ap (λ (l : List ℕ). 58 ∷ l) (sym (prefix-after Argument more)) in
     record {
       token = word ++ (58 ∷ number);
       rest = after Argument more;
@@ -790,7 +790,7 @@ turn_by text found word rest is_word is_rest (Some more) is e2 =
 
 turn_spelled : (text : List ℕ) (found : Option Said) → turn_in text ≡ Ok found → IsTurned text found
 unfolding turn_in
-turn_spelled text found e = turn_by text found (prefix Word (after Blank text)) (after Word (after Blank text)) refl refl (behind colon (after Word (after Blank text))) refl e
+turn_spelled text found e = turn_by text found (prefix Word (after Blank text)) (after Word (after Blank text)) refl refl (following colon (after Word (after Blank text))) refl e
 
 on_spelled : (names : NameLists) (text : List ℕ) (found : Option Said) → prefix Word (after Blank text) ≡ codes "on" → IsTurned (after Word (after Blank text)) found → Says names true text found
 on_spelled names text found word t = subst (Says names true text) t.found_is (refl, by t.answer t.is_answer)
@@ -835,27 +835,27 @@ stands_parts true name text found e =
     (refl, both.0, both.1, (let e2 = t.1 in cc))
 
 label_spelled : (text rest : List ℕ) → is_identifier (prefix Word (after Blank text)) ≡ true → is_taken (prefix Word (after Blank text)) ≡ false → AreBlank rest
-    → behind colon (after Blank (after Word (after Blank text))) ≡ Some rest → SpellsLabel text (prefix Word (after Blank text))
+    → following colon (after Blank (after Word (after Blank text))) ≡ Some rest → SpellsLabel text (prefix Word (after Blank text))
 label_spelled text rest identifier free blank there =
     let word : List ℕ = prefix Word (after Blank text) in
     let follows : List ℕ = after Word (after Blank text) in
-    let inner : follows ≡ prefix Blank follows ++ (58 ∷ rest) = sym (prefix-after Blank follows) ∙ ap (λ (l : List ℕ). prefix Blank follows ++ l) (behind_is 58 (after Blank follows) rest there) in
+    let inner : follows ≡ prefix Blank follows ++ (58 ∷ rest) = sym (prefix-after Blank follows) ∙ ap (λ (l : List ℕ). prefix Blank follows ++ l) (after_is 58 (after Blank follows) rest there) in
     record {
       between = prefix Blank follows;
       between_blank = list_all-take_while (is_of Blank) follows;
       is_name = (identifier, free);
       padded = record {
         before = prefix Blank text;
-        behind = rest;
+        following = rest;
         before_blank = list_all-take_while (is_of Blank) text;
-        behind_blank = blank;
+        after_blank = blank;
         parts = by_word text word refl
             ∙ ap (λ (l : List ℕ). prefix Blank text ++ l) (ap (λ (l : List ℕ). word ++ l) (inner ∙ sym (append_assoc (prefix Blank follows) (58 ∷ []) rest)) ∙ sym (append_assoc word (prefix Blank follows ++ (58 ∷ [])) rest));
       };
     }
 
 other_spelled : (names : NameLists) (inside : Bool) (text : List ℕ) (found : Option Said) → is_taken (prefix Word (after Blank text)) ≡ false → bytes_eq (prefix Word (after Blank text)) (codes "ret_hdr") ≡ false
-    → (o : Option (List ℕ)) → behind colon (after Blank (after Word (after Blank text))) ≡ o → other_said names inside text o ≡ Ok found → Says names inside text found
+    → (o : Option (List ℕ)) → following colon (after Blank (after Word (after Blank text))) ≡ o → other_said names inside text o ≡ Ok found → Says names inside text found
 other_spelled names inside text found free other None is e =
     let p = asks_parts names inside text found e in
     subst (Says names inside text) p.3 (p.1, step_spelled names text p.0 other p.2)
@@ -891,7 +891,7 @@ text_spelled names inside text found e =
                                   subst (Says names inside text) p.3 (p.1, goal_from text p.0 (is_word word (codes "goto") t) p.2)
                               | inr j ↦
                                   let free : is_taken (prefix Word (after Blank text)) ≡ false = rw (f, g, h, i, j) refl in
-                                  other_spelled names inside text found free h (behind colon (after Blank (after Word (after Blank text)))) refl (rw (f, g, h, i, j) at e)
+                                  other_spelled names inside text found free h (following colon (after Blank (after Word (after Blank text)))) refl (rw (f, g, h, i, j) at e)
                             ]
                       ]
                 ]

@@ -42,26 +42,26 @@ abbrev pub reading : List Steps → Option Open → Reading
 reading done unclosed = record { scripts = done; unclosed = unclosed }
 
 abbrev pub opened : ℕ → ℕ → Open
-opened line f = record { line = line; function = f; steps = []; jumps = []; labels = []; behind = false }
+opened line f = record { line = line; function = f; steps = []; jumps = []; labels = []; following = false }
 
 -- the open script with one part more
 abbrev pub with_part : Open → Part → Open
-with_part o (Asks call) = record o { steps = o.steps ++ (call ∷ []); behind = true }
-with_part o (Stands name) = record o { labels = o.labels ++ (record { name = name; at = length o.steps } ∷ []); behind = false }
-with_part o (Jumps answer name) = record o { jumps = o.jumps ++ (record { after = length o.steps; answer = answer; name = name } ∷ []); behind = not (is_any answer) }
+with_part o (Asks call) = record o { steps = o.steps ++ (call ∷ []); following = true }
+with_part o (Stands name) = record o { labels = o.labels ++ (record { name = name; at = length o.steps } ∷ []); following = false }
+with_part o (Jumps answer name) = record o { jumps = o.jumps ++ (record { after = length o.steps; answer = answer; name = name } ∷ []); following = not (is_any answer) }
 
 -- a part may come there
 abbrev pub MayCome : Open → Part → Type 0
 MayCome o (Asks call) = length o.steps < most_steps
 MayCome o (Stands name) = (has_label o.labels name ≡ false) × (length o.labels < most_labels)
-MayCome o (Jumps answer name) = (o.behind ≡ true) × (length o.jumps < most_ways)
+MayCome o (Jumps answer name) = (o.following ≡ true) × (length o.jumps < most_ways)
 
 -- the script that an open one is with other parts
 record Ends (o : Open) (parts : List Part) (s : Steps) : Type 0 where
   function : s.function ≡ o.function
   steps : s.steps ≡ o.steps ++ calls_of parts
   ways : linked (o.labels ++ labels_of (length o.steps) parts) (o.jumps ++ jumps_of (length o.steps) parts) ≡ Some s.ways
-  placed : ArePlaced o.behind parts
+  placed : ArePlaced o.following parts
   new : AreNew (length o.steps) o.labels parts
 
 -- all scripts are those that are done, the open one with its other parts, and the rest
@@ -317,7 +317,7 @@ taken_parts n done o (Stands name) r e =
     let t = newly_ok (has_label o.labels name) (ltb (length o.labels) most_labels) (reading done (Some (with_part o (Stands name)))) r e in
     ((t.0, ltb-true (length o.labels) most_labels t.1), t.2)
 taken_parts n done o (Jumps answer name) r e =
-    let t = tested_ok o.behind (cond (ltb (length o.jumps) most_ways) (Ok (reading done (Some (with_part o (Jumps answer name))))) (Err TooMany)) BadWord r e in
+    let t = tested_ok o.following (cond (ltb (length o.jumps) most_ways) (Ok (reading done (Some (with_part o (Jumps answer name))))) (Err TooMany)) BadWord r e in
     let u = tested_ok (ltb (length o.jumps) most_ways) (Ok (reading done (Some (with_part o (Jumps answer name))))) TooMany r t.1 in
     ((t.0, ltb-true (length o.jumps) most_ways u.0), (let e2 = u.1 in cc))
 
@@ -327,11 +327,11 @@ pub closed_parts : (done : List Steps) (o : Open) (r : Reading) (ways : Option (
 closed_parts done o r None is e = absurd cc
 closed_parts done o r (Some ws) is e = (ws, is, (let e2 = e in cc))
 
--- what the lines behind a line spell, where this was read before them
-abbrev Behind : NameLists → List (List ℕ) → ℕ → List Steps → Type 0
-Behind names tail n all = (done : List Steps) (unclosed : Option Open) → scripts_from names n (reading done unclosed) [] (join_with_byte 10 tail) ≡ Ok all → IsSpelled names done unclosed tail all
+-- what the lines after a line spell, where this was read before them
+abbrev Following : NameLists → List (List ℕ) → ℕ → List Steps → Type 0
+Following names tail n all = (done : List Steps) (unclosed : Option Open) → scripts_from names n (reading done unclosed) [] (join_with_byte 10 tail) ≡ Ok all → IsSpelled names done unclosed tail all
 
-module _ (names : NameLists) (n : ℕ) (line next : List ℕ) (lines : List (List ℕ)) (all : List Steps) (more : Behind names (next ∷ lines) (n + 1) all) where
+module _ (names : NameLists) (n : ℕ) (line next : List ℕ) (lines : List (List ℕ)) (all : List Steps) (more : Following names (next ∷ lines) (n + 1) all) where
   -- a line that says nothing
   nothing_more : (done : List Steps) (unclosed : Option Open) → SpellsNothing line → IsSpelled names done unclosed (next ∷ lines) all → IsSpelled names done unclosed (line ∷ next ∷ lines) all
   nothing_more done unclosed nothing s = by s.inside s.spelled s.stands

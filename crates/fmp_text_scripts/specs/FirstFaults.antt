@@ -15,28 +15,28 @@ use Rattle.fmp_text_scripts.specs.Scripts.{Steps}
 use Rattle.fmp_text_scripts.specs.Ways.{most_labels}
 use Rattle.fmp_text_scripts.specs.ScriptFaults.{ScriptFault}
 use Rattle.fmp_text_scripts.specs.ScriptGrammar.{IsLine, SpellsEnd, SpellsHead, SpellsParts, SpellsScripts}
-use Rattle.fmp_text_scripts.specs.Sources.{Part, ArePlaced, AreNew, calls_of, is_behind, jumps_of, labels_of}
+use Rattle.fmp_text_scripts.specs.Sources.{Part, ArePlaced, AreNew, calls_of, is_after, jumps_of, labels_of}
 use Rattle.fmp_text_scripts.specs.Texts.{Open, scripts_in}
 
--- these whole lines say these scripts and leave this one open: those before its head spell the scripts, and those behind it its parts
+-- these whole lines say these scripts and leave this one open: those before its head spell the scripts, and those after it its parts
 pub record LeaveOpen (names : NameLists) (lines : List (List ℕ)) (done : List Steps) (o : Open) : Type 0 where
   pub before : List (List ℕ)
   pub head : List ℕ
-  pub behind : List (List ℕ)
+  pub following : List (List ℕ)
   pub parts : List Part
-  pub lines_are : lines ≡ before ++ (head ∷ behind)
+  pub lines_are : lines ≡ before ++ (head ∷ following)
   pub number : o.line ≡ length before + 1
   pub spelled : length (lines_text before) ≤ most_bytes → SpellsScripts names (lines_text before) done
   pub opens : IsLine (λ text. SpellsHead names text o.function) head
-  pub says : SpellsParts names behind parts
+  pub says : SpellsParts names following parts
   pub steps : o.steps ≡ calls_of parts
   pub jumps : o.jumps ≡ jumps_of 0 parts
   pub labels : o.labels ≡ labels_of 0 parts
-  pub behind_is : o.behind ≡ is_behind false parts
+  pub after_is : o.following ≡ is_after false parts
   pub placed : ArePlaced false parts
   pub new : AreNew 0 [] parts
 
--- the labels of an open script, and those that its jumps are in want of, behind so many calls
+-- the labels of an open script, and those that its jumps are in want of, after so many calls
 abbrev pub all_labels : ℕ → List Label → List Jump → List Label
 all_labels at labels [] = labels
 all_labels at labels (j ∷ jumps) =
@@ -50,7 +50,7 @@ ending at labels (j ∷ jumps) =
     if has_label labels j.name then ending at labels jumps
     else (j.name ++ (colon ∷ [])) ++ (line_feed ∷ ending at (labels ++ record { name = j.name; at = at } ∷ []) jumps)
 
--- with these lines behind them the whole lines spell scripts, where there is room for them: those that are done, and the open one with a way for each jump.
+-- with these lines after them the whole lines spell scripts, where there is room for them: those that are done, and the open one with a way for each jump.
 -- Where no jump is in want of a label, as in a script without jumps, these lines are `end` alone
 pub record CanEnd (names : NameLists) (lines : List (List ℕ)) (done : List Steps) (o : Open) : Type 0 where
   pub ways : List Way
@@ -63,15 +63,15 @@ abbrev pub Say : NameLists → List (List ℕ) → List Steps → Option Open �
 Say names lines done None = length (lines_text lines) ≤ most_bytes → SpellsScripts names (lines_text lines) done
 Say names lines done (Some o) = LeaveOpen names lines done o × CanEnd names lines done o
 
--- these whole lines have no fault. They say some scripts, and can go on so that the text spells scripts; and however a text goes on behind them, its fault stands
--- behind them too, or it is cut short
+-- these whole lines have no fault. They say some scripts, and can go on so that the text spells scripts; and however a text goes on after them, its fault stands
+-- after them too, or it is cut short
 pub record HaveNoFault (names : NameLists) (lines : List (List ℕ)) : Type 0 where
   pub complete : (done : List Steps) × (unclosed : Option Open) × Say names lines done unclosed
   pub clean : (more : List ℕ) (fault : TextFault) → length (lines_text lines ++ more) ≤ most_bytes → scripts_in names (lines_text lines ++ more) ≡ Err fault
       → (length lines < fault.line) ⊎ (fault.kind ≡ CutShort)
 
 -- the fault stands in a whole line: those before it have none, no text that goes on from this line spells scripts, and each that does, within the limit,
--- has this fault. Its kind is that of the table, behind the scripts that the lines before it say and the one that they leave open
+-- has this fault. Its kind is that of the table, after the scripts that the lines before it say and the one that they leave open
 pub record FaultInLine (names : NameLists) (text : List ℕ) (fault : TextFault) : Type 0 where
   pub before : List (List ℕ)
   pub line : List ℕ
@@ -82,23 +82,23 @@ pub record FaultInLine (names : NameLists) (text : List ℕ) (fault : TextFault)
   pub faultless : HaveNoFault names before
   pub never : (more : List ℕ) (scripts : List Steps) → SpellsScripts names (lines_text before ++ (line ++ (line_feed ∷ more))) scripts → ⊥
   pub kind : (done : List Steps) × (unclosed : Option Open) × Say names before done unclosed × ScriptFault names done unclosed line fault.kind
-  pub told : (more : List ℕ) → length (lines_text before ++ (line ++ (line_feed ∷ more))) ≤ most_bytes
+  pub report : (more : List ℕ) → length (lines_text before ++ (line ++ (line_feed ∷ more))) ≤ most_bytes
       → scripts_in names (lines_text before ++ (line ++ (line_feed ∷ more))) ≡ Err fault
 
--- the lines leave a script open that begins in line n: those before it spell scripts, and none behind it is an `end`
+-- the lines leave a script open that begins in line n: those before it spell scripts, and none after it is an `end`
 pub record AreOpen (names : NameLists) (lines : List (List ℕ)) (n : ℕ) : Type 0 where
   pub before : List (List ℕ)
   pub head : List ℕ
-  pub behind : List (List ℕ)
+  pub following : List (List ℕ)
   pub function : ℕ
   pub scripts : List Steps
-  pub parts : lines ≡ before ++ (head ∷ behind)
+  pub parts : lines ≡ before ++ (head ∷ following)
   pub number : n ≡ length before + 1
   pub spelled : SpellsScripts names (lines_text before) scripts
   pub opens : IsLine (λ text. SpellsHead names text function) head
-  pub unended : All (λ line. ¬ (IsLine SpellsEnd line)) behind
+  pub unended : All (λ line. ¬ (IsLine SpellsEnd line)) following
 
--- the text is cut short: its whole lines have no fault, and behind them stands what is neither blank nor a comment, or a script is open
+-- the text is cut short: its whole lines have no fault, and after them stands what is neither blank nor a comment, or a script is open
 pub record FaultAtEnd (names : NameLists) (text : List ℕ) (fault : TextFault) : Type 0 where
   pub before : List (List ℕ)
   pub last : List ℕ

@@ -1,4 +1,4 @@
-pub mod Ways  -- Ways: where a script goes on behind a call, by the answer to it.
+pub mod Ways  -- Ways: where a script goes on after a call, by the answer to it.
 pub mod Scripts  -- Scripts: what the tasks and handlers of a function ask, one call after the other, and where they go on by the answers.
 pub mod Linking  -- Labels, and the jumps to them by their names.
 pub mod Lines  -- What a line of a script text says.

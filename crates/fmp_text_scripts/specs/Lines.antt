@@ -4,7 +4,7 @@ use Rattle.std.specs.List.{list_all}
 use Rattle.std.specs.Option.{ok_or}
 use Rattle.std.specs.Str.{bytes_eq}
 use Rattle.fmp_bytes.specs.declared.classes.Class.TheVariants.{Argument, Blank, Word, Line}
-use Rattle.fmp_bytes.specs.Bytes.{is_of, prefix, after, behind, colon, is_identifier}
+use Rattle.fmp_bytes.specs.Bytes.{is_of, prefix, after, following, colon, is_identifier}
 use Rattle.fmp_bytes.specs.Numerals.{number_of, signed_of}
 use Rattle.fmp_codes.specs.Codes as code
 use Rattle.fmp_codes.specs.declared.codes.Code.{Code}
@@ -86,7 +86,7 @@ goal_in text =
     if bytes_eq (prefix Word (after Blank text)) (codes "goto") then label_in (after Word (after Blank text))
     else Err WrongArguments
 
--- answers, and where the script goes on behind them
+-- answers, and where the script goes on after them
 abbrev pub turned : Result Pattern TextKind → List ℕ → Result (Option Said) TextKind
 turned answer rest = (answer >>= λ a. goal_in rest >>= λ name. Ok (Some (said.Jumps a name)))
 
@@ -95,7 +95,7 @@ turn_with word rest None = turned (pattern_of word) rest
 turn_with word rest (Some text) = turned (valued word (prefix Argument text)) (after Argument text)
 
 unfoldable pub turn_in : List ℕ → Result (Option Said) TextKind
-turn_in text = turn_with (prefix Word (after Blank text)) (after Word (after Blank text)) (behind colon (after Word (after Blank text)))
+turn_in text = turn_with (prefix Word (after Blank text)) (after Word (after Blank text)) (following colon (after Word (after Blank text)))
 
 -- the script goes on elsewhere, where one is open
 unfoldable pub turns : Bool → List ℕ → Result (Option Said) TextKind
@@ -110,7 +110,7 @@ stands inside name text =
     if not inside then Err BadWord
     else (if is_identifier name && list_all (is_of Blank) text then Ok (Some (said.Stands name)) else Err WrongArguments)
 
--- by what stands behind the first word: a label's colon, or else it is a call
+-- by what stands after the first word: a label's colon, or else it is a call
 abbrev pub other_said : NameLists → Bool → List ℕ → Option (List ℕ) → Result (Option Said) TextKind
 other_said names inside text None = asks names inside text
 other_said names inside text (Some rest) = stands inside (prefix Word (after Blank text)) rest
@@ -127,7 +127,7 @@ said_by names inside text =
     else (if bytes_eq (prefix Word (after Blank text)) (codes "ret_hdr") then Err BadWord
     else (if bytes_eq (prefix Word (after Blank text)) (codes "on") then turns inside (after Word (after Blank text))
     else (if bytes_eq (prefix Word (after Blank text)) (codes "goto") then goes inside (after Word (after Blank text))
-    else other_said names inside text (behind colon (after Blank (after Word (after Blank text))))))))
+    else other_said names inside text (following colon (after Blank (after Word (after Blank text))))))))
 
 -- what a whole line says, if it says anything
 unfoldable pub said_in : NameLists → Bool → List ℕ → Result (Option Said) TextKind

@@ -23,7 +23,7 @@ is_same a b = bytes_eq a b
 abbrev pub has_label : List Label → List ℕ → Bool
 has_label labels name = list_any (λ l. is_same l.name name) labels
 
--- behind how many calls the first label of this name stands
+-- after how many calls the first label of this name stands
 abbrev pub place_in : List Label → List ℕ → Option ℕ
 place_in labels name = option_map (λ l. l.at) (find (λ l. is_same l.name name) labels)
 

@@ -32,6 +32,6 @@ ways_of_option scripts (Some f) = ways_of scripts f
 abbrev pub AreInBits : List Steps → Type 0
 AreInBits scripts = All (λ s. All CallInBits s.steps) scripts
 
--- no script has a way: each goes straight on behind each answer
+-- no script has a way: each goes straight on after each answer
 abbrev pub AreStraight : List Steps → Type 0
 AreStraight scripts = All (λ s. s.ways ≡ []) scripts

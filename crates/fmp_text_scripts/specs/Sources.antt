@@ -8,7 +8,7 @@ use Rattle.fmp_text_scripts.specs.Linking.{has_label, is_any, linked}
 use Rattle.fmp_text_scripts.specs.Scripts.{Steps}
 use Rattle.fmp_text_scripts.specs.Ways.{most_labels}
 
--- what a line between `script` and `end` says: a call; a label of a name; or where the script goes on behind the call before it, for some of its answers
+-- what a line between `script` and `end` says: a call; a label of a name; or where the script goes on after the call before it, for some of its answers
 -- or, by `goto`, for all
 pub data Part : Type 0 where
   Asks : Call → Part
@@ -19,7 +19,7 @@ pub record Source : Type 0 where
   pub function : ℕ
   pub parts : List Part
 
--- the calls, and behind n calls the jumps and the labels, each with how many calls stand before it
+-- the calls, and after n calls the jumps and the labels, each with how many calls stand before it
 abbrev pub calls_of : List Part → List Call
 calls_of [] = []
 calls_of (Asks call ∷ parts) = call ∷ calls_of parts
@@ -38,19 +38,19 @@ labels_of n (Asks call ∷ parts) = labels_of (n + 1) parts
 labels_of n (Stands name ∷ parts) = record { name = name; at = n } ∷ labels_of n parts
 labels_of n (Jumps answer name ∷ parts) = labels_of n parts
 
--- each jump stands behind a call or an `on` of it, where `behind` says so of the first part
+-- each jump stands after a call or an `on` of it, where `following` says so of the first part
 abbrev pub ArePlaced : Bool → List Part → Type 0
-ArePlaced behind [] = Unit {0}
-ArePlaced behind (Asks call ∷ parts) = ArePlaced true parts
-ArePlaced behind (Stands name ∷ parts) = ArePlaced false parts
-ArePlaced behind (Jumps answer name ∷ parts) = (behind ≡ true) × ArePlaced (not (is_any answer)) parts
+ArePlaced following [] = Unit {0}
+ArePlaced following (Asks call ∷ parts) = ArePlaced true parts
+ArePlaced following (Stands name ∷ parts) = ArePlaced false parts
+ArePlaced following (Jumps answer name ∷ parts) = (following ≡ true) × ArePlaced (not (is_any answer)) parts
 
--- whether a jump may stand behind these parts
-abbrev pub is_behind : Bool → List Part → Bool
-is_behind behind [] = behind
-is_behind behind (Asks call ∷ parts) = is_behind true parts
-is_behind behind (Stands name ∷ parts) = is_behind false parts
-is_behind behind (Jumps answer name ∷ parts) = is_behind (not (is_any answer)) parts
+-- whether a jump may stand after these parts
+abbrev pub is_after : Bool → List Part → Bool
+is_after following [] = following
+is_after following (Asks call ∷ parts) = is_after true parts
+is_after following (Stands name ∷ parts) = is_after false parts
+is_after following (Jumps answer name ∷ parts) = is_after (not (is_any answer)) parts
 
 -- no label has the name of one before it, and there are not too many, where n calls and these labels stand before
 abbrev pub AreNew : ℕ → List Label → List Part → Type 0

@@ -23,14 +23,14 @@ use Rattle.fmp_text_scripts.specs.declared.linking.Label.{Label}
 use Rattle.fmp_text_scripts.specs.Linking.{is_any, has_label, linked}
 use Rattle.fmp_text_scripts.specs.Lines.{said_in}
 
--- a script that is open, with the line that opened it; `behind` says that the last line which said something is a call or an `on`
+-- a script that is open, with the line that opened it; `following` says that the last line which said something is a call or an `on`
 pub record Open : Type 0 where
   pub line : ℕ
   pub function : ℕ
   pub steps : List Call
   pub jumps : List Jump
   pub labels : List Label
-  pub behind : Bool
+  pub following : Bool
 
 -- what the lines of a text say so far
 pub record Reading : Type 0 where
@@ -45,7 +45,7 @@ abbrev pub asked : Reading → Call → Option Open → Result Reading TextKind
 asked r call None = Ok r
 asked r call (Some o) =
     if nat_lt (length o.steps) most_steps
-    then Ok (record r { unclosed = Some (record o { steps = o.steps ++ call ∷ []; behind = true }) })
+    then Ok (record r { unclosed = Some (record o { steps = o.steps ++ call ∷ []; following = true }) })
     else Err TooMany
 
 -- one label more of the open script, whose name no other of its labels may have
@@ -54,19 +54,19 @@ labelled r name None = Ok r
 labelled r name (Some o) =
     if has_label o.labels name then Err WrongArguments
     else (if nat_lt (length o.labels) most_labels
-    then Ok (record r { unclosed = Some (record o { labels = o.labels ++ record { name = name; at = length o.steps } ∷ []; behind = false }) })
+    then Ok (record r { unclosed = Some (record o { labels = o.labels ++ record { name = name; at = length o.steps } ∷ []; following = false }) })
     else Err TooMany)
 
--- one jump more of the open script, which has to stand behind a call or an `on`
+-- one jump more of the open script, which has to stand after a call or an `on`
 abbrev pub jumped : Reading → Pattern → List ℕ → Option Open → Result Reading TextKind
 jumped r answer name None = Ok r
 jumped r answer name (Some o) =
-    if o.behind
+    if o.following
     then (if nat_lt (length o.jumps) most_ways
     then Ok (record r {
       unclosed = Some (record o {
         jumps = o.jumps ++ record { after = length o.steps; answer = answer; name = name } ∷ [];
-        behind = not (is_any answer);
+        following = not (is_any answer);
       });
     })
     else Err TooMany)
@@ -87,7 +87,7 @@ abbrev pub took : ℕ → Reading → Option Said → Result Reading TextKind
 took line r None = Ok r
 took line r (Some (said.Opens f)) =
     if list_any (λ s. s.function == f) r.scripts then Err WrongArguments
-    else Ok (record r { unclosed = Some (record { line = line; function = f; steps = []; jumps = []; labels = []; behind = false }) })
+    else Ok (record r { unclosed = Some (record { line = line; function = f; steps = []; jumps = []; labels = []; following = false }) })
 took line r (Some (said.Asks call)) = asked r call r.unclosed
 took line r (Some (said.Stands name)) = labelled r name r.unclosed
 took line r (Some (said.Jumps answer name)) = jumped r answer name r.unclosed
@@ -110,7 +110,7 @@ abbrev pub after_line : ℕ → Result Reading TextKind → (Reading → Result 
 after_line line (Ok r) rest = rest r
 after_line line (Err kind) rest = fault_at kind line
 
--- what bytes give behind so many whole lines, of which this was read, and the beginning of a line
+-- what bytes give after so many whole lines, of which this was read, and the beginning of a line
 unfoldable pub scripts_from : NameLists → ℕ → Reading → List ℕ → List ℕ → Result (List Steps) TextFault
 scripts_from names lines r begun [] = if is_skipped begun then at_end r r.unclosed else fault_at CutShort (lines + 1)
 scripts_from names lines r begun (byte ∷ bytes) =

@@ -15,7 +15,7 @@ open_of o = record {
   steps = o.steps.items;
   jumps = o.jumps.items;
   labels = o.labels.items;
-  behind = o.behind;
+  following = o.following;
 }
 
 abbrev pub reading_of : List Script → Option Opened → Reading

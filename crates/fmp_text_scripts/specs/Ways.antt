@@ -1,4 +1,4 @@
--- Ways: where a script goes on behind a call, by the answer to it.
+-- Ways: where a script goes on after a call, by the answer to it.
 use Rattle.std.specs.Prelude.{ℕ, ℤ, ◌==◌, min, Bool, true, false, not, ◌&&◌, List, Option, None, Some, find}
 use Rattle.std.specs.Ordering.{int_eq}
 use Rattle.fmp_codes.specs.Codes.{number_of}
@@ -35,7 +35,7 @@ fits pattern.Refused code value = not (is_code code codes.Accepted)
 fits (pattern.Coded c) code value = is_code code c
 fits (pattern.Valued c v) code value = is_code code c && is_value v value
 
--- a way leads on from behind the n-th call, where that answered so
+-- a way leads on from after the n-th call, where that answered so
 abbrev pub leads : ℕ → Code → Option ℤ → Way → Bool
 leads n code value w = (w.after == n) && fits w.answer code value
 
@@ -44,6 +44,6 @@ abbrev pub place_of : ℕ → Option Way → ℕ
 place_of n None = n
 place_of n (Some w) = min w.to most_steps
 
--- where a script goes on that has come behind its n-th call, which answered so: the first way that fits says it
+-- where a script goes on that has come after its n-th call, which answered so: the first way that fits says it
 unfoldable pub onward : List Way → ℕ → Code → Option ℤ → ℕ
 onward ways n code value = place_of n (find (leads n code value) ways)

@@ -28,7 +28,7 @@ pub fn texts_spell_one_list_of_scripts()
 {}
 
 /// A fault stands in its line: the whole lines before it have none, and a text that is the same up to the end of that line has the same fault, whatever
-/// follows, of the kind that the table of faults has for that line. Mend line n, and the next fault is in line n or behind, or the text is cut short.
+/// follows, of the kind that the table of faults has for that line. Mend line n, and the next fault is in line n or after, or the text is cut short.
 /// A text is cut short in its last line, or where a script is
 /// open at its end in the line in which that script begins.
 pub fn faults_stand_in_their_line()
@@ -36,10 +36,10 @@ pub fn faults_stand_in_their_line()
         → scripts_in names text ≡ Err fault → FirstFault names text fault }
 {}
 
-/// A line of a script text, behind lines that were read so, has a fault exactly where the table of faults has one for it, and then that: the first row that fits.
+/// A line of a script text, after lines that were read so, has a fault exactly where the table of faults has one for it, and then that: the first row that fits.
 pub fn faults_are_those_of_the_table()
     ensures read { (names : NameLists) (n : ℕ) (r : Reading) (line : List ℕ) (fault : TextKind) → AreValid names
         → with_line names n r line ≡ Err fault → ScriptFault names r.scripts r.unclosed line fault }
-    ensures told { (names : NameLists) (n : ℕ) (r : Reading) (line : List ℕ) (fault : TextKind) → AreValid names
+    ensures report { (names : NameLists) (n : ℕ) (r : Reading) (line : List ℕ) (fault : TextKind) → AreValid names
         → ScriptFault names r.scripts r.unclosed line fault → with_line names n r line ≡ Err fault }
 {}

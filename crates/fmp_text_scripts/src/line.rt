@@ -6,7 +6,7 @@ ghost use Rattle.fmp_text_scripts.specs.Lines as spec;
 use crate::linking::Name;
 use crate::ways::Pattern;
 use fmp_bytes::{
-    Class, all_of, behind, is_identifier, signed64, skip, spelled_number, split_prefix,
+    Class, all_of, following, is_identifier, signed64, skip, spelled_number, split_prefix,
 };
 use fmp_calls::NameKind;
 use fmp_codes::{Call, Code};
@@ -110,7 +110,7 @@ fn value_in(text: &[u8]) -> Result<i64, TextKind>
     signed64(number.negative, magnitude).ok_or(TextKind::NumberOutOfRange)
 }
 
-/// The answers of a word that has no value behind it: `refused`, or a code.
+/// The answers of a word that has no value after it: `refused`, or a code.
 #[tactic(auto, unfolding(crate::specs::Lines::pattern_of))]
 fn pattern_of(word: &[u8]) -> Result<Pattern, TextKind>
     ensures { result ≡ spec.pattern_of word.now }
@@ -175,13 +175,13 @@ fn goal_in(text: &[u8]) -> Result<&[u8], TextKind>
     }
 }
 
-/// The answers at the front of what follows `on`, and the label behind them.
+/// The answers at the front of what follows `on`, and the label after them.
 #[tactic(auto, unfolding(crate::specs::Lines::turn_in))]
 fn turn_in<'t>(text: &'t [u8]) -> Result<Option<Said<'t>>, TextKind>
     ensures { result ≡ spec.turn_in text.now }
 {
     let (word, rest) = split_prefix(Class::Word, skip(Class::Blank, text));
-    match behind(b':', rest) {
+    match following(b':', rest) {
         None => {
             let answer = pattern_of(word)?;
             Ok(Some(Said::Jumps(answer, Name::new(goal_in(rest)?))))
@@ -253,7 +253,7 @@ fn said_by<'t>(names: &Names, inside: bool, text: &'t [u8]) -> Result<Option<Sai
     if word == b"goto".as_slice() {
         return goes(inside, rest);
     }
-    match behind(b':', skip(Class::Blank, rest)) {
+    match following(b':', skip(Class::Blank, rest)) {
         Some(rest) => stands(inside, word, rest),
         None => asks(names, inside, text),
     }

@@ -37,7 +37,7 @@ impl<'t> Name<'t> {
     }
 }
 
-/// Behind so many calls, where the last of them answered so, the script goes on at the label of this name.
+/// After so many calls, where the last of them answered so, the script goes on at the label of this name.
 #[derive(Drop)]
 pub struct Jump<'t> {
     pub after: usize,
@@ -45,7 +45,7 @@ pub struct Jump<'t> {
     pub name: Name<'t>,
 }
 
-/// The label of this name stands behind so many calls.
+/// The label of this name stands after so many calls.
 #[derive(Drop)]
 pub struct Label<'t> {
     pub name: Name<'t>,
@@ -66,7 +66,7 @@ pub fn has_label(labels: &[Label<'_>], name: &Name<'_>) -> bool
     labels.iter().any(|label| label.name.is_same(name))
 }
 
-/// Behind how many calls the first label of this name stands.
+/// After how many calls the first label of this name stands.
 fn place_in(labels: &[Label<'_>], name: &Name<'_>) -> Option<usize>
     ensures { result ≡ spec.place_in labels.now name.now }
 {

@@ -33,7 +33,7 @@ pub struct Opened<'t> {
     pub jumps: Vec<Jump<'t>>,
     pub labels: Vec<Label<'t>>,
     /// Whether the last line that said something is a call or an `on`.
-    pub behind: bool,
+    pub following: bool,
 }
 
 /// What the lines of a text say so far.
@@ -95,7 +95,7 @@ impl<'t> Reader<'t> {
             steps: Vec::new(self.alloc),
             jumps: Vec::new(self.alloc),
             labels: Vec::new(self.alloc),
-            behind: false,
+            following: false,
         });
         Ok(())
     }
@@ -114,7 +114,7 @@ impl<'t> Reader<'t> {
             });
         }
         opened.steps.push(call)?;
-        opened.behind = true;
+        opened.following = true;
         self.unclosed = Some(opened);
         Ok(())
     }
@@ -141,12 +141,12 @@ impl<'t> Reader<'t> {
         }
         let at = opened.steps.len();
         opened.labels.push(Label { name, at })?;
-        opened.behind = false;
+        opened.following = false;
         self.unclosed = Some(opened);
         Ok(())
     }
 
-    /// Adds a jump to the open script, if any. Where it stands behind no call and no `on`, the fault is `BadWord`; where the script has `MOST_WAYS`
+    /// Adds a jump to the open script, if any. Where it stands after no call and no `on`, the fault is `BadWord`; where the script has `MOST_WAYS`
     /// of them already, `TooMany`.
     fn jump(&mut self, line: u32, answer: Pattern, name: Name<'t>) -> Result<(), TextFault>
         ensures { Takes (spec.took line self.old (Some (Said.Jumps answer name.entry))) line result self.new }
@@ -154,7 +154,7 @@ impl<'t> Reader<'t> {
         let Some(mut opened) = self.unclosed.take() else {
             return Ok(());
         };
-        if !opened.behind {
+        if !opened.following {
             return Err(TextFault {
                 kind: TextKind::BadWord,
                 line,
@@ -172,12 +172,12 @@ impl<'t> Reader<'t> {
             answer,
             name,
         })?;
-        opened.behind = !is_any(answer);
+        opened.following = !is_any(answer);
         self.unclosed = Some(opened);
         Ok(())
     }
 
-    /// Closes the open script, if any, and puts it behind those read before. Where no label has the name of one of its jumps, the fault is
+    /// Closes the open script, if any, and puts it after those read before. Where no label has the name of one of its jumps, the fault is
     /// `UnknownName`.
     fn close(&mut self, line: u32) -> Result<(), TextFault>
         ensures { Takes (spec.took line self.old (Some Said.Closes)) line result self.new }

@@ -75,7 +75,7 @@ impl Scripts {
         step_in(&self.scripts, &self.places, function, position as usize)
     }
 
-    /// Where a function's script goes on that has come behind a call which answered so, at once or by the end of its wait.
+    /// Where a function's script goes on that has come after a call which answered so, at once or by the end of its wait.
     pub fn onward(&self, function: Option<u8>, position: u32, code: Code, value: Option<i64>) -> u32
         ensures { result ≡ spec.onward (ways_of_option self.now function) position code value }
     {
@@ -128,7 +128,7 @@ fn places_of(scripts: &[Script]) -> [usize; FUNCTIONS]
     places
 }
 
-/// The script behind so many others, if there is one.
+/// The script after so many others, if there is one.
 fn script_at(scripts: &[Script], place: usize) -> Option<&Script>
     ensures { option_copied result ≡ slice_get scripts.now place }
 {
@@ -167,7 +167,7 @@ fn step_in(
     }
 }
 
-/// Where a function's script goes on that has come behind a call which answered so.
+/// Where a function's script goes on that has come after a call which answered so.
 #[tactic(auto, using(crate::proofs::Found::ways_found))]
 fn onward_in(
     scripts: &[Script],

@@ -1,4 +1,4 @@
-//! Where a script goes on behind a call.
+//! Where a script goes on after a call.
 ghost use Rattle.std.specs.Prelude.{◌≡◌, ◌↔◌, IsTrue, find};
 ghost use Rattle.std.specs.Option.{option_copied};
 ghost use Rattle.fmp_text_scripts.specs.Ways as spec;
@@ -19,7 +19,7 @@ pub enum Pattern {
     Valued(Code, i64),
 }
 
-/// Where a script goes on that has come behind so many of its calls, where the last of them answered so.
+/// Where a script goes on that has come after so many of its calls, where the last of them answered so.
 #[derive(Clone, Copy)]
 pub struct Way {
     pub after: usize,
@@ -57,7 +57,7 @@ fn fits(pattern: Pattern, code: Code, value: Option<i64>) -> bool
     }
 }
 
-/// Whether a way leads on from behind so many calls, the last of which answered so.
+/// Whether a way leads on from after so many calls, the last of which answered so.
 fn leads(way: &Way, position: u32, code: Code, value: Option<i64>) -> bool
     ensures { result ≡ spec.leads position code value way.now }
 {
@@ -71,7 +71,7 @@ fn first_way(ways: &[Way], position: u32, code: Code, value: Option<i64>) -> Opt
     ways.iter().find(|way| leads(way, position, code, value))
 }
 
-/// Where a script goes on that has come behind a call which answered so.
+/// Where a script goes on that has come after a call which answered so.
 #[tactic(auto, unfolding(crate::specs::Ways::onward))]
 pub fn onward(ways: &[Way], position: u32, code: Code, value: Option<i64>) -> u32
     ensures { result ≡ spec.onward ways.now position code value }

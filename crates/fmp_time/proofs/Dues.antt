@@ -1,8 +1,9 @@
 -- Which items have no ticks left, over all lists.
 use Rattle.std.proofs.Common.{◌≡◌, ℕ, suc, ◌+◌, ◌-◌, ◌<◌, ◌≤◌, Bool, true, false, Option, Some, None, List, [], ◌∷◌, length, filter, nat_eq, if◌then◌else◌, refl, sym, ap, ◌∙◌, arith, ⊎_elim}
-use Rattle.std.specs.Prelude.{slice_index, slice_index_or, is_some}
+use Rattle.std.specs.Prelude.{slice_index, slice_index_or, is_some, replicate}
 use Rattle.std.specs.Option.{option_eq}
 use Rattle.std.proofs.lemmas.Bool.{cases_eq, eq-eqb, ne_eqb}
+use Rattle.std.proofs.lemmas.List.{ext_get_or, get_or-replicate}
 use Rattle.fmp_codes.specs.Numbers.{as_proc}
 use Rattle.fmp_codes.specs.declared.numbers.Proc.{Proc}
 use Rattle.fmp_codes.specs.declared.numbers.Task.{Task}
@@ -66,3 +67,13 @@ module _ {X : Type 0} (q : List (List Entry)) (w : List Task) (f : X → Item) (
   pub marked_over : (marks : List Bool) → ((k : ℕ) → k < 128 → slice_index_or marks k false ≡ is_over (left_in q k)) →
       filter (λ x. slice_index_or marks (place_of (f x)) false) xs ≡ filter (λ x. is_over (left_of (times_of q w) (f x))) xs
   marked_over marks h = filter_agree _ _ xs (λ x. h (place_of (f x)) (place-low (f x)) ∙ ap is_over (sym (left_of-times q w (f x))))
+
+-- a list without a first item, and lists that are all so
+pub none_first : (es : List Entry) (o : Option ℕ) → o ≡ least_of es → is_some o ≡ false → es ≡ []
+none_first [] o e none = refl
+none_first (y ∷ ys) None e none = cc
+none_first (y ∷ ys) (Some n) e none = cc
+
+pub all_none : (q : List (List Entry)) → length q ≡ 8 → ((j : ℕ) → j < 8 → entries_at q j ≡ []) → q ≡ replicate 8 []
+all_none q eight none =
+    ext_get_or [] q (replicate 8 []) eight (λ j l. let low : j < 8 = omega (arith, l, eight) in none j low ∙ sym (get_or-replicate 8 j [] [] low))

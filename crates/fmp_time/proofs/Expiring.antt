@@ -58,7 +58,7 @@ zeros_end d x ys e = rw (ne_eqb (d x) 0 e) refl
 pub rest_end : (d : ℕ → ℕ) (x : ℕ) (ys : List ℕ) → (d x ≡ 0 → ⊥) → rest_of d (x ∷ ys) ≡ x ∷ ys
 rest_end d x ys e = rw (ne_eqb (d x) 0 e) refl
 
--- the items behind the first
+-- the items after the first
 abbrev pub tail_of : List ℕ → List ℕ
 tail_of [] = []
 tail_of (x ∷ xs) = xs

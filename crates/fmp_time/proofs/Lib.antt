@@ -1,7 +1,7 @@
 pub mod Sums  -- What a change of the stored numbers does to the sums.
 pub mod Spots  -- The way to the spot, one item at a time.
 pub mod Entries  -- The lists of entries_of after a change of one list of items.
-pub mod Removing  -- An item is taken out, and the one behind it gains what it has added.
+pub mod Removing  -- An item is taken out, and the one after it gains what it has added.
 pub mod Reading  -- What the walk along a list reads.
 pub mod Expiring  -- The items in front that add nothing are those that are due.
 pub mod Leaving  -- What was taken out is nowhere, and taking out what is nowhere changes nothing.

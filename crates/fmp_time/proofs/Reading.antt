@@ -2,7 +2,7 @@
 use Rattle.std.proofs.Common.{◌≡◌, ℕ, ◌+◌, Bool, true, false, cond, Some, None, List, [], ◌∷◌, drop, refl, sym, ap, ◌∙◌, arith}
 use Rattle.std.proofs.lemmas.Bool.{eq-eqb, ne_eqb}
 use Rattle.fmp_kernel_links.specs.Lists.{has, first_of}
-use Rattle.fmp_kernel_links.proofs.Having.{has_behind}
+use Rattle.fmp_kernel_links.proofs.Having.{has_after}
 use Rattle.fmp_kernel_links.proofs.Walking.{left_over, nothing_left}
 use Rattle.fmp_time.specs.Differences.{ticks_in, least_of, entries_from, sum_of}
 
@@ -23,7 +23,7 @@ pub ticks_on : (d : ℕ → ℕ) (s : ℕ) (xs : List ℕ) (k x t : ℕ) → fir
 ticks_on d s xs k x t e f = ap (λ (ys : List ℕ). ticks_in (entries_from d s ys) t) (left_over xs k x e) ∙ ap (λ (c : Bool). cond c (Some (s + d x)) (ticks_in (entries_from d (s + d x) (drop (k + 1) xs)) t)) (ne_eqb x t f)
 
 pub there_on : (xs : List ℕ) (k x t : ℕ) → first_of (drop k xs) ≡ Some x → (x ≡ t → ⊥) → has t (drop k xs) ≡ true → has t (drop (k + 1) xs) ≡ true
-there_on xs k x t e f h = has_behind t x (drop (k + 1) xs) (λ (g : t ≡ x). f (sym g)) (sym (ap (has t) (left_over xs k x e)) ∙ h)
+there_on xs k x t e f h = has_after t x (drop (k + 1) xs) (λ (g : t ≡ x). f (sym g)) (sym (ap (has t) (left_over xs k x e)) ∙ h)
 
 pub sum_on : (d : ℕ → ℕ) (xs : List ℕ) (k x : ℕ) → first_of (drop k xs) ≡ Some x → sum_of d (drop k xs) ≡ d x + sum_of d (drop (k + 1) xs)
 sum_on d xs k x e = ap (sum_of d) (left_over xs k x e)

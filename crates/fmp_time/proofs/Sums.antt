@@ -2,7 +2,7 @@
 use Rattle.std.proofs.Common.{◌≡◌, ℕ, ◌+◌, ◌-◌, ◌<◌, ◌≤◌, Bool, true, false, cond, Some, None, List, [], ◌∷◌, ◌++◌, refl, sym, ap, ◌∙◌, subst, arith, ⊎_elim}
 use Rattle.std.proofs.lemmas.Bool.{cases_eq, cases_lt, eq-eqb, ne_eqb, lt-ltb, le-ltb}
 use Rattle.fmp_kernel_links.specs.Lists.{has, inserted, AreDistinct, first_of}
-use Rattle.fmp_kernel_links.proofs.Having.{has_here, has_there, lacks_first, lacks_behind, ne}
+use Rattle.fmp_kernel_links.proofs.Having.{has_here, has_there, lacks_first, lacks_after, ne}
 use Rattle.fmp_time.specs.Differences.{Entry, sorted_in, without, lowered, entries_from, sum_of, spot_in, rest_in, first_adding}
 
 pub frame : (d e : ℕ → ℕ) (s : ℕ) (xs : List ℕ) → ((u : ℕ) → has u xs ≡ true → e u ≡ d u) → entries_from e s xs ≡ entries_from d s xs
@@ -36,7 +36,7 @@ insert_some d e k b s r (x ∷ xs) spot own more others out apart =
     let sum : s + r + (d x - r) ≡ s + d x = omega (arith, l) in
     rw (eq-eqb x b at, lt-ltb (s + r) (s + d x) (omega (arith, l)), mine, its, sum)
     (ap (λ (es : List Entry). (k, s + r) ∷ (x, s + d x) ∷ es)
-    (frame d e (s + d x) xs (λ u g. others u (λ (f : u ≡ k). ne u k xs g (lacks_behind k x xs out) f) (λ (f : u ≡ b). ne u x xs g apart.0 (f ∙ sym at))))))
+    (frame d e (s + d x) xs (λ u g. others u (λ (f : u ≡ k). ne u k xs g (lacks_after k x xs out) f) (λ (f : u ≡ b). ne u x xs g apart.0 (f ∙ sym at))))))
     (λ (l : d x ≤ r).
     let on : spot_in d (r - d x) xs ≡ Some b = sym (ap (λ (c : Bool). cond c (Some x) (spot_in d (r - d x) xs)) (le-ltb r (d x) l)) ∙ spot in
     let rest : rest_in d r (x ∷ xs) ≡ rest_in d (r - d x) xs = ap (λ (c : Bool). cond c r (rest_in d (r - d x) xs)) (le-ltb r (d x) l) in
@@ -45,7 +45,7 @@ insert_some d e k b s r (x ∷ xs) spot own more others out apart =
     let sum : s + d x + (r - d x) ≡ s + r = omega (arith, l) in
     rw (ne_eqb x b other, le-ltb (s + r) (s + d x) (omega (arith, l)), same)
     (ap (λ (es : List Entry). (x, s + d x) ∷ es)
-    (insert_some d e k b (s + d x) (r - d x) xs on (own ∙ rest) (more ∙ ap (λ (m : ℕ). d b - m) rest) others (lacks_behind k x xs out) apart.1
+    (insert_some d e k b (s + d x) (r - d x) xs on (own ∙ rest) (more ∙ ap (λ (m : ℕ). d b - m) rest) others (lacks_after k x xs out) apart.1
     ∙ ap (λ (m : ℕ). sorted_in k m (entries_from d (s + d x) xs)) sum)))
     (cases_lt r (d x))
 
@@ -61,27 +61,27 @@ insert_none d e k s r (x ∷ xs) spot own others out =
     let sum : s + d x + (r - d x) ≡ s + r = omega (arith, l) in
     rw (le-ltb (s + r) (s + d x) (omega (arith, l)), same)
     (ap (λ (es : List Entry). (x, s + d x) ∷ es)
-    (insert_none d e k (s + d x) (r - d x) xs on (own ∙ rest) others (lacks_behind k x xs out) ∙ ap (λ (m : ℕ). sorted_in k m (entries_from d (s + d x) xs)) sum)))
+    (insert_none d e k (s + d x) (r - d x) xs on (own ∙ rest) others (lacks_after k x xs out) ∙ ap (λ (m : ℕ). sorted_in k m (entries_from d (s + d x) xs)) sum)))
     (cases_lt r (d x))
 
 pub without_lacking : (d : ℕ → ℕ) (k s : ℕ) (xs : List ℕ) → has k xs ≡ false → without k (entries_from d s xs) ≡ entries_from d s xs
 without_lacking d k s [] out = refl
 without_lacking d k s (x ∷ xs) out =
-    rw (ne_eqb x k (λ (f : x ≡ k). lacks_first k x xs out (sym f))) (ap (λ (es : List Entry). (x, s + d x) ∷ es) (without_lacking d k (s + d x) xs (lacks_behind k x xs out)))
+    rw (ne_eqb x k (λ (f : x ≡ k). lacks_first k x xs out (sym f))) (ap (λ (es : List Entry). (x, s + d x) ∷ es) (without_lacking d k (s + d x) xs (lacks_after k x xs out)))
 
--- k is taken out, and the one behind it gains what k has added
-pub remove_sums : (d e : ℕ → ℕ) (k s : ℕ) (before behind : List ℕ) → ((b : ℕ) → first_of behind ≡ Some b → e b ≡ d b + d k) → ((u : ℕ) → (first_of behind ≡ Some u → ⊥) → e u ≡ d u) →
-    AreDistinct (before ++ k ∷ behind) → entries_from e s (before ++ behind) ≡ without k (entries_from d s (before ++ k ∷ behind))
+-- k is taken out, and the one after it gains what k has added
+pub remove_sums : (d e : ℕ → ℕ) (k s : ℕ) (before following : List ℕ) → ((b : ℕ) → first_of following ≡ Some b → e b ≡ d b + d k) → ((u : ℕ) → (first_of following ≡ Some u → ⊥) → e u ≡ d u) →
+    AreDistinct (before ++ k ∷ following) → entries_from e s (before ++ following) ≡ without k (entries_from d s (before ++ k ∷ following))
 remove_sums d e k s [] [] gain others apart = rw (eq-eqb k k refl) refl
 remove_sums d e k s [] (b ∷ ys) gain others apart =
     let more : e b ≡ d b + d k = gain b refl in
     let sum : s + (d b + d k) ≡ s + d k + d b = omega arith in
     rw (eq-eqb k k refl, without_lacking d k (s + d k) (b ∷ ys) apart.0, more, sum)
     (ap (λ (es : List Entry). (b, s + d k + d b) ∷ es) (frame d e (s + d k + d b) ys (λ u g. others u (λ (f : Some b ≡ Some u). let same : b ≡ u = cc in ne u b ys g apart.1.0 (sym same)))))
-remove_sums d e k s (x ∷ before) behind gain others apart =
-    let same : e x ≡ d x = others x (λ (f : first_of behind ≡ Some x). ne x x (before ++ k ∷ behind) (later x (k ∷ behind) before (has_there x k behind (first_has behind f))) apart.0 refl) in
-    let other : x ≡ k → ⊥ = λ f. ne k x (before ++ k ∷ behind) (later k (k ∷ behind) before (has_here k behind)) apart.0 (sym f) in
-    rw (ne_eqb x k other, same) (ap (λ (es : List Entry). (x, s + d x) ∷ es) (remove_sums d e k (s + d x) before behind gain others apart.1))
+remove_sums d e k s (x ∷ before) following gain others apart =
+    let same : e x ≡ d x = others x (λ (f : first_of following ≡ Some x). ne x x (before ++ k ∷ following) (later x (k ∷ following) before (has_there x k following (first_has following f))) apart.0 refl) in
+    let other : x ≡ k → ⊥ = λ f. ne k x (before ++ k ∷ following) (later k (k ∷ following) before (has_here k following)) apart.0 (sym f) in
+    rw (ne_eqb x k other, same) (ap (λ (es : List Entry). (x, s + d x) ∷ es) (remove_sums d e k (s + d x) before following gain others apart.1))
   where
     first_has : (ys : List ℕ) → first_of ys ≡ Some x → has x ys ≡ true
     first_has [] f = cc
@@ -173,14 +173,14 @@ insert_some_total d e k b r (x ∷ xs) spot own more others out apart =
     let rest : rest_in d r (x ∷ xs) ≡ r = ap (λ (c : Bool). cond c r (rest_in d (r - d x) xs)) (lt-ltb r (d x) l) in
     let mine : e k ≡ r = own ∙ rest in
     let its : e x ≡ d x - r = ap e at ∙ more ∙ ap (λ (y : ℕ). d y - rest_in d r (x ∷ xs)) (sym at) ∙ ap (λ (m : ℕ). d x - m) rest in
-    let rests = frame_sum d e xs (λ u g. others u (λ (f : u ≡ k). ne u k xs g (lacks_behind k x xs out) f) (λ (f : u ≡ b). ne u x xs g apart.0 (f ∙ sym at))) in
+    let rests = frame_sum d e xs (λ u g. others u (λ (f : u ≡ k). ne u k xs g (lacks_after k x xs out) f) (λ (f : u ≡ b). ne u x xs g apart.0 (f ∙ sym at))) in
     rw (eq-eqb x b at) (omega (arith, l, mine, its, rests)))
     (λ (l : d x ≤ r).
     let on : spot_in d (r - d x) xs ≡ Some b = sym (ap (λ (c : Bool). cond c (Some x) (spot_in d (r - d x) xs)) (le-ltb r (d x) l)) ∙ spot in
     let rest : rest_in d r (x ∷ xs) ≡ rest_in d (r - d x) xs = ap (λ (c : Bool). cond c r (rest_in d (r - d x) xs)) (le-ltb r (d x) l) in
     let other : x ≡ b → ⊥ = λ f. ne b x xs (spot_there d (r - d x) xs b on) apart.0 (sym f) in
     let same : e x ≡ d x = others x (λ (f : x ≡ k). lacks_first k x xs out (sym f)) other in
-    let ih = insert_some_total d e k b (r - d x) xs on (own ∙ rest) (more ∙ ap (λ (m : ℕ). d b - m) rest) others (lacks_behind k x xs out) apart.1 in
+    let ih = insert_some_total d e k b (r - d x) xs on (own ∙ rest) (more ∙ ap (λ (m : ℕ). d b - m) rest) others (lacks_after k x xs out) apart.1 in
     rw (ne_eqb x b other) (omega (arith, same, ih)))
     (cases_lt r (d x))
 
@@ -193,5 +193,5 @@ insert_none_total d e k r (x ∷ xs) spot own others out =
     let on : spot_in d (r - d x) xs ≡ None = sym (ap (λ (c : Bool). cond c (Some x) (spot_in d (r - d x) xs)) (le-ltb r (d x) l)) ∙ spot in
     let rest : rest_in d r (x ∷ xs) ≡ rest_in d (r - d x) xs = ap (λ (c : Bool). cond c r (rest_in d (r - d x) xs)) (le-ltb r (d x) l) in
     let same : e x ≡ d x = others x (λ (f : x ≡ k). lacks_first k x xs out (sym f)) in
-    omega (arith, l, same, insert_none_total d e k (r - d x) xs on (own ∙ rest) others (lacks_behind k x xs out)))
+    omega (arith, l, same, insert_none_total d e k (r - d x) xs on (own ∙ rest) others (lacks_after k x xs out)))
     (cases_lt r (d x))

@@ -15,7 +15,7 @@ entries_at q i = slice_index_or q i []
 abbrev pub has_entry : ℕ → List Entry → Bool
 has_entry k es = list_any (λ e. nat_eq k e.0) es
 
--- the entries with one more, behind all that have no more ticks left
+-- the entries with one more, after all that have no more ticks left
 abbrev pub sorted_in : ℕ → ℕ → List Entry → List Entry
 sorted_in k n [] = (k, n) ∷ []
 sorted_in k n (e ∷ es) = if nat_lt n e.1 then (k, n) ∷ e ∷ es else e ∷ sorted_in k n es
@@ -80,7 +80,7 @@ abbrev pub first_adding : (ℕ → ℕ) → List ℕ → Option ℕ
 first_adding d [] = None
 first_adding d (x ∷ xs) = if d x == 0 then first_adding d xs else Some x
 
--- the items in front that add nothing, and those behind them
+-- the items in front that add nothing, and those after them
 abbrev pub zeros_of : (ℕ → ℕ) → List ℕ → List ℕ
 zeros_of d [] = []
 zeros_of d (x ∷ xs) = if d x == 0 then x ∷ zeros_of d xs else []

@@ -1,5 +1,5 @@
 //! Difference lists, one for each processor: items in ascending ticks left, of which each stores what it adds to the sum of
-//! those before it. So a tick lowers one number, and an item that goes hands on what it added to the one behind it.
+//! those before it. So a tick lowers one number, and an item that goes hands on what it added to the one after it.
 ghost use Rattle.std.specs.Prelude.{◌≡◌, ℕ, ◌^◌, ◌<◌, ◌≤◌, ◌||◌, false, true, is_some, Some, [], length, replicate, slice_index, slice_index_or, slice_set, IsTrue};
 ghost use Rattle.std.specs.Option.{option_map};
 ghost use Rattle.fmp_kernel_links.specs.Lists as lists;
@@ -42,7 +42,7 @@ impl Differences {
         }
     }
 
-    /// Puts an item that stands in no list into one, behind all that have no more ticks left.
+    /// Puts an item that stands in no list into one, after all that have no more ticks left.
     pub fn insert(&mut self, list: usize, item: usize, ticks: u64)
         requires list_in { list < 8 }
         requires item_in { item < 128 }
@@ -50,12 +50,12 @@ impl Differences {
         ensures entries { self.new ≡ slice_set self.old list (sorted_in item ticks (entries_at self.old list)) }
         ensures count { length self.old ≡ 8 }
     {
-        let (behind, rest) = spot(&self.links, &self.more, list, ticks);
-        match behind {
-            Some(behind) => {
-                self.more[behind] -= rest;
+        let (following, rest) = spot(&self.links, &self.more, list, ticks);
+        match following {
+            Some(following) => {
+                self.more[following] -= rest;
                 self.more[item] = rest;
-                self.links.insert_before(list, behind, item);
+                self.links.insert_before(list, following, item);
             }
             None => {
                 self.more[item] = rest;
@@ -71,8 +71,8 @@ impl Differences {
         ensures { self.new ≡ take_out self.old item }
     {
         match self.links.next(item) {
-            Some(behind) => {
-                self.more[behind] += self.more[item];
+            Some(following) => {
+                self.more[following] += self.more[item];
                 self.links.remove(item);
             }
             None => self.links.remove(item),
@@ -135,9 +135,35 @@ impl Differences {
         }
     }
 
+    /// Whether no item stands in a list.
+    fn is_empty(&self) -> bool
+        ensures { IsTrue result → self.now ≡ replicate 8 [] }
+    {
+        for list in 0..8usize {
+            if self.next(list).is_some() {
+                return false;
+            }
+        }
+        true
+    }
+
+    /// Whether no item stands in a list of both. Then both are the same, and nothing of them needs a look.
+    fn are_empty(&self, other: &Differences) -> bool
+        ensures { IsTrue result → self.now ≡ other.now }
+    {
+        self.is_empty() && other.is_empty()
+    }
+
     /// Whether each item stands in the same list of both, with the same ticks left, or in none. Which of those with equal ticks
     /// left comes first does not matter: it shows nowhere.
     pub fn has_same_lefts(&self, other: &Differences) -> bool
+        ensures { IsTrue result → (k : ℕ) → k < 128 → left_in self.now k ≡ left_in other.now k }
+    {
+        self.are_empty(other) || self.has_each_left(other)
+    }
+
+    /// Whether each item stands so, by a look at each.
+    fn has_each_left(&self, other: &Differences) -> bool
         ensures { IsTrue result → (k : ℕ) → k < 128 → left_in self.now k ≡ left_in other.now k }
     {
         for item in 0..128usize {
@@ -152,12 +178,17 @@ impl Differences {
     pub fn copy_from(&mut self, other: &Differences)
         ensures { self.new ≡ other.now }
     {
-        self.more = other.more;
-        self.links.copy_from(&other.links);
+        if !self.are_empty(other) {
+            self.more = other.more;
+            self.links.copy_from(&other.links);
+        }
     }
 
     /// Adds to a digest the ticks left of all items that stand in a list, whatever the order of those with equal ticks left.
     pub fn add_to(&self, digest: &mut Digest) {
+        if self.is_empty() {
+            return;
+        }
         for item in 0..128usize {
             if !self.stands(item) {
                 continue;

@@ -72,7 +72,7 @@ pub(crate) fn serve_waits(waits: &mut TaskList, marks: &[bool; 128]) -> ArrayVec
     items
 }
 
-/// The marked alarms and cyclics, by number, behind what is there.
+/// The marked alarms and cyclics, by number, after what is there.
 pub(crate) fn serve_handlers(items: &mut ArrayVec<Item, 128>, marks: &[bool; 128])
     requires { length items.old.items < 65 }
     ensures { items.new.items ≡ items.old.items ++ marked_handlers marks.now }

@@ -49,8 +49,8 @@ open_piece : (token piece : List ℕ) → is_argument token ≡ true → Padded 
 unfolding is_of
 open_piece token piece argument padded =
     ap (list_all is_open) padded.parts
-    ∙ list_all-both is_open padded.before (token ++ padded.behind) (open_blanks padded.before padded.before_blank)
-    (list_all-both is_open token padded.behind (other_than (is_of Argument) 41 refl token (token_bytes token argument).1) (open_blanks padded.behind padded.behind_blank))
+    ∙ list_all-both is_open padded.before (token ++ padded.following) (open_blanks padded.before padded.before_blank)
+    (list_all-both is_open token padded.following (other_than (is_of Argument) 41 refl token (token_bytes token argument).1) (open_blanks padded.following padded.after_blank))
 
 open_pieces : (names : NameLists) (kinds : List ArgumentKind) (values : List Value) (pieces : List (List ℕ)) → AreValid names → SpellsPieces names kinds values pieces → list_all (list_all is_open) pieces ≡ true
 open_pieces names [] [] [] valid spelled = refl
@@ -76,17 +76,17 @@ first_word (b ∷ bytes) name tail blank word ends =
     inr (prefix-append Word [] (b ∷ (bytes ++ (name ++ tail))) refl (stops-cons (is_of Word) b (bytes ++ (name ++ tail)) (not_word-blank b (and_parts (is_of Blank b) (list_all (is_of Blank) bytes) blank).0))).0
 
 -- the word is no event's, and no bare call's
-record WordTold (word : List ℕ) : Type 0 where
+record WordReported (word : List ℕ) : Type 0 where
   tick : bytes_eq word (codes "tick") ≡ false
   ipi : bytes_eq word (codes "ipi") ≡ false
   other : is_bare_name word ≡ false
 
-name_told : (call : Call) → is_bare call ≡ false → WordTold (text_of call)
-name_told call bare = record { tick = no_tick call; ipi = no_ipi call; other = is_bare_name-text_of call ∙ bare }
+name_reported : (call : Call) → is_bare call ≡ false → WordReported (text_of call)
+name_reported call bare = record { tick = no_tick call; ipi = no_ipi call; other = is_bare_name-text_of call ∙ bare }
 
-none_told : WordTold []
+none_reported : WordReported []
 unfolding is_bare_name
-none_told = record { tick = refl; ipi = refl; other = refl }
+none_reported = record { tick = refl; ipi = refl; other = refl }
 
 module _ (names : NameLists) (valid : AreValid names) (text rest : List ℕ) (call : Call) (f : IsFront (SpellsCall names) text call rest) (bare : is_bare call ≡ false) (e : SpellsEnclosed names call f.spelled.rest) where
   -- the call without its closing parenthesis and what follows that
@@ -100,21 +100,21 @@ module _ (names : NameLists) (valid : AreValid names) (text rest : List ℕ) (ca
       (list_all-both is_open (text_of call) (e.between ++ (40 ∷ e.inner)) (open_name call)
       (list_all-both is_open e.between (40 ∷ e.inner) (open_blanks e.between e.between_blank) (open_arguments names _ _ e.inner valid e.arguments)))
 
-  whole : text ≡ unclosed ++ (41 ∷ (e.behind ++ rest))
+  whole : text ≡ unclosed ++ (41 ∷ (e.following ++ rest))
   unfolding unclosed
   whole =
       f.parts
       ∙ ap (λ (t : List ℕ). t ++ rest) (f.spelled.parts ∙ ap (λ (r : List ℕ). f.spelled.before ++ (text_of call ++ r)) e.parts)
       ∙ simp append_assoc
 
-  closed : text ≡ (unclosed ++ (41 ∷ [])) ++ (e.behind ++ rest)
-  closed = whole ∙ sym (append_assoc unclosed (41 ∷ []) (e.behind ++ rest))
+  closed : text ≡ (unclosed ++ (41 ∷ [])) ++ (e.following ++ rest)
+  closed = whole ∙ sym (append_assoc unclosed (41 ∷ []) (e.following ++ rest))
 
-  cut_there : cut_at 41 text ≡ (unclosed, Some (e.behind ++ rest))
-  cut_there = ap (cut_at 41) whole ∙ cut_at-append 41 unclosed (e.behind ++ rest) unclosed_open
+  cut_there : cut_at 41 text ≡ (unclosed, Some (e.following ++ rest))
+  cut_there = ap (cut_at 41) whole ∙ cut_at-append 41 unclosed (e.following ++ rest) unclosed_open
 
   taken : take (length unclosed + 1) text ≡ unclosed ++ (41 ∷ [])
-  taken = ap (take (length unclosed + 1)) closed ∙ take_at (unclosed ++ (41 ∷ [])) (e.behind ++ rest) (length unclosed + 1) (length-append unclosed (41 ∷ []))
+  taken = ap (take (length unclosed + 1)) closed ∙ take_at (unclosed ++ (41 ∷ [])) (e.following ++ rest) (length unclosed + 1) (length-append unclosed (41 ∷ []))
 
   read_so : call_in names (unclosed ++ (41 ∷ [])) ≡ Ok call
   unfolding unclosed is_of
@@ -122,32 +122,32 @@ module _ (names : NameLists) (valid : AreValid names) (text rest : List ℕ) (ca
     before = f.spelled.before;
     rest = e.between ++ (40 ∷ (e.inner ++ (41 ∷ [])));
     before_blank = f.spelled.before_blank;
-    follows = inr (bare, record { between = e.between; inner = e.inner; behind = []; between_blank = e.between_blank; behind_blank = refl; arguments = e.arguments; parts = refl });
+    follows = inr (bare, record { between = e.between; inner = e.inner; following = []; between_blank = e.between_blank; after_blank = refl; arguments = e.arguments; parts = refl });
     parts = simp append_assoc;
   })
 
-  word_told : WordTold (prefix Word text)
+  word_reported : WordReported (prefix Word text)
   unfolding is_of
-  word_told =
-      let tail = e.between ++ (40 ∷ (e.inner ++ (41 ∷ (e.behind ++ rest)))) in
+  word_reported =
+      let tail = e.between ++ (40 ∷ (e.inner ++ (41 ∷ (e.following ++ rest)))) in
       let parts : text ≡ f.spelled.before ++ (text_of call ++ tail) =
       f.parts ∙ ap (λ (t : List ℕ). t ++ rest) (f.spelled.parts ∙ ap (λ (r : List ℕ). f.spelled.before ++ (text_of call ++ r)) e.parts) ∙ simp append_assoc in
-      let ends = stops-append (is_of Word) e.between 40 (e.inner ++ (41 ∷ (e.behind ++ rest))) (list_all-weaker (is_of Blank) (λ b. not (is_of Word b)) not-word e.between e.between_blank) refl in
+      let ends = stops-append (is_of Word) e.between 40 (e.inner ++ (41 ∷ (e.following ++ rest))) (list_all-weaker (is_of Blank) (λ b. not (is_of Word b)) not-word e.between e.between_blank) refl in
       elim (first_word f.spelled.before (text_of call) tail f.spelled.before_blank (identifier_words (text_of call) (is_identifier-text_of call)) ends) [
-        | inl word ↦ subst WordTold (sym (ap (prefix Word) parts ∙ word)) (name_told call bare)
-        | inr none ↦ subst WordTold (sym (ap (prefix Word) parts ∙ none)) none_told
+        | inl word ↦ subst WordReported (sym (ap (prefix Word) parts ∙ word)) (name_reported call bare)
+        | inr none ↦ subst WordReported (sym (ap (prefix Word) parts ∙ none)) none_reported
       ]
 
-  event_told : (p : Proc) → event_at names p text ≡ Some (events.Call p call)
+  event_reported : (p : Proc) → event_at names p text ≡ Some (events.Call p call)
   unfolding event_at called_event cut_call
-  event_told p =
-      let word = word_told in
+  event_reported p =
+      let word = word_reported in
       let tick = word.tick in let ipi = word.ipi in let other = word.other in
       rw (tick, ipi, other, cut_there, taken, read_so) refl
 
 followed : (names : NameLists) (valid : AreValid names) (text rest : List ℕ) (call : Call) (f : IsFront (SpellsCall names) text call rest) → is_bare call ≡ false → FollowsName names call f.spelled.rest → (p : Proc) → event_at names p text ≡ Some (events.Call p call)
 followed names valid text rest call f bare (inl is) p = absurd (false≢true (sym bare ∙ is.0))
-followed names valid text rest call f bare (inr is) p = event_told names valid text rest call f bare is.1 p
+followed names valid text rest call f bare (inr is) p = event_reported names valid text rest call f bare is.1 p
 
 -- a text that begins with a call in parentheses tells that call
 pub front_call : (names : NameLists) (text rest : List ℕ) (call : Call) (p : Proc) → AreValid names → IsFront (SpellsCall names) text call rest → is_bare call ≡ false → event_at names p text ≡ Some (events.Call p call)
@@ -155,9 +155,9 @@ front_call names text rest call p valid f bare = followed names valid text rest 
 
 -- ---- the call that is written without parentheses
 
-pub return_told : (names : NameLists) (text : List ℕ) (p : Proc) → AreValid names → prefix Word text ≡ codes "ret_hdr" → event_at names p text ≡ Some (events.Call p calls.RetHdr)
+pub return_reported : (names : NameLists) (text : List ℕ) (p : Proc) → AreValid names → prefix Word text ≡ codes "ret_hdr" → event_at names p text ≡ Some (events.Call p calls.RetHdr)
 unfolding event_at called_event cut_call
-return_told names text p valid word =
+return_reported names text p valid word =
     let bare : is_bare_name (codes "ret_hdr") ≡ true = is_bare_name-text_of calls.RetHdr in
     let spelled : SpellsCall names (codes "ret_hdr") calls.RetHdr = record { before = []; rest = []; before_blank = refl; follows = inl (refl, refl); parts = refl } in
     rw (word, bare, call_in-spelled names (codes "ret_hdr") calls.RetHdr valid spelled) refl

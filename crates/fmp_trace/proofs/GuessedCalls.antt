@@ -32,14 +32,14 @@ use Rattle.fmp_text.proofs.Spelled.{value_at-spelled}
 use Rattle.fmp_text.proofs.SpelledCalls.{call_in-spelled, token_bytes}
 use Rattle.fmp_bytes.proofs.Tokens.{identifier_bytes, identifier_words}
 use Rattle.fmp_trace.specs.Guess.{is_bare_name, cut_call}
-use Rattle.fmp_trace.specs.Values.{named, object_text, value_text, arguments_from, behind_name, call_text}
+use Rattle.fmp_trace.specs.Values.{named, object_text, value_text, arguments_from, after_name, call_text}
 use Rattle.fmp_trace.proofs.Bytes.{other_than, inner, inner-argument, printed-inner}
 use Rattle.fmp_trace.proofs.FittingArguments.{ArgumentFits, ArgumentsFit, call_arguments_fit}
 use Rattle.fmp_trace.proofs.GuessedValues.{is_signed}
 
 -- ---- joining
 
--- pieces, each behind such a byte
+-- pieces, each after such a byte
 abbrev pub led : ℕ → List (List ℕ) → List ℕ
 led c [] = []
 led c (piece ∷ pieces) = c ∷ (piece ++ led c pieces)
@@ -130,7 +130,7 @@ value_bytes names kind value valid fits =
 
 -- ---- arguments
 
--- the arguments behind the first one, each behind a blank
+-- the arguments after the first one, each after a blank
 abbrev pub later : NameLists → List ArgumentKind → List Value → List (List ℕ)
 later names [] values = []
 later names (kind ∷ kinds) [] = []
@@ -147,7 +147,7 @@ later_spelled : (names : NameLists) (kinds : List ArgumentKind) (values : List V
 unfolding is_of
 later_spelled names [] [] fits = tt
 later_spelled names (kind ∷ kinds) (value ∷ values) fits =
-    ((value_text names kind value, record { before = 32 ∷ []; behind = []; before_blank = refl; behind_blank = refl; parts = sym (append-nil (32 ∷ value_text names kind value)) }, value_spelled names kind value fits.0), later_spelled names kinds values fits.1)
+    ((value_text names kind value, record { before = 32 ∷ []; following = []; before_blank = refl; after_blank = refl; parts = sym (append-nil (32 ∷ value_text names kind value)) }, value_spelled names kind value fits.0), later_spelled names kinds values fits.1)
 later_spelled names [] (value ∷ values) fits = absurd fits
 later_spelled names (kind ∷ kinds) [] fits = absurd fits
 
@@ -157,7 +157,7 @@ arguments_spelled names [] [] fits = (refl, refl)
 arguments_spelled names (kind ∷ kinds) (value ∷ values) fits = (
   value_text names kind value ∷ later names kinds values,
   ap (λ (r : List ℕ). value_text names kind value ++ r) (arguments_from-later names 0 kinds values) ∙ sym (join-led 44 (value_text names kind value) (later names kinds values)),
-  ((value_text names kind value, record { before = []; behind = []; before_blank = refl; behind_blank = refl; parts = sym (append-nil (value_text names kind value)) }, value_spelled names kind value fits.0), later_spelled names kinds values fits.1),
+  ((value_text names kind value, record { before = []; following = []; before_blank = refl; after_blank = refl; parts = sym (append-nil (value_text names kind value)) }, value_spelled names kind value fits.0), later_spelled names kinds values fits.1),
 )
 arguments_spelled names [] (value ∷ values) fits = absurd fits
 arguments_spelled names (kind ∷ kinds) [] fits = absurd fits
@@ -184,23 +184,23 @@ arguments_bytes names (kind ∷ kinds) [] valid fits = absurd fits
 abbrev unclosed : NameLists → Call → List ℕ
 unclosed names call = table.text_of call ++ (40 ∷ arguments_from names 0 (table.kinds_of call) (table.values_of call))
 
-pub behind_name-bare : (names : NameLists) (call : Call) → table.is_bare call ≡ true → behind_name names call ≡ []
-unfolding behind_name
-behind_name-bare names call bare = rw bare refl
+pub after_name-bare : (names : NameLists) (call : Call) → table.is_bare call ≡ true → after_name names call ≡ []
+unfolding after_name
+after_name-bare names call bare = rw bare refl
 
-pub behind_name-enclosed : (names : NameLists) (call : Call) → table.is_bare call ≡ false
-    → behind_name names call ≡ 40 ∷ (arguments_from names 0 (table.kinds_of call) (table.values_of call) ++ (41 ∷ []))
-unfolding behind_name
-behind_name-enclosed names call bare = rw bare refl
+pub after_name-enclosed : (names : NameLists) (call : Call) → table.is_bare call ≡ false
+    → after_name names call ≡ 40 ∷ (arguments_from names 0 (table.kinds_of call) (table.values_of call) ++ (41 ∷ []))
+unfolding after_name
+after_name-enclosed names call bare = rw bare refl
 
 pub call_text-bare : (names : NameLists) (call : Call) → table.is_bare call ≡ true → call_text names call ≡ table.text_of call
 unfolding call_text
-call_text-bare names call bare = ap (λ (r : List ℕ). table.text_of call ++ r) (behind_name-bare names call bare) ∙ append-nil (table.text_of call)
+call_text-bare names call bare = ap (λ (r : List ℕ). table.text_of call ++ r) (after_name-bare names call bare) ∙ append-nil (table.text_of call)
 
 call_text-unclosed : (names : NameLists) (call : Call) → table.is_bare call ≡ false → call_text names call ≡ unclosed names call ++ (41 ∷ [])
 unfolding call_text
 call_text-unclosed names call bare =
-    ap (λ (r : List ℕ). table.text_of call ++ r) (behind_name-enclosed names call bare) ∙ sym (append_assoc (table.text_of call) (40 ∷ arguments_from names 0 (table.kinds_of call) (table.values_of call)) (41 ∷ []))
+    ap (λ (r : List ℕ). table.text_of call ++ r) (after_name-enclosed names call bare) ∙ sym (append_assoc (table.text_of call) (40 ∷ arguments_from names 0 (table.kinds_of call) (table.values_of call)) (41 ∷ []))
 
 unclosed_bytes : (names : NameLists) (call : Call) → AreValid names → CallInBits call → list_all inner (unclosed names call) ≡ true
 unfolding is_of
@@ -210,22 +210,22 @@ unclosed_bytes names call valid fits =
     (list_all-weaker (is_of Argument) inner inner-argument (table.text_of call) word)
     (arguments_bytes names (table.kinds_of call) (table.values_of call) valid (call_arguments_fit call fits))
 
-name_followed : (names : NameLists) (call : Call) → CallInBits call → FollowsName names call (behind_name names call)
+name_followed : (names : NameLists) (call : Call) → CallInBits call → FollowsName names call (after_name names call)
 name_followed names call fits =
     elim (cases_Bool (table.is_bare call)) [
-      | inl t ↦ inl (t, ap (list_all (is_of Blank)) (behind_name-bare names call t))
+      | inl t ↦ inl (t, ap (list_all (is_of Blank)) (after_name-bare names call t))
       | inr f ↦
-          inr (f, record { between = []; inner = arguments_from names 0 (table.kinds_of call) (table.values_of call); behind = []; between_blank = refl; behind_blank = refl; arguments = arguments_spelled names (table.kinds_of call) (table.values_of call) (call_arguments_fit call fits); parts = behind_name-enclosed names call f })
+          inr (f, record { between = []; inner = arguments_from names 0 (table.kinds_of call) (table.values_of call); following = []; between_blank = refl; after_blank = refl; arguments = arguments_spelled names (table.kinds_of call) (table.values_of call) (call_arguments_fit call fits); parts = after_name-enclosed names call f })
     ]
 
--- what stands behind a name does not go on with it
-name_ends : (names : NameLists) (call : Call) (rest : List ℕ) → prefix_len (is_of Word) (behind_name names call ++ 32 ∷ rest) ≡ 0
+-- what stands after a name does not go on with it
+name_ends : (names : NameLists) (call : Call) (rest : List ℕ) → prefix_len (is_of Word) (after_name names call ++ 32 ∷ rest) ≡ 0
 unfolding is_of
 name_ends names call rest =
     elim (cases_Bool (table.is_bare call)) [
-      | inl t ↦ ap (λ (r : List ℕ). prefix_len (is_of Word) (r ++ 32 ∷ rest)) (behind_name-bare names call t) ∙ stops-cons (is_of Word) 32 rest refl
+      | inl t ↦ ap (λ (r : List ℕ). prefix_len (is_of Word) (r ++ 32 ∷ rest)) (after_name-bare names call t) ∙ stops-cons (is_of Word) 32 rest refl
       | inr f ↦
-          ap (λ (r : List ℕ). prefix_len (is_of Word) (r ++ 32 ∷ rest)) (behind_name-enclosed names call f)
+          ap (λ (r : List ℕ). prefix_len (is_of Word) (r ++ 32 ∷ rest)) (after_name-enclosed names call f)
           ∙ stops-cons (is_of Word) 40 ((arguments_from names 0 (table.kinds_of call) (table.values_of call) ++ (41 ∷ [])) ++ 32 ∷ rest) refl
     ]
 
@@ -233,15 +233,15 @@ pub call_read : (names : NameLists) (call : Call) → AreValid names → CallInB
 unfolding call_text
 call_read names call valid fits =
     call_in-spelled names (call_text names call) call valid
-    (record { before = []; rest = behind_name names call; before_blank = refl; follows = name_followed names call fits; parts = refl })
+    (record { before = []; rest = after_name names call; before_blank = refl; follows = name_followed names call fits; parts = refl })
 
 -- the first word of a printed call is its name
 pub call_word : (names : NameLists) (call : Call) (rest : List ℕ)
-    → (prefix Word (call_text names call ++ 32 ∷ rest) ≡ table.text_of call) × (after Word (call_text names call ++ 32 ∷ rest) ≡ behind_name names call ++ 32 ∷ rest)
+    → (prefix Word (call_text names call ++ 32 ∷ rest) ≡ table.text_of call) × (after Word (call_text names call ++ 32 ∷ rest) ≡ after_name names call ++ 32 ∷ rest)
 unfolding call_text
 call_word names call rest =
-    let whole = append_assoc (table.text_of call) (behind_name names call) (32 ∷ rest) in
-    let word = prefix-append Word (table.text_of call) (behind_name names call ++ 32 ∷ rest) (identifier_words (table.text_of call) (is_identifier-text_of call)) (name_ends names call rest) in
+    let whole = append_assoc (table.text_of call) (after_name names call) (32 ∷ rest) in
+    let word = prefix-append Word (table.text_of call) (after_name names call ++ 32 ∷ rest) (identifier_words (table.text_of call) (is_identifier-text_of call)) (name_ends names call rest) in
     (ap (prefix Word) whole ∙ word.0, ap (after Word) whole ∙ word.1)
 
 pub is_bare_name-text_of : (call : Call) → is_bare_name (table.text_of call) ≡ table.is_bare call
@@ -257,7 +257,7 @@ call_cut names call rest valid fits =
     elim (cases_Bool (table.is_bare call)) [
       | inl t ↦
           let text = call_text-bare names call t in
-          let follows : after Word (call_text names call ++ 32 ∷ rest) ≡ 32 ∷ rest = word.1 ∙ ap (λ (r : List ℕ). r ++ 32 ∷ rest) (behind_name-bare names call t) in
+          let follows : after Word (call_text names call ++ 32 ∷ rest) ≡ 32 ∷ rest = word.1 ∙ ap (λ (r : List ℕ). r ++ 32 ∷ rest) (after_name-bare names call t) in
           rw (bare_word ∙ t, word.0, follows, text) refl
       | inr f ↦
           let text = call_text-unclosed names call f in

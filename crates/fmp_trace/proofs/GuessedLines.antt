@@ -12,7 +12,7 @@ use Rattle.fmp_bytes.specs.declared.classes.Class.TheVariants.{Argument, Printed
 use Rattle.fmp_bytes.specs.Bytes.{is_of, cut_at, pieces_of}
 use Rattle.fmp_bytes.proofs.Cutting.{pieces_left, cut_at-append, pieces_of-cut, pieces_of-join}
 use Rattle.fmp_bytes.proofs.Prefixes.{list_all-weaker, list_all-both}
-use Rattle.fmp_bytes.proofs.Spelled.{behind-same}
+use Rattle.fmp_bytes.proofs.Spelled.{following-same}
 use Rattle.fmp_calls.proofs.Matched.{no_tick, no_ipi}
 use Rattle.fmp_calls.specs.Arguments.{CallInBits, EventInBits}
 use Rattle.fmp_codes.specs.Records.{processor_of}
@@ -42,7 +42,7 @@ led_printed (word ∷ words) all =
     list_all-both (is_of Printed) word (led 32 words) (list_all-weaker solid (is_of Printed) printed-solid word parts.0) (led_printed words parts.1)
 
 module _ (names : NameLists) (r : Record) (valid : AreValid names) (fits : FitsNames names r) where
-  -- what stands behind the event and its blank
+  -- what stands after the event and its blank
   unfoldable pub rest_text : List ℕ
   rest_text = answer_text r.answer ++ tail_text names r
 
@@ -62,7 +62,7 @@ module _ (names : NameLists) (r : Record) (valid : AreValid names) (fits : FitsN
       let whole = sym (pieces_of-cut 32 rest_text) ∙ rest_pieces in
       let first : (cut_at 32 rest_text).0 ≡ answer_text r.answer = cc in
       let words : pieces_left 32 (cut_at 32 rest_text).1 ≡ tail_words names r = cc in
-      rw (behind-same 32 rest_text, first, answer_guessed r.answer fits.answer, words) (tail_guessed names r valid fits.releases fits.few fits.lost fits.run_change fits.requests)
+      rw (following-same 32 rest_text, first, answer_guessed r.answer fits.answer, words) (tail_guessed names r valid fits.releases fits.few fits.lost fits.run_change fits.requests)
 
   call_guessed : (p : Proc) (call : Call) → CallInBits call → r.event ≡ events.Call p call → guess_event names r.runner p (call_text names call ++ 32 ∷ rest_text) ≡ Some r
   unfolding guess_event guess_call
@@ -91,7 +91,7 @@ module _ (names : NameLists) (r : Record) (valid : AreValid names) (fits : FitsN
       rw (
         laid n,
         cut_at-append 32 (decimal n) (80 ∷ (decimal (processor_of r.event).number ++ 32 ∷ (runner_text names r.runner ++ 32 ∷ (event_text names r.event ++ 32 ∷ rest_text)))) number,
-        behind-same 80 (decimal (processor_of r.event).number ++ 32 ∷ (runner_text names r.runner ++ 32 ∷ (event_text names r.event ++ 32 ∷ rest_text))),
+        following-same 80 (decimal (processor_of r.event).number ++ 32 ∷ (runner_text names r.runner ++ 32 ∷ (event_text names r.event ++ 32 ∷ rest_text))),
         cut_at-append 32 (decimal (processor_of r.event).number) (runner_text names r.runner ++ 32 ∷ (event_text names r.event ++ 32 ∷ rest_text)) processor,
         processor_guessed names (processor_of r.event) fits.processor,
         cut_at-append 32 (runner_text names r.runner) (event_text names r.event ++ 32 ∷ rest_text) runner,

@@ -1,4 +1,4 @@
--- What is printed behind the answer is guessed right, word by word.
+-- What is printed after the answer is guessed right, word by word.
 use Rattle.std.proofs.Common.{◌≡◌, ℕ, suc, ◌+◌, ◌<◌, ◌≤◌, Bool, true, not, eqb, List, [], ◌∷◌, ◌++◌, length, length-append, Option, Some, None, refl, sym, ap, ◌∙◌, arith, add-one, append_assoc}
 use Rattle.std.specs.Prelude.{ℤ, codes, decimal, map}
 use Rattle.std.specs.Fmt.{signed_decimal}

@@ -163,7 +163,7 @@ code_alone QueueOverflow = refl
 code_alone WaitReleased = refl
 code_alone TimedOut = refl
 
--- a code's name ends at the colon behind it, if there is one
+-- a code's name ends at the colon after it, if there is one
 code_cut : (c : Code) (value : Option ℤ) → cut_at 58 (code_text c value) ≡ (code.name_of c, option_map signed_decimal value)
 unfolding code_text is_of
 code_cut c None = code_alone c

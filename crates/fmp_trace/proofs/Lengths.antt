@@ -43,7 +43,7 @@ use Rattle.fmp_names.specs.Names.{NameLists, AreValid, name_of, is_name}
 use Rattle.fmp_names.proofs.Placed.{object_name}
 use Rattle.fmp_trace.specs.Lines.{event_text, runner_text, code_text, answer_text, release_text, releases_text, lost_text, run_change_text, request_lead, requests_from, head_text, tail_text, core_text, line_text, lines_from, most_line_bytes}
 use Rattle.fmp_trace.specs.Fits.{FitsNames, AllFit}
-use Rattle.fmp_trace.specs.Values.{named, object_text, mode_text, value_text, separator, arguments_from, behind_name, call_text}
+use Rattle.fmp_trace.specs.Values.{named, object_text, mode_text, value_text, separator, arguments_from, after_name, call_text}
 
 -- the text has at most so many bytes
 record HasMost (most : ℕ) (text : List ℕ) : Type 0 where
@@ -204,9 +204,9 @@ module _ (names : NameLists) (valid : AreValid names) where
       let here = join (join (has (separator_few i)) (has (value_few kind value))) (has (arguments_few (i + 1) kinds values)) in
       omega (arith, here.few)
 
-  behind_few : (call : Call) → length (behind_name names call) ≤ 270
-  unfolding behind_name
-  behind_few call =
+  after_few : (call : Call) → length (after_name names call) ≤ 270
+  unfolding after_name
+  after_few call =
       let arguments : HasMost 268 (arguments_from names 0 (table.kinds_of call) (table.values_of call)) =
       has (omega (arith, arguments_few 0 (table.kinds_of call) (table.values_of call), length-kinds_of-le call)) in
       let whole = join (join (has {most = 1} {text = codes "("} (omega arith)) arguments) (has {most = 1} {text = codes ")"} (omega arith)) in
@@ -214,7 +214,7 @@ module _ (names : NameLists) (valid : AreValid names) where
 
   event_few : (e : Event) → length (event_text names e) ≤ 279
   unfolding call_text
-  event_few (events.Call p call) = (join (has (text_of_few call)) (has (behind_few call))).few
+  event_few (events.Call p call) = (join (has (text_of_few call)) (has (after_few call))).few
   event_few (events.Tick p) = omega arith
   event_few (events.Ipi p) = omega arith
 

@@ -11,12 +11,12 @@ use Rattle.fmp_trace.specs.Values.{separator, value_text, arguments_from}
 use Rattle.fmp_trace.proofs.Releases.{drop-slice_get}
 
 -- the rest of a list's text: what stands before the next item, that item, and what is behind it
-pub record IsNext (rest front item behind : List ℕ) : Type 0 where
-  pub is : rest ≡ front ++ (item ++ behind)
+pub record IsNext (rest front item following : List ℕ) : Type 0 where
+  pub is : rest ≡ front ++ (item ++ following)
 
-module _ (old all made : List ℕ) {rest front item behind : List ℕ} (so_far : made ++ rest ≡ old ++ all) (next : IsNext rest front item behind) where
-  sizes : length made + (length front + (length item + length behind)) ≡ length old + length all
-  sizes = omega (arith, ap (λ (xs : List ℕ). length xs) so_far, ap (λ (xs : List ℕ). length xs) next.is, length-append made rest, length-append front (item ++ behind), length-append item behind, length-append old all)
+module _ (old all made : List ℕ) {rest front item following : List ℕ} (so_far : made ++ rest ≡ old ++ all) (next : IsNext rest front item following) where
+  sizes : length made + (length front + (length item + length following)) ≡ length old + length all
+  sizes = omega (arith, ap (λ (xs : List ℕ). length xs) so_far, ap (λ (xs : List ℕ). length xs) next.is, length-append made rest, length-append front (item ++ following), length-append item following, length-append old all)
 
   -- room was wanting for what stands before the item
   pub front_wanting : {A E : Type 0} (r : Result A E) (room left : ℕ) → room ≤ left → left < length made + length front → OnErr r (room < length old + length all)
@@ -42,9 +42,9 @@ requests_next ps i p lt is = record {
   is = ap (requests_from i) (drop-cons ps i p lt ∙ ap (λ (q : Proc). q ∷ drop (suc i) ps) (sym is)) ∙ append_assoc (request_lead i) (decimal p.number) (requests_from (i + 1) (drop (suc i) ps));
 }
 
-pub lead_behind : (i : ℕ) → (i ≡ 0 → ⊥) → request_lead i ≡ codes ","
-lead_behind zero behind = absurd (behind refl)
-lead_behind (suc i) behind = refl
+pub lead_after : (i : ℕ) → (i ≡ 0 → ⊥) → request_lead i ≡ codes ","
+lead_after zero following = absurd (following refl)
+lead_after (suc i) following = refl
 
 -- ---- arguments
 
@@ -59,6 +59,6 @@ pub separator_first : (i : ℕ) → i ≤ 0 → separator i ≡ []
 separator_first zero le = refl
 separator_first (suc i) le = absurd (omega (arith, le))
 
-pub separator_behind : (i : ℕ) → 0 < i → separator i ≡ codes ", "
-separator_behind zero lt = absurd (omega (arith, lt))
-separator_behind (suc i) lt = refl
+pub separator_after : (i : ℕ) → 0 < i → separator i ≡ codes ", "
+separator_after zero lt = absurd (omega (arith, lt))
+separator_after (suc i) lt = refl

@@ -36,7 +36,7 @@ use Rattle.fmp_names.specs.Names.{NameLists, AreValid, name_of}
 use Rattle.fmp_codes.specs.Records.{processor_of}
 use Rattle.fmp_trace.specs.Lines.{event_text, task_text, runner_text, code_text, answer_text, release_text, releases_text, lost_text, run_change_text, request_lead, requests_from, head_text, tail_text, core_text}
 use Rattle.fmp_trace.specs.Prints.{IsUnended}
-use Rattle.fmp_trace.specs.Values.{named, object_text, mode_text, value_text, separator, arguments_from, behind_name, call_text}
+use Rattle.fmp_trace.specs.Values.{named, object_text, mode_text, value_text, separator, arguments_from, after_name, call_text}
 use Rattle.fmp_trace.proofs.Bytes.{other_than, of_words, code_words}
 use Rattle.fmp_trace.proofs.GuessedRunners.{printed_words}
 
@@ -138,9 +138,9 @@ module _ (names : NameLists) (valid : AreValid names) where
   arguments_are i (kind ∷ kinds) [] = refl
   arguments_are i (kind ∷ kinds) (value ∷ values) = both (separator i ++ value_text names kind value) (arguments_from names (i + 1) kinds values) (both (separator i) (value_text names kind value) (separator_is i) (value_is kind value)) (arguments_are (i + 1) kinds values)
 
-  behind_name_is : (call : Call) → IsUnended (behind_name names call)
-  unfolding behind_name
-  behind_name_is call =
+  after_name_is : (call : Call) → IsUnended (after_name names call)
+  unfolding after_name
+  after_name_is call =
       let arguments = has (arguments_from names 0 (table.kinds_of call) (table.values_of call)) (arguments_are 0 (table.kinds_of call) (table.values_of call)) in
       cond_both (table.is_bare call) [] _ IsUnended (λ _. refl) (λ _. (join (join (has (codes "(") refl) arguments) (has (codes ")") refl)).none)
 
@@ -148,7 +148,7 @@ module _ (names : NameLists) (valid : AreValid names) where
   unfolding call_text
   call_is call =
       let word = of_argument (table.text_of call) (identifier_bytes (table.text_of call) (is_identifier-text_of call)).1 in
-      both (table.text_of call) (behind_name names call) word (behind_name_is call)
+      both (table.text_of call) (after_name names call) word (after_name_is call)
 
   -- ---- the parts of a line
 

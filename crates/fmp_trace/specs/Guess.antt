@@ -9,7 +9,7 @@ use Rattle.fmp_codes.specs.declared.records.Event.TheVariants as events
 use Rattle.fmp_codes.specs.declared.records.Runner.{Runner}
 use Rattle.fmp_codes.specs.declared.records.Record.{Record}
 use Rattle.fmp_bytes.specs.declared.classes.Class.TheVariants.{Word}
-use Rattle.fmp_bytes.specs.Bytes.{prefix, after, behind, cut_at, pieces_of, close_parenthesis, comma, equals_sign, letter_p, space}
+use Rattle.fmp_bytes.specs.Bytes.{prefix, after, following, cut_at, pieces_of, close_parenthesis, comma, equals_sign, letter_p, space}
 use Rattle.fmp_calls.specs.Table.{is_bare, named}
 use Rattle.fmp_text.specs.Argument.{◌>>=◌}
 use Rattle.fmp_text.specs.Lines.{processor_numbered}
@@ -17,7 +17,7 @@ use Rattle.fmp_names.specs.Names.{NameLists}
 use Rattle.fmp_text.specs.Reading.{call_in}
 use Rattle.fmp_trace.specs.GuessParts.{signed_in, answer_in, runner_in, release_in, running_in, requests_in}
 
--- ---- what stands behind the answer
+-- ---- what stands after the answer
 
 unfoldable pub with_release : NameLists → Record → List ℕ → Option Record
 with_release names r text = do
@@ -68,7 +68,7 @@ words_left text = option_map_or (pieces_of space) text []
 
 unfoldable pub guess_answer : NameLists → Option Runner → Event → List ℕ → Option Record
 guess_answer names runner event text = do
-  rest ← behind space text
+  rest ← following space text
   answer ← answer_in (cut_at space rest).0
   with_words names (answer_record event runner answer) (words_left (cut_at space rest).1)
 
@@ -108,7 +108,7 @@ guess_runner names p text = do
 -- what follows the line's number and its blank
 unfoldable pub guess_processor : NameLists → List ℕ → Option Record
 guess_processor names text = do
-  digits ← behind letter_p text
+  digits ← following letter_p text
   rest ← (cut_at space digits).1
   p ← processor_numbered names (cut_at space digits).0
   guess_runner names p rest

@@ -81,7 +81,7 @@ named_runner names word =
 unfoldable pub runner_in : NameLists → List ℕ → Option (Option Runner)
 runner_in names word = if bytes_eq word (codes "-") then Some None else option_map Some (named_runner names word)
 
--- ---- what stands behind the answer
+-- ---- what stands after the answer
 
 unfoldable pub release_in : NameLists → List ℕ → Option Release
 release_in names text = do
@@ -93,13 +93,13 @@ release_in names text = do
 unfoldable pub running_in : NameLists → List ℕ → Option (Option Task)
 running_in names text = if bytes_eq text (codes "idle") then Some None else option_map Some (task_in names text)
 
--- a processor behind one of this number
+-- a processor after one of this number
 unfoldable pub request_in : NameLists → ℕ → List ℕ → Option Proc
 request_in names least text = do
   p ← processor_numbered names text
   if nat_lt least p.number then Some p else None
 
--- the processors of these pieces, in ascending order behind those made so far
+-- the processors of these pieces, in ascending order after those made so far
 abbrev pub requests_in : NameLists → ℕ → List Proc → List (List ℕ) → Option (List Proc)
 requests_in names least made [] = Some made
 requests_in names least made (piece ∷ pieces) = do

@@ -7,8 +7,6 @@ use Rattle.fmp_codes.specs.Records.{processor_of, word_of}
 use Rattle.fmp_codes.specs.declared.codes.Code.{Code}
 use Rattle.fmp_codes.specs.declared.numbers.Proc.{Proc}
 use Rattle.fmp_codes.specs.declared.numbers.Task.{Task}
-use Rattle.fmp_codes.specs.declared.records.Event.{Event}
-use Rattle.fmp_codes.specs.declared.records.Event.TheVariants as events
 use Rattle.fmp_codes.specs.declared.records.Runner.{Runner}
 use Rattle.fmp_codes.specs.declared.records.Runner.TheVariants as runners
 use Rattle.fmp_codes.specs.declared.records.Answer.{Answer}
@@ -17,12 +15,8 @@ use Rattle.fmp_codes.specs.declared.records.Release.{Release}
 use Rattle.fmp_codes.specs.declared.records.Record.{Record}
 use Rattle.fmp_calls.specs.declared.kinds.ObjectKind.TheVariants as objects
 use Rattle.fmp_names.specs.Names.{NameLists}
-use Rattle.fmp_trace.specs.Values.{named, call_text}
-
-abbrev pub event_text : NameLists → Event → List ℕ
-event_text lists (events.Call p call) = call_text lists call
-event_text lists (events.Tick p) = codes "tick"
-event_text lists (events.Ipi p) = codes "ipi"
+use Rattle.fmp_trace.specs.Values.{named}
+pub use Rattle.fmp_text.specs.Printed.{event_text}
 
 abbrev pub task_text : NameLists → Task → List ℕ
 task_text lists t = named lists objects.Task t.number
@@ -33,14 +27,14 @@ runner_text lists (Some (runners.Task t)) = task_text lists t
 runner_text lists (Some (runners.Alarm a)) = named lists objects.Alarm a.number
 runner_text lists (Some (runners.Cyclic c)) = named lists objects.Cyclic c.number
 
--- a value behind a code
-abbrev pub behind_code : Option ℤ → List ℕ
-behind_code None = []
-behind_code (Some v) = codes ":" ++ signed_decimal v
+-- a value after a code
+abbrev pub after_code : Option ℤ → List ℕ
+after_code None = []
+after_code (Some v) = codes ":" ++ signed_decimal v
 
 -- a code, with its value if it has one
 unfoldable pub code_text : Code → Option ℤ → List ℕ
-code_text c v = code.name_of c ++ behind_code v
+code_text c v = code.name_of c ++ after_code v
 
 -- what a call returned
 abbrev pub returned_text : Answer → List ℕ
@@ -87,7 +81,7 @@ requests_from i (p ∷ ps) = request_lead i ++ decimal p.number ++ requests_from
 unfoldable pub head_text : NameLists → ℕ → Record → List ℕ
 head_text lists n r = decimal n ++ codes " P" ++ decimal (processor_of r.event).number ++ codes " " ++ runner_text lists r.runner ++ codes " "
 
--- what stands behind the answer
+-- what stands after the answer
 unfoldable pub tail_text : NameLists → Record → List ℕ
 tail_text lists r = releases_text lists r.releases ++ lost_text r.lost ++ run_change_text lists r.run_change ++ requests_from 0 r.requests
 

@@ -44,7 +44,7 @@ FaultAt names n text CutShort = (0 < length text) × IsUnended text
 FaultAt names n text kind = (line : List ℕ) × (rest : List ℕ) × (text ≡ line ++ (line_feed ∷ rest)) × IsUnended line × LineFault names n line kind
 
 -- a line of the text is at fault, and those before it print records
-pub record FaultBehind (names : NameLists) (text : List ℕ) (fault : TextFault) : Type 0 where
+pub record FaultAfter (names : NameLists) (text : List ℕ) (fault : TextFault) : Type 0 where
   pub before : List Record
   pub rest : List ℕ
   pub short : length text ≤ most_bytes
@@ -56,4 +56,4 @@ pub record FaultBehind (names : NameLists) (text : List ℕ) (fault : TextFault)
 
 -- the text is too long, or else the first line at fault has this fault
 abbrev pub FirstFault : NameLists → List ℕ → TextFault → Type 0
-FirstFault names text fault = ((most_bytes < length text) × (fault ≡ record { kind = TooMany; line = 0 })) ⊎ FaultBehind names text fault
+FirstFault names text fault = ((most_bytes < length text) × (fault ≡ record { kind = TooMany; line = 0 })) ⊎ FaultAfter names text fault

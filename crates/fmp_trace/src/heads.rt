@@ -1,9 +1,9 @@
-//! The event that a line tells, read without what stands behind it.
+//! The event that a line tells, read without what stands after it.
 ghost use Rattle.std.specs.Prelude.{◌≡◌, IfSome, Some};
 ghost use Rattle.fmp_trace.specs.Heads as spec;
 
 use crate::guess::cut_call;
-use fmp_bytes::{Class, behind, cut, split_prefix};
+use fmp_bytes::{Class, cut, following, split_prefix};
 use fmp_calls::form;
 use fmp_codes::{Call, Event, Proc};
 use fmp_text::{Names, processor_numbered, quick_call, read_call};
@@ -60,12 +60,12 @@ fn event_at(names: &Names, p: Proc, text: &[u8]) -> Option<Event>
     }
 }
 
-/// The event of a line behind its number, from the `P` of the processor on, if any. The word of the runner is passed over.
+/// The event of a line after its number, from the `P` of the processor on, if any. The word of the runner is passed over.
 #[tactic(auto, unfolding(crate::specs::Heads::event_on))]
 fn event_on(names: &Names, text: &[u8]) -> Option<Event>
     ensures { result ≡ spec.event_on names.now text.now }
 {
-    let (digits, rest) = cut(b' ', behind(b'P', text)?);
+    let (digits, rest) = cut(b' ', following(b'P', text)?);
     let rest = rest?;
     let p = processor_numbered(names, digits)?;
     let (_, text) = cut(b' ', rest);

@@ -2,7 +2,7 @@
 //! takes room away.
 ghost use Rattle.std.specs.Prelude.{◌≡◌, ◌+◌, ◌<◌, ◌≤◌, ◌^◌, [], ◌++◌, length, take, OnOk, OnErr, IfOk, vec_capacity};
 ghost use Rattle.fmp_codes.specs.Codes.{name_of};
-ghost use Rattle.fmp_trace.specs.Behind.{behind_number};
+ghost use Rattle.fmp_trace.specs.Following.{after_number};
 ghost use Rattle.fmp_trace.specs.Lines as spec;
 
 use crate::values::{put_call, put_named, put_number, put_piece, put_signed};
@@ -58,7 +58,7 @@ pub fn put_runner(
     }
 }
 
-/// The name of a code with blanks behind it, and how many bytes the name has.
+/// The name of a code with blanks after it, and how many bytes the name has.
 #[inline(always)]
 pub fn code_piece(code: Code) -> (&'static [u8; 16], usize)
     ensures few { result.1 ≤ 16 }
@@ -131,7 +131,7 @@ pub fn put_answer(out: &mut Vec<u8>, answer: Answer) -> Result<(), AllocError>
     }
 }
 
-/// Adds the end of a wait behind a blank: the task, and the code with its value, if any.
+/// Adds the end of a wait after a blank: the task, and the code with its value, if any.
 #[inline(always)]
 #[tactic(auto, unfolding(crate::specs::Lines::release_text))]
 fn put_release(out: &mut Vec<u8>, names: &Names, release: Release) -> Result<(), AllocError>
@@ -145,7 +145,7 @@ fn put_release(out: &mut Vec<u8>, names: &Names, release: Release) -> Result<(),
     put_code(out, release.code, release.value)
 }
 
-/// Adds the ends of waits, each behind a blank.
+/// Adds the ends of waits, each after a blank.
 #[inline(always)]
 pub fn put_releases(out: &mut Vec<u8>, names: &Names, releases: &Releases) -> Result<(), AllocError>
     ensures ok { OnOk result (out.new.items ≡ out.old.items ++ spec.releases_text names.now releases.now) }
@@ -158,7 +158,7 @@ pub fn put_releases(out: &mut Vec<u8>, names: &Names, releases: &Releases) -> Re
     Ok(())
 }
 
-/// Adds the value that was overwritten, if any, behind a blank.
+/// Adds the value that was overwritten, if any, after a blank.
 #[inline(always)]
 pub fn put_lost(out: &mut Vec<u8>, lost: Option<i64>) -> Result<(), AllocError>
     ensures ok { OnOk result (out.new.items ≡ out.old.items ++ spec.lost_text lost) }
@@ -189,7 +189,7 @@ pub fn put_running(
     }
 }
 
-/// Adds what runs now behind a blank, where that is another than before.
+/// Adds what runs now after a blank, where that is another than before.
 #[inline(always)]
 pub fn put_run_change(
     out: &mut Vec<u8>,
@@ -207,7 +207,7 @@ pub fn put_run_change(
     Ok(())
 }
 
-/// Adds the processors to which a request is sent, if any, behind a blank.
+/// Adds the processors to which a request is sent, if any, after a blank.
 #[inline(always)]
 pub fn put_requests(out: &mut Vec<u8>, requests: &[Proc]) -> Result<(), AllocError>
     ensures ok { OnOk result (out.new.items ≡ out.old.items ++ spec.requests_from 0 requests.now) }
@@ -225,7 +225,7 @@ pub fn put_requests(out: &mut Vec<u8>, requests: &[Proc]) -> Result<(), AllocErr
     Ok(())
 }
 
-/// Adds what stands behind the answer.
+/// Adds what stands after the answer.
 #[inline(always)]
 #[tactic(auto, unfolding(crate::specs::Lines::tail_text))]
 fn put_tail(out: &mut Vec<u8>, names: &Names, entry: &Record) -> Result<(), AllocError>
@@ -240,12 +240,12 @@ fn put_tail(out: &mut Vec<u8>, names: &Names, entry: &Record) -> Result<(), Allo
     Ok(())
 }
 
-/// Adds what stands behind the number of a line, without its line feed.
+/// Adds what stands after the number of a line, without its line feed.
 #[inline(always)]
-#[tactic(auto, unfolding(crate::specs::Behind::behind_number))]
-fn put_behind_number(out: &mut Vec<u8>, names: &Names, entry: &Record) -> Result<(), AllocError>
-    ensures ok { OnOk result (out.new.items ≡ out.old.items ++ behind_number names.now entry.now) }
-    ensures full { OnErr result (vec_capacity out.old < length out.old.items + length (behind_number names.now entry.now)) }
+#[tactic(auto, unfolding(crate::specs::Following::after_number))]
+fn put_after_number(out: &mut Vec<u8>, names: &Names, entry: &Record) -> Result<(), AllocError>
+    ensures ok { OnOk result (out.new.items ≡ out.old.items ++ after_number names.now entry.now) }
+    ensures full { OnErr result (vec_capacity out.old < length out.old.items + length (after_number names.now entry.now)) }
     ensures room { vec_capacity out.old ≤ vec_capacity out.new }
 {
     out.extend_from_slice(b" P")?;
@@ -261,14 +261,14 @@ fn put_behind_number(out: &mut Vec<u8>, names: &Names, entry: &Record) -> Result
 }
 
 /// Adds line n without its line feed.
-#[tactic(auto, unfolding(crate::specs::Lines::core_text, crate::specs::Lines::head_text, crate::specs::Behind::behind_number))]
+#[tactic(auto, unfolding(crate::specs::Lines::core_text, crate::specs::Lines::head_text, crate::specs::Following::after_number))]
 pub fn put_core(out: &mut Vec<u8>, names: &Names, n: u32, entry: &Record) -> Result<(), AllocError>
     ensures ok { OnOk result (out.new.items ≡ out.old.items ++ spec.core_text names.now n entry.now) }
     ensures full { OnErr result (vec_capacity out.old < length out.old.items + length (spec.core_text names.now n entry.now)) }
     ensures room { vec_capacity out.old ≤ vec_capacity out.new }
 {
     put_number(out, u64::from(n))?;
-    put_behind_number(out, names, entry)
+    put_after_number(out, names, entry)
 }
 
 /// Adds line n with its line feed.

@@ -176,7 +176,7 @@ fn put_arguments(
 }
 
 /// Adds a call with its arguments in parentheses, if it has any.
-#[tactic(auto, unfolding(crate::specs::Values::call_text, crate::specs::Values::behind_name))]
+#[tactic(auto, unfolding(crate::specs::Values::call_text, crate::specs::Values::after_name))]
 pub fn put_call(out: &mut Vec<u8>, names: &Names, call: Call) -> Result<(), AllocError>
     ensures ok { OnOk result (out.new.items ≡ out.old.items ++ spec.call_text names.now call) }
     ensures full { OnErr result (vec_capacity out.old < length out.old.items + length (spec.call_text names.now call)) }

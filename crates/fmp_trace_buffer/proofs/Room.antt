@@ -3,9 +3,9 @@ use Rattle.std.proofs.Common.{◌≡◌, ℕ, ◌+◌, List, ◌++◌, length, a
 use Rattle.fmp_trace.proofs.Room.{IsNext}
 use Rattle.fmp_trace_buffer.specs.Filled.{HasRoom}
 
-module _ (old all made : List ℕ) {rest front item behind : List ℕ} (so_far : made ++ rest ≡ old ++ all) (next : IsNext rest front item behind) (room : HasRoom old all) where
-  sizes : length made + (length front + (length item + length behind)) ≡ length old + length all
-  sizes = omega (arith, ap (λ (xs : List ℕ). length xs) so_far, ap (λ (xs : List ℕ). length xs) next.is, length-append made rest, length-append front (item ++ behind), length-append item behind, length-append old all)
+module _ (old all made : List ℕ) {rest front item following : List ℕ} (so_far : made ++ rest ≡ old ++ all) (next : IsNext rest front item following) (room : HasRoom old all) where
+  sizes : length made + (length front + (length item + length following)) ≡ length old + length all
+  sizes = omega (arith, ap (λ (xs : List ℕ). length xs) so_far, ap (λ (xs : List ℕ). length xs) next.is, length-append made rest, length-append front (item ++ following), length-append item following, length-append old all)
 
   -- room for what stands before the item
   pub front_room : HasRoom made front

@@ -58,9 +58,9 @@ impl Count {
         requires { self.old < 2 ^ 32 - 1 }
         ensures { self.new ≡ self.old + 1 }
     {
-        let behind = self.length;
-        if 0 < behind && self.digits[behind - 1] < b'9' {
-            self.digits[behind - 1] += 1;
+        let following = self.length;
+        if 0 < following && self.digits[following - 1] < b'9' {
+            self.digits[following - 1] += 1;
             self.number += 1;
         } else {
             *self = Count::of(self.number + 1);

@@ -2,8 +2,9 @@
 ghost use Rattle.std.specs.Prelude.{◌≡◌, ◌+◌, ◌<◌, ◌≤◌, ◌++◌, ◌∷◌, ℕ, length, take, decimal};
 ghost use Rattle.std.specs.Fmt.{signed_decimal};
 ghost use Rattle.fmp_codes.specs.Codes.{name_of};
+ghost use Rattle.fmp_text.specs.Fronts.{IsEcho};
 ghost use Rattle.fmp_trace_buffer.specs.Filled.{HasRoom, full_bytes};
-ghost use Rattle.fmp_trace.specs.Behind.{behind_number};
+ghost use Rattle.fmp_trace.specs.Following.{after_number};
 ghost use Rattle.fmp_trace_buffer.specs.Around.{after_event, before_event, processor_text};
 ghost use Rattle.fmp_trace.specs.Lines.{answer_text, code_text, core_text, event_text, line_text, lost_text, most_line_bytes, release_text, releases_text, requests_from};
 ghost use Rattle.fmp_trace.specs.Lines.{run_change_text, runner_text, running_text, tail_text, task_text};
@@ -13,12 +14,12 @@ use crate::count::Count;
 use crate::line_buffer::LineBuffer;
 use fmp_calls::{ArgumentKind, NameKind, ObjectKind, Value, parts};
 use fmp_codes::{Answer, Call, Code, Event, Mode, Proc, Record, Release, Releases, Runner, Task};
-use fmp_text::Names;
+use fmp_text::{Echo, Names};
 use fmp_trace::code_piece;
 
 impl LineBuffer {
     /// Adds the name of an object that is not short, or the number where no object has it.
-    #[tactic(auto, unfolding(fmp_trace::specs::Values::named))]
+    #[tactic(auto, unfolding(fmp_text::specs::Printed::named))]
     fn put_rare(&mut self, names: &Names, kind: ObjectKind, number: usize)
         requires { HasRoom self.old (named names.now kind number) }
         ensures { self.new ≡ self.old ++ named names.now kind number }
@@ -31,7 +32,7 @@ impl LineBuffer {
 
     /// Adds the name of an object, or the number where no object has it.
     #[inline(always)]
-    #[tactic(auto, unfolding(fmp_trace::specs::Values::named))]
+    #[tactic(auto, unfolding(fmp_text::specs::Printed::named))]
     fn put_named(&mut self, names: &Names, kind: ObjectKind, number: usize)
         requires few { number < 128 }
         requires room { HasRoom self.old (named names.now kind number) }
@@ -53,7 +54,7 @@ impl LineBuffer {
     }
 
     /// Adds an argument that stands for the caller, or for no object.
-    #[tactic(auto, unfolding(fmp_trace::specs::Values::object_text))]
+    #[tactic(auto, unfolding(fmp_text::specs::Printed::object_text))]
     fn put_no_object(&mut self, names: &Names, kind: ObjectKind, number: i32)
         requires { HasRoom self.old (object_text names.now kind number) }
         ensures { self.new ≡ self.old ++ object_text names.now kind number }
@@ -69,7 +70,7 @@ impl LineBuffer {
 
     /// Adds an argument that stands for an object.
     #[inline(always)]
-    #[tactic(auto, unfolding(fmp_trace::specs::Values::object_text))]
+    #[tactic(auto, unfolding(fmp_text::specs::Printed::object_text))]
     fn put_object(&mut self, names: &Names, kind: ObjectKind, number: i32)
         requires { HasRoom self.old (object_text names.now kind number) }
         ensures { self.new ≡ self.old ++ object_text names.now kind number }
@@ -94,7 +95,7 @@ impl LineBuffer {
 
     /// Adds an argument.
     #[inline(always)]
-    #[tactic(auto, unfolding(fmp_trace::specs::Values::value_text))]
+    #[tactic(auto, unfolding(fmp_text::specs::Printed::value_text))]
     fn put_value(&mut self, names: &Names, kind: ArgumentKind, value: Value)
         requires { HasRoom self.old (value_text names.now kind value) }
         ensures { self.new ≡ self.old ++ value_text names.now kind value }
@@ -126,7 +127,7 @@ impl LineBuffer {
     }
 
     /// Adds a call with its arguments in parentheses, if it has any.
-    #[tactic(auto, unfolding(fmp_trace::specs::Values::call_text, fmp_trace::specs::Values::behind_name))]
+    #[tactic(auto, unfolding(fmp_text::specs::Printed::call_text, fmp_text::specs::Printed::after_name))]
     fn put_call(&mut self, names: &Names, call: Call)
         requires { HasRoom self.old (call_text names.now call) }
         ensures { self.new ≡ self.old ++ call_text names.now call }
@@ -329,36 +330,36 @@ impl LineBuffer {
         self.put_tail(names, entry);
     }
 
-    /// Adds what stands behind the number of a line, without its line feed.
+    /// Adds what stands after the number of a line, without its line feed.
     #[inline(always)]
-    #[tactic(auto, unfolding(fmp_trace::specs::Behind::behind_number, crate::specs::Around::before_event, crate::specs::Around::after_event))]
-    fn put_behind_number(&mut self, names: &Names, entry: &Record)
-        requires { HasRoom self.old (behind_number names.now entry.now) }
-        ensures { self.new ≡ self.old ++ behind_number names.now entry.now }
+    #[tactic(auto, unfolding(fmp_trace::specs::Following::after_number, crate::specs::Around::before_event, crate::specs::Around::after_event))]
+    fn put_after_number(&mut self, names: &Names, entry: &Record)
+        requires { HasRoom self.old (after_number names.now entry.now) }
+        ensures { self.new ≡ self.old ++ after_number names.now entry.now }
     {
         self.put_before_event(names, entry);
         self.put_event(names, entry.event);
         self.put_after_event(names, entry);
     }
 
-    /// Adds line n without its line feed.
-    #[tactic(auto, unfolding(fmp_trace::specs::Lines::core_text, fmp_trace::specs::Lines::head_text, fmp_trace::specs::Behind::behind_number))]
-    pub fn put_core(&mut self, names: &Names, n: u32, entry: &Record)
-        requires { HasRoom self.old (core_text names.now n entry.now) }
-        ensures { self.new ≡ self.old ++ core_text names.now n entry.now }
+    /// Adds the line of this count without its line feed.
+    #[tactic(auto, unfolding(fmp_trace::specs::Lines::core_text, fmp_trace::specs::Lines::head_text, fmp_trace::specs::Following::after_number))]
+    pub fn put_core(&mut self, names: &Names, count: &Count, entry: &Record)
+        requires { HasRoom self.old (core_text names.now count.now entry.now) }
+        ensures { self.new ≡ self.old ++ core_text names.now count.now entry.now }
     {
-        self.put_number(u64::from(n));
-        self.put_behind_number(names, entry);
+        count.put(self);
+        self.put_after_number(names, entry);
     }
 
     /// Adds the line of this count with its line feed.
-    #[tactic(auto, unfolding(fmp_trace::specs::Lines::line_text, fmp_trace::specs::Lines::core_text, fmp_trace::specs::Lines::head_text, fmp_trace::specs::Behind::behind_number))]
+    #[tactic(auto, unfolding(fmp_trace::specs::Lines::line_text, fmp_trace::specs::Lines::core_text, fmp_trace::specs::Lines::head_text, fmp_trace::specs::Following::after_number))]
     pub fn put_line(&mut self, names: &Names, count: &Count, entry: &Record)
         requires { HasRoom self.old (line_text names.now count.now entry.now) }
         ensures { self.new ≡ self.old ++ line_text names.now count.now entry.now }
     {
         count.put(self);
-        self.put_behind_number(names, entry);
+        self.put_after_number(names, entry);
         self.put_byte(b'\n');
     }
 
@@ -383,13 +384,27 @@ impl LineBuffer {
         self.put_after_event(names, entry);
         self.put_byte(b'\n');
     }
+
+    /// Adds the line of this count with its line feed, where the text of its event may be kept as it was written.
+    #[inline(always)]
+    pub fn put_kept_line(&mut self, names: &Names, count: &Count, entry: &Record, echo: &Echo)
+        requires echo { IsEcho echo.now (event_text names.now entry.now.event) }
+        requires room { HasRoom self.old (line_text names.now count.now entry.now) }
+        ensures { self.new ≡ self.old ++ line_text names.now count.now entry.now }
+    {
+        let bytes = echo.len();
+        if bytes == 0 {
+            return self.put_line(names, count, entry);
+        }
+        self.put_echoed_line(names, count, entry, echo.room(), bytes);
+    }
 }
 
 /// How long the line of a record can be, for proofs. It does nothing.
-pub fn line_is_short(names: &Names, told: &Record)
-    ensures { (n : ℕ) → length (line_text names.now n told.now) ≤ most_line_bytes }
+pub fn line_is_short(names: &Names, report: &Record)
+    ensures { (n : ℕ) → length (line_text names.now n report.now) ≤ most_line_bytes }
 {
     names.validity();
-    let _releases = told.releases.len();
-    let _requests = told.requests.as_slice();
+    let _releases = report.releases.len();
+    let _requests = report.requests.as_slice();
 }

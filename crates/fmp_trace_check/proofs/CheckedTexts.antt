@@ -35,8 +35,8 @@ use Rattle.fmp_trace.proofs.Headed.{guess-event}
 use Rattle.fmp_trace.proofs.ReadTexts.{lines_pieces, read_prints, prints_read, fault_is_first}
 
 -- the answers in state w to the events of these records
-abbrev pub told : State → List Record → List Record
-told w rs = answers numbered w (map (λ r. r.event) rs)
+abbrev pub report : State → List Record → List Record
+report w rs = answers numbered w (map (λ r. r.event) rs)
 
 -- the first difference among lines from line n on is at line k
 pub record DiffersFrom (n k : ℕ) (lines others : List (List ℕ)) : Type 0 where
@@ -46,9 +46,9 @@ pub record DiffersFrom (n k : ℕ) (lines others : List (List ℕ)) : Type 0 whe
   pub before : take offset lines ≡ take offset others
   pub here : slice_get lines offset ≢ slice_get others offset
 
-abbrev pub VerdictTold : NameLists → State → ℕ → List Record → Verdict → Type 0
-VerdictTold names w n rs Yes = lines_from names n rs ≡ lines_from names n (told w rs)
-VerdictTold names w n rs (No k) = DiffersFrom n k (pieces_of 10 (lines_from names n rs)) (cores_from names n (told w rs))
+abbrev pub VerdictReported : NameLists → State → ℕ → List Record → Verdict → Type 0
+VerdictReported names w n rs Yes = lines_from names n rs ≡ lines_from names n (report w rs)
+VerdictReported names w n rs (No k) = DiffersFrom n k (pieces_of 10 (lines_from names n rs)) (cores_from names n (report w rs))
 
 module _ (names : NameLists) (w : State) (n : ℕ) (r : Record) (rs : List Record) where
   next : State
@@ -58,11 +58,11 @@ module _ (names : NameLists) (w : State) (n : ℕ) (r : Record) (rs : List Recor
   answer = (step numbered w r.event).1
 
   -- a line that prints the answer
-  same_told : (verdict : Verdict) → pieces_of 10 (lines_from names n (r ∷ rs)) ≡ core_text names n r ∷ pieces_of 10 (lines_from names (n + 1) rs) → core_text names n answer ≡ core_text names n r → VerdictTold names next (n + 1) rs verdict → VerdictTold names w n (r ∷ rs) verdict
+  same_reported : (verdict : Verdict) → pieces_of 10 (lines_from names n (r ∷ rs)) ≡ core_text names n r ∷ pieces_of 10 (lines_from names (n + 1) rs) → core_text names n answer ≡ core_text names n r → VerdictReported names next (n + 1) rs verdict → VerdictReported names w n (r ∷ rs) verdict
   unfolding next answer line_text
-  same_told Yes pieces same rest =
+  same_reported Yes pieces same rest =
       ap (λ (core : List ℕ). (core ++ codes "\n") ++ lines_from names (n + 1) rs) (sym same) ∙ ap (λ (others : List ℕ). line_text names n answer ++ others) rest
-  same_told (No k) pieces same rest =
+  same_reported (No k) pieces same rest =
       let line = rest.line in let within = rest.within in let before = rest.before in let here = rest.here in
       record {
         offset = suc rest.offset;
@@ -72,9 +72,9 @@ module _ (names : NameLists) (w : State) (n : ℕ) (r : Record) (rs : List Recor
         here = λ e. here (ap (λ (lines : List (List ℕ)). slice_get lines (suc rest.offset)) (sym pieces) ∙ e);
       }
 
-  other_told : pieces_of 10 (lines_from names n (r ∷ rs)) ≡ core_text names n r ∷ pieces_of 10 (lines_from names (n + 1) rs) → core_text names n answer ≢ core_text names n r → VerdictTold names w n (r ∷ rs) (No n)
+  other_reported : pieces_of 10 (lines_from names n (r ∷ rs)) ≡ core_text names n r ∷ pieces_of 10 (lines_from names (n + 1) rs) → core_text names n answer ≢ core_text names n r → VerdictReported names w n (r ∷ rs) (No n)
   unfolding answer
-  other_told pieces differs =
+  other_reported pieces differs =
       record {
         offset = 0;
         line = omega arith;
@@ -84,24 +84,24 @@ module _ (names : NameLists) (w : State) (n : ℕ) (r : Record) (rs : List Recor
       }
 
 -- a line that prints a record tells its event
-pub stop_told : (names : NameLists) (w : State) (n : ℕ) (r : Record) (rs : List Record) → AreValid names → n < 2 ^ 64 → AllFit names (r ∷ rs) → stop_from names w n (pieces_of 10 (lines_from names n (r ∷ rs)))
+pub stop_reported : (names : NameLists) (w : State) (n : ℕ) (r : Record) (rs : List Record) → AreValid names → n < 2 ^ 64 → AllFit names (r ∷ rs) → stop_from names w n (pieces_of 10 (lines_from names n (r ∷ rs)))
     ≡ cond (bytes_eq (core_text names n (step numbered w r.event).1) (core_text names n r)) (stop_from names (step numbered w r.event).0 (n + 1) (pieces_of 10 (lines_from names (n + 1) rs)))
     (Some (seen n (core_text names n r) (core_text names n (step numbered w r.event).1) (step numbered w r.event).0 (pieces_of 10 (lines_from names (n + 1) rs))))
-stop_told names w n r rs valid small fit =
+stop_reported names w n r rs valid small fit =
     let event : event_of names (core_text names n r) ≡ Some r.event = guess-event names (core_text names n r) r (line_guessed names r valid fit.0 n small) in
     rw (lines_pieces names n r rs valid, stop_from-line, event) refl
 
-verdict_told : (names : NameLists) (w : State) (n : ℕ) (rs : List Record) → AreValid names → AllFit names rs → n + length rs < 2 ^ 64 → VerdictTold names w n rs (verdict_at (stop_from names w n (pieces_of 10 (lines_from names n rs))))
+verdict_reported : (names : NameLists) (w : State) (n : ℕ) (rs : List Record) → AreValid names → AllFit names rs → n + length rs < 2 ^ 64 → VerdictReported names w n rs (verdict_at (stop_from names w n (pieces_of 10 (lines_from names n rs))))
 unfolding stop_from pieces_of next answer
-verdict_told names w n [] valid fit few = refl
-verdict_told names w n (r ∷ rs) valid fit few =
+verdict_reported names w n [] valid fit few = refl
+verdict_reported names w n (r ∷ rs) valid fit few =
     let small : n < 2 ^ 64 = omega (arith, few) in
     let pieces = lines_pieces names n r rs valid in
-    let stop_is = stop_told names w n r rs valid small fit in
-    let rest = verdict_told names (step numbered w r.event).0 (n + 1) rs valid fit.1 (omega (arith, few)) in
+    let stop_is = stop_reported names w n r rs valid small fit in
+    let rest = verdict_reported names (step numbered w r.event).0 (n + 1) rs valid fit.1 (omega (arith, few)) in
     elim (cases_Bool (bytes_eq (core_text names n (answer names w n r rs)) (core_text names n r))) [
-      | inl t ↦ rw (stop_is, t) (same_told names w n r rs _ pieces ((bytes_eq-Decides _ _).0 t) rest)
-      | inr f ↦ rw (stop_is, f) (other_told names w n r rs pieces (λ e. false≢true (sym f ∙ (bytes_eq-Decides _ _).1 e)))
+      | inl t ↦ rw (stop_is, t) (same_reported names w n r rs _ pieces ((bytes_eq-Decides _ _).0 t) rest)
+      | inr f ↦ rw (stop_is, f) (other_reported names w n r rs pieces (λ e. false≢true (sym f ∙ (bytes_eq-Decides _ _).1 e)))
     ]
 
 -- ---- whole texts
@@ -112,7 +112,7 @@ unfolding pieces_of
 cores_pieces names n [] valid = refl
 cores_pieces names n (r ∷ rs) valid = lines_pieces names n r rs valid ∙ ap (λ (lines : List (List ℕ)). core_text names n r ∷ lines) (cores_pieces names (n + 1) rs valid)
 
-compares : (c : Setup) (text : List ℕ) (records : List Record) (verdict : Verdict) → text ≡ lines_from c.names 1 records → VerdictTold c.names (booted c) 1 records verdict → Compares c text records verdict
+compares : (c : Setup) (text : List ℕ) (records : List Record) (verdict : Verdict) → text ≡ lines_from c.names 1 records → VerdictReported c.names (booted c) 1 records verdict → Compares c text records verdict
 compares c text records Yes lines known = lines ∙ known
 compares c text records (No k) lines known =
     let offset : k - 1 ≡ known.offset = let line = known.line in omega (arith, line) in
@@ -125,10 +125,10 @@ compares c text records (No k) lines known =
     }
 
 -- the verdict on a text that prints these records
-text_verdict : (c : Setup) (text : List ℕ) (records : List Record) → AreValid c.names → PrintsWithin c.names text records → VerdictTold c.names (booted c) 1 records (verdict_at (stop_in c text))
+text_verdict : (c : Setup) (text : List ℕ) (records : List Record) → AreValid c.names → PrintsWithin c.names text records → VerdictReported c.names (booted c) 1 records (verdict_at (stop_in c text))
 text_verdict c text records valid prints =
     let few = prints.few in
-    subst (λ (t : List ℕ). VerdictTold c.names (booted c) 1 records (verdict_at (stop_in c t))) (sym prints.prints.lines) (verdict_told c.names (booted c) 1 records valid prints.prints.fit (omega (arith, few)))
+    subst (λ (t : List ℕ). VerdictReported c.names (booted c) 1 records (verdict_at (stop_in c t))) (sym prints.prints.lines) (verdict_reported c.names (booted c) 1 records valid prints.prints.fit (omega (arith, few)))
 
 verdict_judges : (c : Setup) (text : List ℕ) (verdict : Verdict) → AreValid c.names → checked c text ≡ Ok verdict → Judges c text verdict
 unfolding checked
@@ -136,7 +136,7 @@ verdict_judges c text verdict valid e =
     let p = bind_parts (records_in c.names text) (λ records. Ok (verdict_at (stop_in c text))) verdict e in
     let same : verdict_at (stop_in c text) ≡ verdict = let is = p.2 in cc in
     let prints = read_prints c.names text p.0 valid p.1 in
-    record { records = p.0; prints = prints; compares = compares c text p.0 verdict prints.prints.lines (subst (VerdictTold c.names (booted c) 1 p.0) same (text_verdict c text p.0 valid prints)) }
+    record { records = p.0; prints = prints; compares = compares c text p.0 verdict prints.prints.lines (subst (VerdictReported c.names (booted c) 1 p.0) same (text_verdict c text p.0 valid prints)) }
 
 -- a text that prints records has a verdict
 has_verdict : (c : Setup) (text : List ℕ) (records : List Record) → AreValid c.names → PrintsWithin c.names text records → checked c text ≡ Ok (verdict_at (stop_in c text))
@@ -162,7 +162,7 @@ prefix_get (x ∷ xs) ys (suc i) lt = prefix_get xs ys i (omega (arith, lt))
 own_is_yes : (c : Setup) (text : List ℕ) (records : List Record) (verdict : Verdict) → AreValid c.names → text ≡ own_text c records → Compares c text records verdict → verdict ≡ Yes
 own_is_yes c text records Yes valid own known = refl
 own_is_yes c text records (No k) valid own known =
-    let lines : pieces_of 10 text ≡ own_lines c records ++ [] ∷ [] = ap (pieces_of 10) own ∙ cores_pieces c.names 1 (told (booted c) records) valid in
+    let lines : pieces_of 10 text ≡ own_lines c records ++ [] ∷ [] = ap (pieces_of 10) own ∙ cores_pieces c.names 1 (report (booted c) records) valid in
     let least = known.least in let most = known.most in
     absurd (known.here (ap (λ (ls : List (List ℕ)). slice_get ls (k - 1)) lines ∙ prefix_get (own_lines c records) ([] ∷ []) (k - 1) (omega (arith, least, most))))
 

@@ -30,25 +30,25 @@ use Rattle.fmp_trace.specs.Lines.{core_text, lines_from}
 use Rattle.fmp_trace.specs.Prints.{PrintsWithin, FirstFault}
 use Rattle.fmp_trace.specs.Reading.{GivesOrFails, records_in}
 use Rattle.fmp_trace_check.proofs.Hunks.{hunks_from-line}
-use Rattle.fmp_trace_check.proofs.CheckedTexts.{told, stop_told, is_judged, has_one, is_answered, is_reading_fault}
+use Rattle.fmp_trace_check.proofs.CheckedTexts.{report, stop_reported, is_judged, has_one, is_answered, is_reading_fault}
 use Rattle.fmp_trace.proofs.GuessedLines.{line_guessed}
 use Rattle.fmp_trace.proofs.Headed.{guess-event}
 use Rattle.fmp_trace.proofs.ReadTexts.{lines_pieces, read_prints}
 
 -- the differences between the records' lines and the machine's own, from line n on
 abbrev pub differing : NameLists → State → ℕ → List Record → List Difference
-differing names w n rs = differences_from n (cores_from names n rs) (cores_from names n (told w rs))
+differing names w n rs = differences_from n (cores_from names n rs) (cores_from names n (report w rs))
 
 -- ---- what is found of lines that print records
 
-hunks_told : (names : NameLists) (w : State) (n : ℕ) (rs : List Record) → AreValid names → AllFit names rs → n + length rs < 2 ^ 64
+hunks_reported : (names : NameLists) (w : State) (n : ℕ) (rs : List Record) → AreValid names → AllFit names rs → n + length rs < 2 ^ 64
     → hunks_from names w n (pieces_of 10 (lines_from names n rs)) ≡ differences_text Each (differing names w n rs)
 unfolding hunks_from pieces_of
-hunks_told names w n [] valid fit few = refl
-hunks_told names w n (r ∷ rs) valid fit few =
+hunks_reported names w n [] valid fit few = refl
+hunks_reported names w n (r ∷ rs) valid fit few =
     let small : n < 2 ^ 64 = omega (arith, few) in
     let event : event_of names (core_text names n r) ≡ Some r.event = guess-event names (core_text names n r) r (line_guessed names r valid fit.0 n small) in
-    let rest = hunks_told names (step numbered w r.event).0 (n + 1) rs valid fit.1 (omega (arith, few)) in
+    let rest = hunks_reported names (step numbered w r.event).0 (n + 1) rs valid fit.1 (omega (arith, few)) in
     elim (cases_Bool (bytes_eq (core_text names n (step numbered w r.event).1) (core_text names n r))) [
       | inl t ↦ rw (lines_pieces names n r rs valid, hunks_from-line, event, t) rest
       | inr f ↦ rw (lines_pieces names n r rs valid, hunks_from-line, event, f) (ap (λ (text : List ℕ). difference_text Each (record { number = n; line = core_text names n r; own = core_text names n (step numbered w r.event).1 }) ++ text) rest)
@@ -59,7 +59,7 @@ verdict_all : (names : NameLists) (w : State) (n : ℕ) (rs : List Record) → A
 unfolding stop_from pieces_of
 verdict_all names w n [] valid fit few = refl
 verdict_all names w n (r ∷ rs) valid fit few =
-    let stop_is = stop_told names w n r rs valid (omega (arith, few)) fit in
+    let stop_is = stop_reported names w n r rs valid (omega (arith, few)) fit in
     let rest = verdict_all names (step numbered w r.event).0 (n + 1) rs valid fit.1 (omega (arith, few)) in
     elim (cases_Bool (bytes_eq (core_text names n (step numbered w r.event).1) (core_text names n r))) [
       | inl t ↦ rw (stop_is, t) rest
@@ -78,7 +78,7 @@ shown_all : (shown : Shown) (names : NameLists) (w : State) (n : ℕ) (rs : List
 unfolding stop_from pieces_of
 shown_all shown names w n [] valid fit few = none_at_all shown
 shown_all First names w n (r ∷ rs) valid fit few =
-    let stop_is = stop_told names w n r rs valid (omega (arith, few)) fit in
+    let stop_is = stop_reported names w n r rs valid (omega (arith, few)) fit in
     let rest = shown_all First names (step numbered w r.event).0 (n + 1) rs valid fit.1 (omega (arith, few)) in
     let difference : Difference = record { number = n; line = core_text names n r; own = core_text names n (step numbered w r.event).1 } in
     elim (cases_Bool (bytes_eq (core_text names n (step numbered w r.event).1) (core_text names n r))) [
@@ -86,9 +86,9 @@ shown_all First names w n (r ∷ rs) valid fit few =
       | inr f ↦ rw (stop_is, f) (first_shown difference (differing names (step numbered w r.event).0 (n + 1) rs))
     ]
 shown_all Each names w n (r ∷ rs) valid fit few =
-    let stop_is = stop_told names w n r rs valid (omega (arith, few)) fit in
+    let stop_is = stop_reported names w n r rs valid (omega (arith, few)) fit in
     let rest = shown_all Each names (step numbered w r.event).0 (n + 1) rs valid fit.1 (omega (arith, few)) in
-    let hunks = hunks_told names (step numbered w r.event).0 (n + 1) rs valid fit.1 (omega (arith, few)) in
+    let hunks = hunks_reported names (step numbered w r.event).0 (n + 1) rs valid fit.1 (omega (arith, few)) in
     let difference : Difference = record { number = n; line = core_text names n r; own = core_text names n (step numbered w r.event).1 } in
     elim (cases_Bool (bytes_eq (core_text names n (step numbered w r.event).1) (core_text names n r))) [
       | inl t ↦ rw (stop_is, t) rest
@@ -119,7 +119,7 @@ contrast shown c text verdict lines valid e =
     let p = bind_parts (records_in c.names text) (λ records. Ok (verdict_at (stop_in c text), shown_at shown c.names (stop_in c text))) (verdict, lines) e in
     let prints = read_prints c.names text p.0 valid p.1 in
     let same = ok_parts verdict (verdict_at (stop_in c text)) lines (shown_at shown c.names (stop_in c text)) (sym p.2) in
-    record { records = p.0; prints = prints; judged = same.0 ∙ verdict_is c text p.0 valid prints; told = same.1 ∙ shown_is c text p.0 valid prints shown }
+    record { records = p.0; prints = prints; judged = same.0 ∙ verdict_is c text p.0 valid prints; report = same.1 ∙ shown_is c text p.0 valid prints shown }
 
 -- the same verdict, or the same fault
 abbrev verdict_in : Result Found TextFault → Result Verdict TextFault
@@ -142,7 +142,7 @@ none_shown shown (d ∷ ds) e = absurd cc
 
 -- of a text that is the machine's own nothing is shown
 pub nothing_shown : (shown : Shown) (c : Setup) (text lines : List ℕ) → Contrasts shown c text Yes lines → lines ≡ []
-nothing_shown shown c text lines k = k.told ∙ none_shown shown (differences c k.records) k.judged
+nothing_shown shown c text lines k = k.report ∙ none_shown shown (differences c k.records) k.judged
 
 module _ (shown : Shown) (c : Setup) (text : List ℕ) (valid : AreValid c.names) where
   alike : (result : Result Comparison TextFault) → GivesOrFails found_of result (found_in shown c text) → GivesOrFails (λ v. v) (as_verdict result) (checked c text)
@@ -164,7 +164,7 @@ module _ (shown : Shown) (c : Setup) (text : List ℕ) (valid : AreValid c.names
 
   pub is_answers : (result : Result Comparison TextFault) → GivesOrFails found_of result (found_in shown c text) → IsValid c → (events : List Event) → PrintsAnswers c text events → GivesOrFails found_of result (Ok (Yes, []))
   is_answers (Ok found) e valid_config events p =
-      let told_yes = is_answered c text valid (Ok found.verdict) (alike (Ok found) e) valid_config events p in
+      let report_yes = is_answered c text valid (Ok found.verdict) (alike (Ok found) e) valid_config events p in
       let yes : found.verdict ≡ Yes = cc in
       let empty : found.lines.items ≡ [] = nothing_shown shown c text found.lines.items (subst (λ (v : Verdict). Contrasts shown c text v found.lines.items) yes (contrast shown c text found.verdict found.lines.items valid e)) in
       sym (ap (λ (v : Verdict). Ok (v, found.lines.items)) yes ∙ ap (λ (text : List ℕ). Ok (Yes, text)) empty)

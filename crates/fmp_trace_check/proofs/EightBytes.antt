@@ -1,11 +1,11 @@
 -- Comparing texts eight bytes at a time.
-use Rattle.std.proofs.Common.{◌≡◌, ℕ, ◌<◌, ◌==◌, Bool, true, false, ◌&&◌, List, ◌++◌, length, take, drop, get_or, refl, sym, ap, ap₂, ◌∙◌}
+use Rattle.std.proofs.Common.{◌≡◌, ℕ, ◌<◌, ◌≤◌, ◌-◌, ◌==◌, Bool, true, false, ◌&&◌, List, ◌++◌, length, take, drop, get_or, refl, sym, ap, ap₂, ◌∙◌, arith}
 use Rattle.std.specs.Bool.{Decides}
 use Rattle.std.specs.Str.{bytes_eq}
 use Rattle.std.specs.Int.{w64, to_le_bytes, from_le_bytes}
 use Rattle.std.proofs.lemmas.Bool.{false≢true, false_from_ne_true}
 use Rattle.std.proofs.lemmas.Bool.Decides.{Decides-and, Decides-eqb, Decides-like}
-use Rattle.std.proofs.lemmas.List.{take-append-drop}
+use Rattle.std.proofs.lemmas.List.{drop-drop, take-append-drop}
 use Rattle.std.proofs.lemmas.Nat.{le_bytes_8}
 use Rattle.std.proofs.lemmas.Slice.Eq.{bytes_eq-Decides}
 
@@ -27,3 +27,13 @@ cut_same n a b =
     one_test _ _ (bytes_eq-Decides a b)
     (Decides-like _ (λ p. sym (take-append-drop n a) ∙ ap₂ (λ (xs ys : List ℕ). xs ++ ys) p.0 p.1 ∙ take-append-drop n b) (λ e. (ap (take n) e, ap (drop n) e))
     (Decides-and _ _ (bytes_eq-Decides (take n a) (take n b)) (bytes_eq-Decides (drop n a) (drop n b))))
+
+-- what is left after n bytes, where it has all that decides
+pub end_same : (n k : ℕ) (a b : List ℕ) → n ≤ k → bytes_eq (drop k a) (drop k b) ≡ bytes_eq a b → bytes_eq (drop n a) (drop n b) ≡ bytes_eq a b
+end_same n k a b le same =
+    let on : (xs : List ℕ) → drop (k - n) (drop n xs) ≡ drop k xs = λ xs. drop-drop (k - n) n xs ∙ ap (λ (i : ℕ). drop i xs) (omega (arith, le)) in
+    let rest = bytes_eq-Decides (drop k a) (drop k b) in
+    one_test _ _
+    (Decides-like _
+    (λ e. (bytes_eq-Decides a b).0 (sym same ∙ rest.1 (sym (on a) ∙ ap (drop (k - n)) e ∙ on b))) (λ e. ap (drop n) e) (bytes_eq-Decides (drop n a) (drop n b)))
+    (bytes_eq-Decides a b)

@@ -31,22 +31,22 @@ use Rattle.fmp_trace.specs.Prints.{PrintsLine}
 use Rattle.fmp_trace.specs.Reading.{at_line, line_record, records_from}
 use Rattle.fmp_trace.proofs.Headed.{event_of-fits}
 use Rattle.fmp_trace.proofs.Numbered.{first_piece, only_piece, records_from-line, with_prefix}
-use Rattle.fmp_trace.proofs.ReadTexts.{line_read, limited_ok, line_told, LineTold}
-use Rattle.fmp_trace_check.specs.Walking.{behind, prints_answer, stopped, stop_from}
+use Rattle.fmp_trace.proofs.ReadTexts.{line_read, limited_ok, line_reported, LineReported}
+use Rattle.fmp_trace_check.specs.Walking.{following, prints_answer, stopped, stop_from}
 use Rattle.fmp_trace_check.proofs.FittingAnswers.{record_fits}
 
 -- ---- where the lines of a text stop being the machine's own
 
 -- the first line of a text with a line feed
 pub stop_from-line : (names : NameLists) (w : State) (n : ℕ) (line rest : List ℕ) → stop_from names w n (line ∷ pieces_of 10 rest)
-    ≡ cond (prints_answer names w n line (event_of names line)) (stop_from names (behind w (event_of names line)) (n + 1) (pieces_of 10 rest)) (Some (stopped names w n line (event_of names line) (pieces_of 10 rest)))
+    ≡ cond (prints_answer names w n line (event_of names line)) (stop_from names (following w (event_of names line)) (n + 1) (pieces_of 10 rest)) (Some (stopped names w n line (event_of names line) (pieces_of 10 rest)))
 unfolding stop_from
 stop_from-line names w n line rest = rw (pieces_of-cut 10 rest) refl
 
 module _ (names : NameLists) (w : State) (n : ℕ) (text : List ℕ) where
-  pub goes_behind : (line rest : List ℕ) → (cut_at 10 text).0 ≡ line → (cut_at 10 text).1 ≡ Some rest → prints_answer names w n line (event_of names line) ≡ true
-      → stop_from names w n (pieces_of 10 text) ≡ stop_from names (behind w (event_of names line)) (n + 1) (pieces_of 10 rest)
-  goes_behind line rest is_line cut own = rw (first_piece text line rest is_line cut, stop_from-line, own) refl
+  pub goes_after : (line rest : List ℕ) → (cut_at 10 text).0 ≡ line → (cut_at 10 text).1 ≡ Some rest → prints_answer names w n line (event_of names line) ≡ true
+      → stop_from names w n (pieces_of 10 text) ≡ stop_from names (following w (event_of names line)) (n + 1) (pieces_of 10 rest)
+  goes_after line rest is_line cut own = rw (first_piece text line rest is_line cut, stop_from-line, own) refl
 
   pub stops_here : (line rest : List ℕ) → (cut_at 10 text).0 ≡ line → (cut_at 10 text).1 ≡ Some rest → prints_answer names w n line (event_of names line) ≡ false
       → stop_from names w n (pieces_of 10 text) ≡ Some (stopped names w n line (event_of names line) (pieces_of 10 rest))
@@ -68,26 +68,26 @@ module _ (c : Setup) (valid : IsValid c) (names_valid : AreValid c.names) (w : S
   goes_on : (e : Event) → (processor_of e).number ≤ c.names.processors → EventInBits e → Goes c (step numbered w e).0 × FitsNames c.names (step numbered w e).1
   goes_on e on in_bits =
       let here : (processor_of e).number ≤ c.processors = rw (sym valid.same_processors) on in
-      let told = step_names (counts_of c) w e goes.safe goes.counts here in_bits in
+      let report = step_names (counts_of c) w e goes.safe goes.counts here in_bits in
       let counts = goes.counts in
       let event_is = step_event w e in (
         record {
           safe = safe_replay numbered numbered_tops numbered_lists w (e ∷ []) goes.safe (All-cons (λ (x : Event). (processor_of x).number ≤ length w.processors) e [] (rw counts.processors here) (All-nil (λ (x : Event). (processor_of x).number ≤ length w.processors)));
-          counts = told.0;
+          counts = report.0;
         },
-        record_fits c valid (step numbered w e).1 told.1 (subst EventInBits (sym event_is) in_bits),
+        record_fits c valid (step numbered w e).1 report.1 (subst EventInBits (sym event_is) in_bits),
       )
 
   -- a line of its own leads to a state that goes, and is read
   abbrev Own : List ℕ → Option Event → Type 0
-  Own line told = Goes c (behind w told) × ((r : Record) × (at_line n (line_record c.names n line) ≡ Ok r))
+  Own line report = Goes c (following w report) × ((r : Record) × (at_line n (line_record c.names n line) ≡ Ok r))
 
-  own_line : (line : List ℕ) (told : Option Event) → event_of c.names line ≡ told → prints_answer c.names w n line told ≡ true → Own line told
-  own_line line None is_told own = absurd (false≢true own)
-  own_line line (Some e) is_told own =
+  own_line : (line : List ℕ) (report : Option Event) → event_of c.names line ≡ report → prints_answer c.names w n line report ≡ true → Own line report
+  own_line line None is_reported own = absurd (false≢true own)
+  own_line line (Some e) is_reported own =
       let r : Record = (step numbered w e).1 in
       let same : core_text c.names n r ≡ line = (bytes_eq-Decides (core_text c.names n r) line).0 own in
-      let fits = event_of-fits c.names line e names_valid is_told in
+      let fits = event_of-fits c.names line e names_valid is_reported in
       let on = goes_on e fits.0 fits.1 in
       let small : n < 2 ^ 64 = omega (arith, few) in
       (on.0, (r, ap (at_line n) (line_read c.names n line r names_valid small (sym same, on.1) ∙ limited_ok n r few)))
@@ -116,5 +116,5 @@ is_within names valid n small text line rest records is_line cut read =
     let pieces = first_piece text line rest is_line cut in
     let read_so : records_from names n (line ∷ pieces_of 10 rest) ≡ Ok records = ap (records_from names n) (sym pieces) ∙ read in
     let p = bind_parts (at_line n (line_record names n line)) _ records (sym (records_from-line names n line rest) ∙ read_so) in
-    let told : PrintsLine names n line p.0 × (n ≤ most_events) = subst (LineTold names n line) (at_line_parts n (line_record names n line) p.0 p.1) (line_told names n line valid small) in
-    told.1
+    let report : PrintsLine names n line p.0 × (n ≤ most_events) = subst (LineReported names n line) (at_line_parts n (line_record names n line) p.0 p.1) (line_reported names n line valid small) in
+    report.1

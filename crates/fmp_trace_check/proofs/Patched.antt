@@ -11,9 +11,9 @@ use Rattle.fmp_setup.specs.Setup.{Setup}
 use Rattle.fmp_names.specs.Names.{NameLists}
 use Rattle.fmp_trace_check.specs.Checking.{cores_from, own_lines}
 use Rattle.fmp_trace_check.specs.Differences.{Difference, differences_from, differences, patched_from}
-use Rattle.fmp_trace_check.proofs.CheckedTexts.{told}
+use Rattle.fmp_trace_check.proofs.CheckedTexts.{report}
 
--- the first difference among lines from line n on stands at n or behind it
+-- the first difference among lines from line n on stands at n or after it
 abbrev StartAt : ℕ → List Difference → Type 0
 StartAt n [] = Unit {0}
 StartAt n (d ∷ ds) = n ≤ d.number
@@ -60,7 +60,7 @@ length-events (r ∷ rs) = let rest = length-events rs in omega (arith, rest)
 pub patched_own : (c : Setup) (records : List Record) → patched_from 1 (differences c records) (cores_from c.names 1 records) ≡ own_lines c records
 patched_own c records =
     let many = length-cores c.names 1 records in
-    let own = length-cores c.names 1 (told (booted c) records) in
+    let own = length-cores c.names 1 (report (booted c) records) in
     let answered = length-answers (booted c) (map (λ (r : Record). r.event) records) in
     let events = length-events records in
     patched_lines 1 (cores_from c.names 1 records) (own_lines c records) (many ∙ sym (own ∙ answered ∙ events))

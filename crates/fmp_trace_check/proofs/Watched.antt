@@ -1,4 +1,4 @@
--- What a watcher is behind the lines of a text is what it is behind their events.
+-- What a watcher is after the lines of a text is what it is after their events.
 use Rattle.std.proofs.Common.{◌≡◌, ℕ, ◌+◌, ◌<◌, ◌^◌, List, [], ◌∷◌, length, map, Option, Some, None, refl, sym, ap, ◌∙◌, arith}
 use Rattle.fmp_bytes.specs.Bytes.{cut_at, pieces_of}
 use Rattle.fmp_bytes.proofs.Cutting.{pieces_of-cut}
@@ -17,22 +17,22 @@ use Rattle.fmp_trace.proofs.GuessedLines.{line_guessed}
 use Rattle.fmp_trace.proofs.Headed.{guess-event}
 use Rattle.fmp_trace.proofs.Numbered.{first_piece, only_piece}
 use Rattle.fmp_trace.proofs.ReadTexts.{lines_pieces}
-use Rattle.fmp_trace_check.specs.Walking.{behind}
+use Rattle.fmp_trace_check.specs.Walking.{following}
 use Rattle.fmp_trace_check.specs.Watching.{Watches, watched_by, watched_from, watched_in, watched_one}
 
 module _ {S : Type 0} (watch : Watches S) (names : NameLists) where
   watched_from-line : (w : State) (n : ℕ) (line rest : List ℕ) (s : S) → watched_from watch names w n (line ∷ pieces_of 10 rest) s
-      ≡ watched_from watch names (behind w (event_of names line)) (n + 1) (pieces_of 10 rest) (watched_one watch names w n (event_of names line) s)
+      ≡ watched_from watch names (following w (event_of names line)) (n + 1) (pieces_of 10 rest) (watched_one watch names w n (event_of names line) s)
   unfolding watched_from
   watched_from-line w n line rest s = rw (pieces_of-cut 10 rest) refl
 
   -- the first line that tells an event
-  pub watched_behind : (w : State) (n : ℕ) (text line rest : List ℕ) (e : Event) (s : S) → (cut_at 10 text).0 ≡ line → (cut_at 10 text).1 ≡ Some rest → event_of names line ≡ Some e
+  pub watched_after : (w : State) (n : ℕ) (text line rest : List ℕ) (e : Event) (s : S) → (cut_at 10 text).0 ≡ line → (cut_at 10 text).1 ≡ Some rest → event_of names line ≡ Some e
       → watched_from watch names w n (pieces_of 10 text) s ≡ watched_from watch names (step numbered w e).0 (n + 1) (pieces_of 10 rest) (watch s names n (step numbered w e).1 (step numbered w e).0)
-  watched_behind w n text line rest e s is_line cut told =
+  watched_after w n text line rest e s is_line cut report =
       ap (λ (lines : List (List ℕ)). watched_from watch names w n lines s) (first_piece text line rest is_line cut)
       ∙ watched_from-line w n line rest s
-      ∙ ap (λ (t : Option Event). watched_from watch names (behind w t) (n + 1) (pieces_of 10 rest) (watched_one watch names w n t s)) told
+      ∙ ap (λ (t : Option Event). watched_from watch names (following w t) (n + 1) (pieces_of 10 rest) (watched_one watch names w n t s)) report
 
   pub watched_nowhere : (w : State) (n : ℕ) (text : List ℕ) (s : S) → (cut_at 10 text).1 ≡ None → watched_from watch names w n (pieces_of 10 text) s ≡ s
   unfolding watched_from
@@ -51,11 +51,11 @@ module _ {S : Type 0} (watch : Watches S) (names : NameLists) where
   watched_lines valid w n [] s fit few = watched_none w n s
   watched_lines valid w n (r ∷ rs) s fit few =
       let small : n < 2 ^ 64 = omega (arith, few) in
-      let told : event_of names (core_text names n r) ≡ Some r.event = guess-event names (core_text names n r) r (line_guessed names r valid fit.0 n small) in
+      let report : event_of names (core_text names n r) ≡ Some r.event = guess-event names (core_text names n r) r (line_guessed names r valid fit.0 n small) in
       let after = (step numbered w r.event).0 in
       ap (λ (lines : List (List ℕ)). watched_from watch names w n lines s) (lines_pieces names n r rs valid)
       ∙ watched_from-line w n (core_text names n r) (lines_from names (n + 1) rs) s
-      ∙ ap (λ (t : Option Event). watched_from watch names (behind w t) (n + 1) (pieces_of 10 (lines_from names (n + 1) rs)) (watched_one watch names w n t s)) told
+      ∙ ap (λ (t : Option Event). watched_from watch names (following w t) (n + 1) (pieces_of 10 (lines_from names (n + 1) rs)) (watched_one watch names w n t s)) report
       ∙ watched_lines valid after (n + 1) rs (watch s names n (step numbered w r.event).1 after) fit.1 (omega (arith, few))
       ∙ sym (watched_by-cons w n r.event (map (λ x. x.event) rs) s)
 

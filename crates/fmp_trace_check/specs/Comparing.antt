@@ -11,7 +11,7 @@ use Rattle.fmp_trace_check.specs.declared.comparing.Shown.{Shown}
 use Rattle.fmp_trace_check.specs.declared.comparing.Shown.TheVariants.{First, Each}
 use Rattle.fmp_trace_check.specs.Checking.{verdict_at}
 use Rattle.fmp_trace_check.specs.Differences.{Difference, difference_text}
-use Rattle.fmp_trace_check.specs.Walking.{Stopped, behind, own_core, prints_answer, stop_in}
+use Rattle.fmp_trace_check.specs.Walking.{Stopped, following, own_core, prints_answer, stop_in}
 use Rattle.fmp_trace.specs.Heads.{event_of}
 use Rattle.fmp_trace.specs.Reading.{records_in}
 
@@ -32,7 +32,7 @@ hunks_from names w n [] = []
 hunks_from names w n (last ∷ []) = []
 hunks_from names w n (line ∷ next ∷ lines) =
     (if prints_answer names w n line (event_of names line) then [] else difference_text Each (difference_at names w n line))
-    ++ hunks_from names (behind w (event_of names line)) (n + 1) (next ∷ lines)
+    ++ hunks_from names (following w (event_of names line)) (n + 1) (next ∷ lines)
 
 -- the first line that differs
 abbrev pub difference_of : Stopped → Difference

@@ -54,7 +54,7 @@ pub record Contrasts (shown : Shown) (c : Setup) (text : List ℕ) (verdict : Ve
   pub records : List Record
   pub prints : PrintsWithin c.names text records
   pub judged : verdict ≡ verdict_of (differences c records)
-  pub told : lines ≡ differences_text shown (shown_of shown (differences c records))
+  pub report : lines ≡ differences_text shown (shown_of shown (differences c records))
 
 -- lines, from line n on, in which those that differ are replaced by the machine's own, as patch does
 abbrev pub patched_from : ℕ → List Difference → List (List ℕ) → List (List ℕ)

@@ -11,10 +11,10 @@ use Rattle.fmp_names.specs.Names.{NameLists}
 use Rattle.fmp_trace.specs.Heads.{event_of}
 use Rattle.fmp_trace.specs.Lines.{core_text}
 
--- the state behind the event that a line tells, if it tells any
-abbrev pub behind : State → Option Event → State
-behind w None = w
-behind w (Some e) = (step numbered w e).0
+-- the state after the event that a line tells, if it tells any
+abbrev pub following : State → Option Event → State
+following w None = w
+following w (Some e) = (step numbered w e).0
 
 -- the machine's own line n where that one tells an event, and else nothing
 abbrev pub own_core : NameLists → State → ℕ → Option Event → List ℕ
@@ -26,7 +26,7 @@ abbrev pub prints_answer : NameLists → State → ℕ → List ℕ → Option E
 prints_answer names w n line None = false
 prints_answer names w n line (Some e) = bytes_eq (core_text names n (step numbered w e).1) line
 
--- a line that is not the machine's own, that one, the state behind its event, and the lines that follow
+-- a line that is not the machine's own, that one, the state after its event, and the lines that follow
 pub record Stopped : Type 0 where
   pub number : ℕ
   pub line : List ℕ
@@ -40,14 +40,14 @@ seen n line own w rest = record { number = n; line = line; own = own; state = w;
 
 -- line n with the event that it tells and the lines that follow
 abbrev pub stopped : NameLists → State → ℕ → List ℕ → Option Event → List (List ℕ) → Stopped
-stopped names w n line e rest = seen n line (own_core names w n e) (behind w e) rest
+stopped names w n line e rest = seen n line (own_core names w n e) (following w e) rest
 
 -- the first of the lines from line n on that is not the machine's own. The last line has no line feed
 unfoldable pub stop_from : NameLists → State → ℕ → List (List ℕ) → Option Stopped
 stop_from names w n [] = None
 stop_from names w n (last ∷ []) = None
 stop_from names w n (line ∷ next ∷ lines) =
-    if prints_answer names w n line (event_of names line) then stop_from names (behind w (event_of names line)) (n + 1) (next ∷ lines)
+    if prints_answer names w n line (event_of names line) then stop_from names (following w (event_of names line)) (n + 1) (next ∷ lines)
     else Some (stopped names w n line (event_of names line) (next ∷ lines))
 
 -- the first line of a text that is not the machine's own

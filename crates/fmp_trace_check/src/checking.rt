@@ -25,7 +25,7 @@ pub enum Verdict {
     No(u32),
 }
 
-/// The verdict on a trace, while a watcher sees each event and the state behind it.
+/// The verdict on a trace, while a watcher sees each event and the state after it.
 #[tactic(auto, unfolding(crate::specs::Checking::checked))]
 fn verdict_on<W: Watcher>(
     alloc: Global,
@@ -42,7 +42,7 @@ fn verdict_on<W: Watcher>(
     }
 }
 
-/// Checks a trace as `check` does, while a watcher sees each event and the state behind it. Of a trace that is not the machine's own
+/// Checks a trace as `check` does, while a watcher sees each event and the state after it. Of a trace that is not the machine's own
 /// it saw the events before the first line that differs.
 pub fn check_watched<W: Watcher>(
     alloc: Global,

@@ -23,7 +23,7 @@ use std::alloc::{AllocError, Global};
 /// Which of the lines that differ are shown, and how.
 #[derive(Clone, Copy)]
 pub enum Shown {
-    /// The first one: what stands there behind `- `, and the machine's own line behind `+ `.
+    /// The first one: what stands there after `- `, and the machine's own line after `+ `.
     First,
     /// Each of them, as a hunk of a unified diff.
     Each,
@@ -38,7 +38,7 @@ pub struct Comparison {
     pub lines: Vec<u8>,
 }
 
-/// Adds a line of a trace behind `- `, and the machine's own line behind `+ `.
+/// Adds a line of a trace after `- `, and the machine's own line after `+ `.
 fn put_pair(out: &mut Vec<u8>, line: &[u8], own: &[u8]) -> Result<(), AllocError>
     ensures { OnOk result (out.new.items ≡ out.old.items ++ difference_text Shown.First (record { number = 0; line = line.now; own = own.now })) }
 {
@@ -76,7 +76,7 @@ fn put_hunk(out: &mut Vec<u8>, n: u32, line: &[u8], own: &[u8]) -> Result<(), Al
     Ok(())
 }
 
-/// Adds a hunk for each line of a text that is not the machine's own. The text begins behind line n.
+/// Adds a hunk for each line of a text that is not the machine's own. The text begins after line n.
 fn put_hunks(
     out: &mut Vec<u8>,
     player: &mut Player,
@@ -85,6 +85,7 @@ fn put_hunks(
     text: &[u8],
 ) -> Result<(), AllocError>
     requires steps { player.old.plain.steps ≤ n }
+    requires count { player.old.count ≡ n }
     requires left { n + length text.now ≤ most_bytes }
     ensures { OnOk result (out.new.items ≡ out.old.items ++ spec.hunks_from names.now player.old.plain.state (n + 1) (pieces_of 10 text.now)) }
 {
@@ -103,6 +104,7 @@ fn put_hunks(
 /// Adds what is shown of lines that differ, where this is the first of them.
 fn put_shown(out: &mut Vec<u8>, shown: Shown, names: &Names, stop: Stop) -> Result<(), AllocError>
     requires steps { stop.player.plain.steps ≤ stop.number }
+    requires count { stop.player.count ≡ stop.number }
     requires left { stop.number + length stop.rest.now ≤ most_bytes }
     ensures { OnOk result (out.new.items ≡ out.old.items
         ++ spec.shown_from shown names.now

@@ -8,26 +8,28 @@ ghost use Rattle.fmp_law_safety.specs.Safe.{Safe};
 ghost use Rattle.fmp_text.specs.Limits.{most_bytes};
 ghost use Rattle.fmp_trace_check.specs.Walking as spec;
 ghost use Rattle.fmp_trace_check.specs.Watching.{watched_in};
-ghost use Rattle.fmp_trace.specs.Heads.{event_of as event_told};
+ghost use Rattle.fmp_trace.specs.Heads.{event_of as event_reported};
 ghost use Rattle.fmp_trace.specs.Reading.{Passes, records_from, records_in};
 
+use crate::report::tell_event;
 use crate::same::is_same;
-use crate::told::tell_event;
 use crate::watching::Watcher;
 use fmp_codes::{Answer, Event, Proc, Record};
 use fmp_plain::Plain;
 use fmp_rules::Config;
 use fmp_text::{MOST_BYTES, MOST_EVENTS, Names, TextFault, TextKind};
 use fmp_trace::{next_line, validate_from};
-use fmp_trace_buffer::{LineBuffer, line_is_short};
+use fmp_trace_buffer::{Count, LineBuffer, line_is_short};
 use std::alloc::{AllocError, Global};
 
 /// A plain machine that plays the events of lines.
 #[derive(Drop)]
 pub(crate) struct Player {
     plain: Plain,
+    /// The number of the line that was played last.
+    count: Count,
     /// What it answered last.
-    told: Record,
+    report: Record,
     /// Its own line, without its line feed, in the place of the line that was played last.
     pub(crate) own: LineBuffer,
 }
@@ -37,31 +39,37 @@ impl Player {
     fn boot(alloc: Global, config: &Config) -> Result<Player, AllocError>
         ensures state { IfOk result (λ player. player.plain ≡ record { state = booted config.now; steps = 0 }) }
         ensures safe { IfOk result (λ player. Safe numbered player.plain.state) }
+        ensures count { IfOk result (λ player. player.count ≡ 0) }
     {
         Ok(Player {
             plain: Plain::boot(config)?,
-            told: Record::answer(Event::Tick(Proc::new(1)), None, Answer::Nothing),
+            count: Count::new(),
+            report: Record::answer(Event::Tick(Proc::new(1)), None, Answer::Nothing),
             own: LineBuffer::new(alloc)?,
         })
     }
 
-    /// Plays the event that line n tells, if it tells any. Says whether the line prints the answer.
+    /// Plays the event that line n tells, if it tells any. Says whether the line prints the answer. The line that was played last is
+    /// the one before.
     pub(crate) fn play(&mut self, names: &Names, n: u32, line: &[u8]) -> bool
-        requires { self.old.plain.steps < 4294967295 }
-        ensures same { result ≡ spec.prints_answer names.now self.old.plain.state n line.now (event_told names.now line.now) }
-        ensures own { self.new.own ≡ spec.own_core names.now self.old.plain.state n (event_told names.now line.now) }
-        ensures told { result ≡ true → event_told names.now line.now ≡ Some self.new.told.event }
-        ensures answer { result ≡ true → self.new.told ≡ (step numbered self.old.plain.state self.new.told.event).1 }
-        ensures state { self.new.plain.state ≡ spec.behind self.old.plain.state (event_told names.now line.now) }
+        requires steps { self.old.plain.steps < 4294967295 }
+        requires count { self.old.count + 1 ≡ n }
+        ensures same { result ≡ spec.prints_answer names.now self.old.plain.state n line.now (event_reported names.now line.now) }
+        ensures own { self.new.own ≡ spec.own_core names.now self.old.plain.state n (event_reported names.now line.now) }
+        ensures report { result ≡ true → event_reported names.now line.now ≡ Some self.new.report.event }
+        ensures answer { result ≡ true → self.new.report ≡ (step numbered self.old.plain.state self.new.report.event).1 }
+        ensures state { self.new.plain.state ≡ spec.following self.old.plain.state (event_reported names.now line.now) }
         ensures steps { self.new.plain.steps ≤ self.old.plain.steps + 1 }
+        ensures count { self.new.count ≡ n }
     {
         self.own.clear();
-        if !tell_event(names, line, &mut self.told.event) {
+        self.count.increase();
+        if !tell_event(names, line, &mut self.report.event) {
             return false;
         }
-        self.plain.step_told(&mut self.told);
-        line_is_short(names, &self.told);
-        self.own.put_core(names, n, &self.told);
+        self.plain.step_recorded(&mut self.report);
+        line_is_short(names, &self.report);
+        self.own.put_core(names, &self.count, &self.report);
         is_same(self.own.as_slice(), line)
     }
 }
@@ -88,6 +96,7 @@ fn walk_within<'a, W: Watcher>(
         ≡ spec.stop_in config.now text.now) }
     ensures watched { IfOk result (λ stop. stop ≡ None → watcher.new ≡ watched_in W.watched config.now text.now watcher.old) }
     ensures steps { IfOk result (λ stop. IfSome stop (λ s. s.player.plain.steps ≤ s.number)) }
+    ensures count { IfOk result (λ stop. IfSome stop (λ s. s.player.count ≡ s.number)) }
     ensures left { IfOk result (λ stop. IfSome stop (λ s. s.number + length s.rest.now ≤ most_bytes)) }
 {
     let names = config.names();
@@ -106,7 +115,7 @@ fn walk_within<'a, W: Watcher>(
                 rest: after,
             }));
         }
-        watcher.watch(names, number, &player.told, player.plain.machine())?;
+        watcher.watch(names, number, &player.report, player.plain.machine())?;
         number += 1;
         rest = after;
     }
@@ -128,6 +137,7 @@ pub(crate) fn walk<'a, W: Watcher>(
         ≡ spec.stop_in config.now text.now) }
     ensures watched { IfOk result (λ stop. stop ≡ None → watcher.new ≡ watched_in W.watched config.now text.now watcher.old) }
     ensures steps { IfOk result (λ stop. IfSome stop (λ s. s.player.plain.steps ≤ s.number)) }
+    ensures count { IfOk result (λ stop. IfSome stop (λ s. s.player.count ≡ s.number)) }
     ensures left { IfOk result (λ stop. IfSome stop (λ s. s.number + length s.rest.now ≤ most_bytes)) }
 {
     if text.len() > MOST_BYTES {

@@ -14,15 +14,15 @@ pub trait Watcher {
     // What it is once it saw the nth event, of which this record tells, and which led to this state.
     ghost watched: { Self → NameLists → ℕ → AnyRecord → State → Self };
 
-    /// Sees what event n did, behind which the machine stands now.
+    /// Sees what event n did, after which the machine stands now.
     fn watch(
         &mut self,
         names: &Names,
         n: u32,
-        told: &Record,
+        report: &Record,
         machine: &PlainMachine,
     ) -> Result<(), AllocError>
-        ensures { OnOk result (self.new ≡ watched self.old names.now n told.now machine.now) };
+        ensures { OnOk result (self.new ≡ watched self.old names.now n report.now machine.now) };
 }
 
 /// Sees nothing.
@@ -36,7 +36,7 @@ impl Watcher for Nobody {
         &mut self,
         _names: &Names,
         _n: u32,
-        _told: &Record,
+        _report: &Record,
         _machine: &PlainMachine,
     ) -> Result<(), AllocError> {
         Ok(())

@@ -43,8 +43,8 @@ abbrev events_of : List Record → List Event
 events_of rs = map (λ r. r.event) rs
 
 -- the answers in state w to the events of what is said
-abbrev told : State → List Said → List Record
-told w ss = answers numbered w (events_of (entries ss))
+abbrev report : State → List Said → List Record
+report w ss = answers numbered w (events_of (entries ss))
 
 -- ---- the verdict on what lines say
 
@@ -74,9 +74,9 @@ Outcome names n text own Yes = PartlyPrintsFrom names n text own
 Outcome names n text own (No k) = IsOtherFrom names n text own k
 
 -- one line more in front, which partly prints its record
-outcome_behind : (names : NameLists) (n : ℕ) (text line rest : List ℕ) (r : Record) (own : List Record) (v : Verdict) → BeginsWith text line rest → PartlyPrints names n line r → Outcome names (n + 1) rest own v → Outcome names n text (r ∷ own) v
-outcome_behind names n text line rest r own Yes begins here more = (line, rest, begins, here, more)
-outcome_behind names n text line rest r own (No k) begins here more =
+outcome_after : (names : NameLists) (n : ℕ) (text line rest : List ℕ) (r : Record) (own : List Record) (v : Verdict) → BeginsWith text line rest → PartlyPrints names n line r → Outcome names (n + 1) rest own v → Outcome names n text (r ∷ own) v
+outcome_after names n text line rest r own Yes begins here more = (line, rest, begins, here, more)
+outcome_after names n text line rest r own (No k) begins here more =
     let follows = more.parts in let own_is = more.answers_are in
     record {
       before = r ∷ more.before;
@@ -94,22 +94,22 @@ outcome_behind names n text line rest r own (No k) begins here more =
       other = more.other;
     }
 
-outcome_told : (names : NameLists) (w : State) (n : ℕ) (text : List ℕ) (ss : List Said) → AreValid names → n + length ss < 2 ^ 64 → SaysFrom names n text ss → AllFit names (told w ss) → Outcome names n text (told w ss) (verdict_from names Yes w n ss)
-outcome_told names w n text [] valid few says fit = says
-outcome_told names w n text (s ∷ ss) valid few (line, rest, begins, here, others) fit =
+outcome_reported : (names : NameLists) (w : State) (n : ℕ) (text : List ℕ) (ss : List Said) → AreValid names → n + length ss < 2 ^ 64 → SaysFrom names n text ss → AllFit names (report w ss) → Outcome names n text (report w ss) (verdict_from names Yes w n ss)
+outcome_reported names w n text [] valid few says fit = says
+outcome_reported names w n text (s ∷ ss) valid few (line, rest, begins, here, others) fit =
     let answer : Record = (step numbered w s.entry.event).1 in
     let after : State = (step numbered w s.entry.event).0 in
     let small : n < 2 ^ 64 = omega (arith, few) in
     elim (cases_Bool (bytes_eq (kept_text names n s.kept answer) (kept_text names n s.kept s.entry))) [
       | inl t ↦
           let printed : PartlyPrints names n line answer = record { kept = s.kept; printed = here.printed ∙ sym ((bytes_eq-Decides (kept_text names n s.kept answer) (kept_text names n s.kept s.entry)).0 t); fits = fit.0 } in
-          rw t (outcome_behind names n text line rest answer (told after ss) (verdict_from names Yes after (n + 1) ss) begins printed (outcome_told names after (n + 1) rest ss valid (omega (arith, few)) others fit.1))
+          rw t (outcome_after names n text line rest answer (report after ss) (verdict_from names Yes after (n + 1) ss) begins printed (outcome_reported names after (n + 1) rest ss valid (omega (arith, few)) others fit.1))
       | inr f ↦
           let stay = stays names n after (n + 1) ss in
           rw (f, stay) (record {
             before = [];
             answer = answer;
-            later = told after ss;
+            later = report after ss;
             lines = [];
             from = text;
             line = line;
@@ -133,9 +133,9 @@ own_is_yes names w n (e ∷ events) (s ∷ ss) ((kept, is), more) =
     let event : s.entry.event ≡ e = ap (λ (x : Said). x.entry.event) is ∙ step_event w e in
     let printed : kept_text names n s.kept answer ≡ kept_text names n s.kept s.entry =
     ap (λ (x : Said). kept_text names n x.kept answer) is ∙ said_whole names n kept answer ∙ sym (said_again names n kept answer) ∙ ap (λ (x : Said). kept_text names n x.kept x.entry) (sym is) in
-    let told_same : kept_text names n s.kept (step numbered w s.entry.event).1 ≡ kept_text names n s.kept s.entry =
+    let report_same : kept_text names n s.kept (step numbered w s.entry.event).1 ≡ kept_text names n s.kept s.entry =
     ap (λ (x : Event). kept_text names n s.kept (step numbered w x).1) event ∙ printed in
-    let test = (bytes_eq-Decides (kept_text names n s.kept (step numbered w s.entry.event).1) (kept_text names n s.kept s.entry)).1 told_same in
+    let test = (bytes_eq-Decides (kept_text names n s.kept (step numbered w s.entry.event).1) (kept_text names n s.kept s.entry)).1 report_same in
     let rest : verdict_from names Yes (step numbered w s.entry.event).0 (n + 1) ss ≡ Yes =
     subst (λ (x : Event). verdict_from names Yes (step numbered w x).0 (n + 1) ss ≡ Yes) (sym event) (own_is_yes names (step numbered w e).0 (n + 1) events ss more) in
     rw test rest
@@ -152,7 +152,7 @@ in_bits : (names : NameLists) (n : ℕ) (text : List ℕ) (ss : List Said) → S
 in_bits names n text [] says = All-nil EventInBits
 in_bits names n text (s ∷ ss) (line, rest, begins, here, others) = All-cons EventInBits s.entry.event (events_of (entries ss)) here.fits.event (in_bits names (n + 1) rest ss others)
 
-compares : (c : Setup) (text : List ℕ) (ss : List Said) (v : Verdict) → Outcome c.names 1 text (told (booted c) ss) v → Compares c text (entries ss) v
+compares : (c : Setup) (text : List ℕ) (ss : List Said) (v : Verdict) → Outcome c.names 1 text (report (booted c) ss) v → Compares c text (entries ss) v
 compares c text ss Yes known = known
 compares c text ss (No k) known = record {
   before = known.before;
@@ -186,7 +186,7 @@ verdict_judges c text v valid names_valid e =
     record {
       records = entries p.0;
       prints = record { prints = says_prints c.names 1 text p.0 says.says; few = omega (arith, few, long); short = says.short };
-      compares = compares c text p.0 v (subst (Outcome c.names 1 text (told (booted c) p.0)) same (outcome_told c.names (booted c) 1 text p.0 names_valid (omega (arith, few)) says.says fit));
+      compares = compares c text p.0 v (subst (Outcome c.names 1 text (report (booted c) p.0)) same (outcome_reported c.names (booted c) 1 text p.0 names_valid (omega (arith, few)) says.says fit));
     }
 
 -- a fault of judging is one of reading

@@ -16,20 +16,20 @@ use Rattle.fmp_trace_partial.specs.Saying.{said_from, said_in}
 use Rattle.fmp_trace_partial.specs.declared.telling.Said.{Said}
 
 -- the machine plays the event of a line until one differs
-abbrev pub state_behind : Verdict → State → Said → State
-state_behind Yes w s = (step numbered w s.entry.event).0
-state_behind (No k) w s = w
+abbrev pub state_after : Verdict → State → Said → State
+state_after Yes w s = (step numbered w s.entry.event).0
+state_after (No k) w s = w
 
 -- line n is what is printed of the machine's answer where as much is left out
-abbrev pub verdict_behind : NameLists → Verdict → State → ℕ → Said → List ℕ → Verdict
-verdict_behind names Yes w n s line = if bytes_eq (kept_text names n s.kept (step numbered w s.entry.event).1) line then Yes else No n
-verdict_behind names (No k) w n s line = No k
+abbrev pub verdict_after : NameLists → Verdict → State → ℕ → Said → List ℕ → Verdict
+verdict_after names Yes w n s line = if bytes_eq (kept_text names n s.kept (step numbered w s.entry.event).1) line then Yes else No n
+verdict_after names (No k) w n s line = No k
 
--- the verdict behind lines, of which the first is line n
+-- the verdict after lines, of which the first is line n
 abbrev pub verdict_from : NameLists → Verdict → State → ℕ → List Said → Verdict
 verdict_from names v w n [] = v
 verdict_from names v w n (s ∷ ss) =
-    verdict_from names (verdict_behind names v w n s (kept_text names n s.kept s.entry)) (state_behind v w s) (n + 1) ss
+    verdict_from names (verdict_after names v w n s (kept_text names n s.kept s.entry)) (state_after v w s) (n + 1) ss
 
 -- the same, where they were read without a fault
 abbrev pub verdict_of : NameLists → Verdict → State → ℕ → Result (List Said) TextFault → Result Verdict TextFault

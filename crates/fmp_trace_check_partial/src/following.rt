@@ -25,7 +25,7 @@ use std::alloc::{AllocError, Global};
 struct Follower {
     plain: Plain,
     /// What it answered last.
-    told: Record,
+    report: Record,
     /// What is printed of that where as much is left out as in the line.
     own: Vec<u8>,
     /// The verdict on the lines so far.
@@ -40,7 +40,7 @@ impl Follower {
     {
         Ok(Follower {
             plain: Plain::boot(config)?,
-            told: Record::answer(Event::Tick(Proc::new(1)), None, Answer::Nothing),
+            report: Record::answer(Event::Tick(Proc::new(1)), None, Answer::Nothing),
             own: Vec::new(alloc),
             verdict: Verdict::Yes,
         })
@@ -49,16 +49,16 @@ impl Follower {
     /// Judges line n, which says this, unless one before it differs.
     fn follow(&mut self, names: &Names, n: u32, said: &Said, line: &[u8]) -> Result<(), AllocError>
         requires { self.old.plain.steps < 4294967295 }
-        ensures verdict { OnOk result (self.new.verdict ≡ spec.verdict_behind names.now self.old.verdict self.old.plain.state n said.now line.now) }
-        ensures state { self.new.plain.state ≡ spec.state_behind self.old.verdict self.old.plain.state said.now }
+        ensures verdict { OnOk result (self.new.verdict ≡ spec.verdict_after names.now self.old.verdict self.old.plain.state n said.now line.now) }
+        ensures state { self.new.plain.state ≡ spec.state_after self.old.verdict self.old.plain.state said.now }
         ensures steps { self.new.plain.steps ≤ self.old.plain.steps + 1 }
     {
         match self.verdict {
             Verdict::No(_) => Ok(()),
             Verdict::Yes => {
-                self.plain.step_into(said.entry.event, &mut self.told);
+                self.plain.step_into(said.entry.event, &mut self.report);
                 self.own.clear();
-                put_kept(&mut self.own, names, n, said.kept, &self.told)?;
+                put_kept(&mut self.own, names, n, said.kept, &self.report)?;
                 if self.own.as_slice() != line {
                     self.verdict = Verdict::No(n);
                 }
@@ -110,7 +110,7 @@ fn judge(alloc: Global, config: &Config, text: &[u8]) -> Result<Verdict, TextFau
 }
 
 /// Checks a partial trace against what the plain machine answers to its events. Each line may leave out its number, its runner
-/// and each field behind its answer: what is not written is not judged. It keeps no list of records.
+/// and each field after its answer: what is not written is not judged. It keeps no list of records.
 ///
 /// A fault is that of the first line that partly prints no record, wherever in the text it is: only a text without one has a
 /// verdict.

@@ -62,9 +62,9 @@ on_processor names p Happens rest most happens = record {
   parts = refl;
 }
 
--- the word of a tick or of an interrupt, with nothing behind it
+-- the word of a tick or of an interrupt, with nothing after it
 alone : (word : List ℕ) → IsAlone word word
-alone word = record { behind = []; behind_blank = refl; parts = sym (append-nil word) }
+alone word = record { following = []; after_blank = refl; parts = sym (append-nil word) }
 
 event_spelled : (names : NameLists) (e : Event) → AreValid names → (processor_of e).number ≤ names.processors → EventInBits e → SpellsEvent names (core names e) e
 event_spelled names (events.Tick p) valid on bits = on_processor names p (IsAlone (codes "tick")) (codes "tick") on (alone (codes "tick"))
@@ -79,13 +79,13 @@ core_apart names e valid on bits = other_than (is_of Line) 10 refl (core names e
 
 -- ---- its bytes: no more than the line of a trace has that tells nothing but the event
 
-abbrev told : Event → Record
-told e = answer_record e None answers.Nothing
+abbrev report : Event → Record
+report e = answer_record e None answers.Nothing
 
-told_fits : (names : NameLists) (e : Event) → (processor_of e).number ≤ names.processors → EventInBits e → FitsNames names (told e)
-told_fits names e on bits = record { processor = on; event = bits; runner = tt; answer = tt; releases = tt; few = omega arith; lost = tt; run_change = tt; requests = tt }
+report_fits : (names : NameLists) (e : Event) → (processor_of e).number ≤ names.processors → EventInBits e → FitsNames names (report e)
+report_fits names e on bits = record { processor = on; event = bits; runner = tt; answer = tt; releases = tt; few = omega arith; lost = tt; run_change = tt; requests = tt }
 
--- what stands before and behind the event there only makes it longer
+-- what stands before and after the event there only makes it longer
 shorter : (one digits text : List ℕ) → length (codes "P" ++ digits ++ codes " " ++ text ++ codes "\n")
     ≤ length ((one ++ codes " P" ++ digits ++ codes " " ++ codes "-" ++ codes " ") ++ text ++ codes " " ++ codes "none" ++ [] ++ codes "\n")
 shorter one digits text =
@@ -109,15 +109,15 @@ shorter one digits text =
       length-append one (codes " P"),
     )
 
-within_line : (names : NameLists) (e : Event) → length (event_line names e) ≤ length (line_text names 1 (told e))
+within_line : (names : NameLists) (e : Event) → length (event_line names e) ≤ length (line_text names 1 (report e))
 unfolding event_line line_text core_text head_text tail_text
 within_line names e = shorter (decimal 1) (decimal (processor_of e).number) (event_text names e)
 
 line_few : (names : NameLists) (e : Event) → AreValid names → (processor_of e).number ≤ names.processors → EventInBits e → length (event_line names e) ≤ 738
 line_few names e valid on bits =
-    let all = lines_few names valid 1 (told e ∷ []) (told_fits names e on bits, tt) in
-    let none : sum_by (λ (x : Record). length x.releases) (told e ∷ []) ≡ 0 = sum_by-cons (λ (x : Record). length x.releases) (told e) [] in
-    let whole : length (lines_from names 1 (told e ∷ [])) ≡ length (line_text names 1 (told e)) = ap (λ (l : List ℕ). length l) (append-nil (line_text names 1 (told e))) in
+    let all = lines_few names valid 1 (report e ∷ []) (report_fits names e on bits, tt) in
+    let none : sum_by (λ (x : Record). length x.releases) (report e ∷ []) ≡ 0 = sum_by-cons (λ (x : Record). length x.releases) (report e) [] in
+    let whole : length (lines_from names 1 (report e ∷ [])) ≡ length (line_text names 1 (report e)) = ap (λ (l : List ℕ). length l) (append-nil (line_text names 1 (report e))) in
     omega (arith, within_line names e, all, none, whole)
 
 -- ---- all lines
@@ -126,7 +126,7 @@ abbrev lines : NameLists → List Event → List (List ℕ)
 lines names [] = [] ∷ []
 lines names (e ∷ es) = core names e ∷ lines names es
 
--- a line feed stands behind each line
+-- a line feed stands after each line
 joined : (names : NameLists) (es : List Event) → event_lines names es ≡ join_with_byte 10 (lines names es)
 joined names [] = refl
 joined names (e ∷ []) = append-nil (event_line names e) ∙ line_is names e

@@ -10,9 +10,9 @@ use Rattle.fmp_codes.specs.declared.records.Record.{Record}
 use Rattle.fmp_codes.specs.declared.records.Release.{Release}
 use Rattle.fmp_codes.specs.declared.records.Runner.{Runner}
 use Rattle.fmp_bytes.specs.declared.classes.Class.TheVariants.{Argument}
-use Rattle.fmp_bytes.specs.Bytes.{is_of, behind}
+use Rattle.fmp_bytes.specs.Bytes.{is_of, following}
 use Rattle.fmp_bytes.proofs.Cutting.{cut_at-append}
-use Rattle.fmp_bytes.proofs.Spelled.{behind-same, list_all-digits}
+use Rattle.fmp_bytes.proofs.Spelled.{following-same, list_all-digits}
 use Rattle.fmp_names.specs.Names.{NameLists, AreValid}
 use Rattle.fmp_trace.specs.Fits.{RunnerFits, ReleasesFit, RunChangeFits, FitsNames}
 use Rattle.fmp_trace.specs.Guess.{guess_event, guess_runner}
@@ -25,7 +25,7 @@ use Rattle.fmp_trace_partial.specs.Partial.{part, number_text, runner_lead, kept
 use Rattle.fmp_trace_partial.specs.Said.{kept_of, guess_from, guess_on, guess_numbered, guess_said}
 use Rattle.fmp_trace_partial.specs.declared.kept.Kept.{Kept}
 use Rattle.fmp_trace_partial.specs.declared.telling.Said.{Said}
-use Rattle.fmp_trace_partial.proofs.RunnersTold.{runner_seen, none_seen}
+use Rattle.fmp_trace_partial.proofs.RunnersReported.{runner_seen, none_seen}
 
 -- what a line says that keeps this of a record
 abbrev pub said_of : Kept → Record → Said
@@ -143,16 +143,16 @@ module _ (names : NameLists) (r : Record) (valid : AreValid names) (fits : FitsN
         runner_guessed names r.runner valid fits.runner,
       ) (event_found (kept_by true kept))
 
-  -- what stands behind the letter of the processor
-  behind_letter : Kept → List ℕ
-  behind_letter kept = decimal (processor_of r.event).number ++ 32 ∷ (runner_lead names kept.runner r.runner ++ from_event names kept r)
+  -- what stands after the letter of the processor
+  after_letter : Kept → List ℕ
+  after_letter kept = decimal (processor_of r.event).number ++ 32 ∷ (runner_lead names kept.runner r.runner ++ from_event names kept r)
 
   abbrev IsFound : Kept → Type 0
-  IsFound kept = (number : Bool) → guess_on names number (behind_letter kept) ≡ Some (record { kept = kept_of number kept.runner (part kept r); entry = part kept r })
+  IsFound kept = (number : Bool) → guess_on names number (after_letter kept) ≡ Some (record { kept = kept_of number kept.runner (part kept r); entry = part kept r })
 
-  told_found : (kept : Kept) → IsFound (kept_by true kept)
-  unfolding guess_on guess_from behind_letter
-  told_found kept number =
+  report_found : (kept : Kept) → IsFound (kept_by true kept)
+  unfolding guess_on guess_from after_letter
+  report_found kept number =
       let event = from_event names (kept_by true kept) r in
       let lead : runner_lead names true r.runner ++ event ≡ runner_text names r.runner ++ 32 ∷ event = append_assoc (runner_text names r.runner) (32 ∷ []) event in
       let seen = runner_seen names r.runner r.event (answer_text r.answer ++ tail_text names (part (kept_by true kept) r)) valid fits.runner in
@@ -164,9 +164,9 @@ module _ (names : NameLists) (r : Record) (valid : AreValid names) (fits : FitsN
         runner_found kept,
       ) refl
 
-  untold_found : (kept : Kept) → IsFound (kept_by false kept)
-  unfolding guess_on guess_from behind_letter
-  untold_found kept number =
+  unreported_found : (kept : Kept) → IsFound (kept_by false kept)
+  unfolding guess_on guess_from after_letter
+  unreported_found kept number =
       let event = from_event names (kept_by false kept) r in
       let seen = none_seen names r.event r.answer (part (kept_by false kept) r) in
       rw (
@@ -177,33 +177,33 @@ module _ (names : NameLists) (r : Record) (valid : AreValid names) (fits : FitsN
       ) refl
 
   is_found : (runner : Bool) (kept : Kept) → IsFound (kept_by runner kept)
-  is_found true kept = told_found kept
-  is_found false kept = untold_found kept
+  is_found true kept = report_found kept
+  is_found false kept = unreported_found kept
 
   -- digits do not begin with the letter
-  no_letter : (digits rest : List ℕ) → 0 < length digits → list_all (λ b. is_digit b 10) digits ≡ true → behind 80 (digits ++ rest) ≡ None
-  unfolding behind
+  no_letter : (digits rest : List ℕ) → 0 < length digits → list_all (λ b. is_digit b 10) digits ≡ true → following 80 (digits ++ rest) ≡ None
+  unfolding following
   no_letter [] rest some all = absurd (omega (arith, some))
   no_letter (d ∷ digits) rest some all =
       let parts = and_parts (is_digit d 10) (list_all (λ b. is_digit b 10) digits) all in
       let other : eqb d 80 ≡ false = ne_eqb d 80 (λ e. false≢true (ap (λ b. is_digit b 10) (sym e) ∙ parts.0)) in
       rw other refl
 
-  kept_found : (number : Bool) (n : ℕ) (kept : Kept) → n < 2 ^ 64 → guess_said names (number_text number n ++ 80 ∷ behind_letter kept) ≡ Some (record { kept = kept_of number kept.runner (part kept r); entry = part kept r })
+  kept_found : (number : Bool) (n : ℕ) (kept : Kept) → n < 2 ^ 64 → guess_said names (number_text number n ++ 80 ∷ after_letter kept) ≡ Some (record { kept = kept_of number kept.runner (part kept r); entry = part kept r })
   unfolding guess_said guess_numbered
-  kept_found false n kept small = rw (behind-same 80 (behind_letter kept)) (is_found kept.runner kept false)
+  kept_found false n kept small = rw (following-same 80 (after_letter kept)) (is_found kept.runner kept false)
   kept_found true n kept small =
       let numeral = decimal_is_IsNumeral n small in
-      let text : number_text true n ++ 80 ∷ behind_letter kept ≡ decimal n ++ 32 ∷ (80 ∷ behind_letter kept) = append_assoc (decimal n) (32 ∷ []) (80 ∷ behind_letter kept) in
+      let text : number_text true n ++ 80 ∷ after_letter kept ≡ decimal n ++ 32 ∷ (80 ∷ after_letter kept) = append_assoc (decimal n) (32 ∷ []) (80 ∷ after_letter kept) in
       let apart : list_all (λ b. not (eqb b 32)) (decimal n) ≡ true = other_than (λ b. is_digit b 10) 32 refl (decimal n) (list_all-digits 10 (decimal n) numeral.0.1) in
       rw (
         text,
-        no_letter (decimal n) (32 ∷ (80 ∷ behind_letter kept)) numeral.0.0 (list_all-digits 10 (decimal n) numeral.0.1),
-        cut_at-append 32 (decimal n) (80 ∷ behind_letter kept) apart,
-        behind-same 80 (behind_letter kept),
+        no_letter (decimal n) (32 ∷ (80 ∷ after_letter kept)) numeral.0.0 (list_all-digits 10 (decimal n) numeral.0.1),
+        cut_at-append 32 (decimal n) (80 ∷ after_letter kept) apart,
+        following-same 80 (after_letter kept),
       ) (is_found kept.runner kept true)
 
   -- a line that keeps parts of a record is guessed to say them
   pub line_found : (n : ℕ) (kept : Kept) → n < 2 ^ 64 → guess_said names (kept_text names n kept r) ≡ Some (said_of kept r)
-  unfolding behind_letter
+  unfolding after_letter
   line_found n kept small = ap (guess_said names) (kept_laid names n kept r) ∙ kept_found kept.number n kept small

@@ -9,7 +9,7 @@ use Rattle.std.proofs.lemmas.List.{nil_from_length}
 use Rattle.fmp_codes.specs.declared.numbers.Proc.{Proc}
 use Rattle.fmp_codes.specs.declared.records.Record.{Record}
 use Rattle.fmp_bytes.specs.declared.classes.Class.TheVariants.{Printed}
-use Rattle.fmp_bytes.specs.Bytes.{is_of, behind, cut_at, pieces_of}
+use Rattle.fmp_bytes.specs.Bytes.{is_of, following, cut_at, pieces_of}
 use Rattle.fmp_bytes.proofs.Cutting.{pieces_of-cut, cut_at-append, join-pieces_of, some-pieces_of, apart-pieces_of}
 use Rattle.fmp_bytes.proofs.Parsed.{and_then_parts}
 use Rattle.fmp_bytes.specs.Results.{◌>>=◌}
@@ -29,7 +29,7 @@ use Rattle.fmp_trace.proofs.FittingParts.{processor_numbered-fits, runner_in-fit
 use Rattle.fmp_trace.proofs.Numbered.{first_piece}
 use Rattle.fmp_trace.proofs.ReadTexts.{too_long}
 use Rattle.fmp_trace_partial.specs.Partial.{kept_text}
-use Rattle.fmp_trace_partial.specs.Partly.{PartlyPrints, BeginsWith, PartlyPrintsFrom, PartlyPrintsWithin, LineFault, FaultAt, FaultBehind, FirstFault}
+use Rattle.fmp_trace_partial.specs.Partly.{PartlyPrints, BeginsWith, PartlyPrintsFrom, PartlyPrintsWithin, LineFault, FaultAt, FaultAfter, FirstFault}
 use Rattle.fmp_trace_partial.specs.Said.{tells_runner, guess_from, guess_on, guess_numbered, guess_line, guess_said}
 use Rattle.fmp_trace_partial.specs.Saying.{limited, confirmed, guessed, line_said, said_from, said_in}
 use Rattle.fmp_trace_partial.specs.declared.kept.Kept.{Kept}
@@ -61,12 +61,12 @@ unfolding guess_numbered
 guess_line-fits names line (Some digits) s valid h = guess_on-fits names false digits s valid h
 guess_line-fits names line None s valid h =
     let rest = and_then_parts (cut_at 32 line).1 _ s h in
-    let digits = and_then_parts (behind 80 rest.0) _ s rest.2 in
+    let digits = and_then_parts (following 80 rest.0) _ s rest.2 in
     guess_on-fits names true digits.0 s valid digits.2
 
 guess_said-fits : (names : NameLists) (line : List ℕ) (s : Said) → AreValid names → guess_said names line ≡ Some s → FitsNames names s.entry
 unfolding guess_said
-guess_said-fits names line s valid h = guess_line-fits names line (behind 80 line) s valid h
+guess_said-fits names line s valid h = guess_line-fits names line (following 80 line) s valid h
 
 -- ---- one line
 
@@ -105,13 +105,13 @@ unfolding limited
 limited_ok n s few = let test = le-ltb most_events n few in rw test refl
 
 -- what is known of how a line was read
-abbrev pub LineTold : NameLists → ℕ → List ℕ → Result Said TextKind → Type 0
-LineTold names n line (Ok s) = IsSaid names n line s × (n ≤ most_events)
-LineTold names n line (Err kind) = (kind ≢ CutShort) × LineFault names n line kind
+abbrev pub LineReported : NameLists → ℕ → List ℕ → Result Said TextKind → Type 0
+LineReported names n line (Ok s) = IsSaid names n line s × (n ≤ most_events)
+LineReported names n line (Err kind) = (kind ≢ CutShort) × LineFault names n line kind
 
-limited_told : (names : NameLists) (n : ℕ) (line : List ℕ) (s : Said) → IsSaid names n line s → LineTold names n line (limited n s)
+limited_reported : (names : NameLists) (n : ℕ) (line : List ℕ) (s : Said) → IsSaid names n line s → LineReported names n line (limited n s)
 unfolding limited
-limited_told names n line s said =
+limited_reported names n line s said =
     elim (cases_Bool (ltb most_events n)) [
       | inl t ↦ rw t ((λ e. absurd cc), (ltb-true most_events n t, (s.entry, said_prints names n line s said)))
       | inr f ↦ rw f (said, ltb-false most_events n f)
@@ -123,20 +123,20 @@ no_record names n line found valid small is_found wrong r prints =
     let right : found ≡ Some (said_of prints.kept r) = sym is_found ∙ printed_said names n line r valid small prints in
     wrong (said_of prints.kept r) right (said_again names n prints.kept r ∙ sym prints.printed)
 
-guessed_told : (names : NameLists) (n : ℕ) (line : List ℕ) (found : Option Said) → AreValid names → n < 2 ^ 64 → list_all (is_of Printed) line ≡ true → guess_said names line ≡ found → LineTold names n line (guessed names n line found)
+guessed_reported : (names : NameLists) (n : ℕ) (line : List ℕ) (found : Option Said) → AreValid names → n < 2 ^ 64 → list_all (is_of Printed) line ≡ true → guess_said names line ≡ found → LineReported names n line (guessed names n line found)
 unfolding confirmed
-guessed_told names n line None valid small printed is_found = ((λ e. absurd cc), (printed, no_record names n line None valid small is_found (λ s e h. absurd cc)))
-guessed_told names n line (Some g) valid small printed is_found =
+guessed_reported names n line None valid small printed is_found = ((λ e. absurd cc), (printed, no_record names n line None valid small is_found (λ s e h. absurd cc)))
+guessed_reported names n line (Some g) valid small printed is_found =
     elim (cases_Bool (bytes_eq (kept_text names n g.kept g.entry) line)) [
-      | inl t ↦ rw t (limited_told names n line g (record { printed = sym ((bytes_eq-Decides (kept_text names n g.kept g.entry) line).0 t); fits = guess_said-fits names line g valid is_found; guess = is_found }))
+      | inl t ↦ rw t (limited_reported names n line g (record { printed = sym ((bytes_eq-Decides (kept_text names n g.kept g.entry) line).0 t); fits = guess_said-fits names line g valid is_found; guess = is_found }))
       | inr f ↦ rw f ((λ e. absurd cc), (printed, no_record names n line (Some g) valid small is_found (λ s e h. let same : g ≡ s = cc in false≢true (sym f ∙ (bytes_eq-Decides (kept_text names n g.kept g.entry) line).1 (ap (λ (x : Said). kept_text names n x.kept x.entry) same ∙ h)))))
     ]
 
-pub line_told : (names : NameLists) (n : ℕ) (line : List ℕ) → AreValid names → n < 2 ^ 64 → LineTold names n line (line_said names n line)
+pub line_reported : (names : NameLists) (n : ℕ) (line : List ℕ) → AreValid names → n < 2 ^ 64 → LineReported names n line (line_said names n line)
 unfolding line_said
-line_told names n line valid small =
+line_reported names n line valid small =
     elim (cases_Bool (list_all (is_of Printed) line)) [
-      | inl t ↦ rw t (guessed_told names n line (guess_said names line) valid small t refl)
+      | inl t ↦ rw t (guessed_reported names n line (guess_said names line) valid small t refl)
       | inr f ↦ rw f ((λ e. absurd cc), f)
     ]
 
@@ -205,12 +205,12 @@ pub record FaultFrom (names : NameLists) (n : ℕ) (text : List ℕ) (fault : Te
   pub line : fault.line ≡ at
   pub here : FaultAt names at rest fault.kind
 
-abbrev pub Told : NameLists → ℕ → List ℕ → Result (List Said) TextFault → Type 0
-Told names n text (Ok ss) = SaysFrom names n text ss × (n + length ss ≤ most_events + 1)
-Told names n text (Err fault) = FaultFrom names n text fault
+abbrev pub Report : NameLists → ℕ → List ℕ → Result (List Said) TextFault → Type 0
+Report names n text (Ok ss) = SaysFrom names n text ss × (n + length ss ≤ most_events + 1)
+Report names n text (Err fault) = FaultFrom names n text fault
 
-last_told : (names : NameLists) (n : ℕ) (last : List ℕ) → n ≤ most_events + 1 → IsUnended last → Told names n last (cond (eqb (length last) 0) (Ok []) (Err (record { kind = CutShort; line = n })))
-last_told names n last few unended =
+last_reported : (names : NameLists) (n : ℕ) (last : List ℕ) → n ≤ most_events + 1 → IsUnended last → Report names n last (cond (eqb (length last) 0) (Ok []) (Err (record { kind = CutShort; line = n })))
+last_reported names n last few unended =
     elim (cases_Bool (eqb (length last) 0)) [
       | inl t ↦ rw t (nil_from_length last (eqb-true (length last) 0 t), omega (arith, few))
       | inr f ↦ rw f (record { before = []; lines = []; rest = last; at = n; parts = refl; prints = refl; is_at = omega arith; few = few; line = refl; here = (omega (arith, eqb-false (length last) 0 f), unended) })
@@ -231,15 +231,15 @@ module _ (names : NameLists) (n : ℕ) (line rest : List ℕ) (few : n ≤ most_
   begins : (after : List ℕ) → BeginsWith (line ++ 10 ∷ after) line after
   begins after = record { parts = refl; unended = unended }
 
-  step_told : (read : Result Said TextKind) (others : Result (List Said) TextFault) → LineTold names n line read → (n ≤ most_events → Told names (n + 1) rest others)
-      → Told names n (line ++ 10 ∷ rest) (at_line n read >>= λ s. others >>= λ list. Ok (s ∷ list))
-  step_told (Err kind) others told more =
-      record { before = []; lines = []; rest = line ++ 10 ∷ rest; at = n; parts = refl; prints = refl; is_at = omega arith; few = few; line = refl; here = fault_at names n (line ++ 10 ∷ rest) line rest kind (begins rest) told.0 told.1 }
-  step_told (Ok s) (Ok list) told more =
-      let next = more told.1 in
-      ((line, rest, begins rest, told.0, next.0), omega (arith, next.1))
-  step_told (Ok s) (Err fault) told more =
-      let next = more told.1 in
+  step_recorded : (read : Result Said TextKind) (others : Result (List Said) TextFault) → LineReported names n line read → (n ≤ most_events → Report names (n + 1) rest others)
+      → Report names n (line ++ 10 ∷ rest) (at_line n read >>= λ s. others >>= λ list. Ok (s ∷ list))
+  step_recorded (Err kind) others report more =
+      record { before = []; lines = []; rest = line ++ 10 ∷ rest; at = n; parts = refl; prints = refl; is_at = omega arith; few = few; line = refl; here = fault_at names n (line ++ 10 ∷ rest) line rest kind (begins rest) report.0 report.1 }
+  step_recorded (Ok s) (Ok list) report more =
+      let next = more report.1 in
+      ((line, rest, begins rest, report.0, next.0), omega (arith, next.1))
+  step_recorded (Ok s) (Err fault) report more =
+      let next = more report.1 in
       let follows = next.parts in
       record {
         before = s.entry ∷ next.before;
@@ -247,25 +247,25 @@ module _ (names : NameLists) (n : ℕ) (line rest : List ℕ) (few : n ≤ most_
         rest = next.rest;
         at = next.at;
         parts = ap (λ (t : List ℕ). line ++ 10 ∷ t) follows ∙ sym (append_assoc line (10 ∷ next.lines) next.rest);
-        prints = (line, next.lines, begins next.lines, said_prints names n line s told.0, next.prints);
+        prints = (line, next.lines, begins next.lines, said_prints names n line s report.0, next.prints);
         is_at = omega (arith, next.is_at);
         few = next.few;
         line = next.line;
         here = next.here;
       }
 
-lines_told : (names : NameLists) (n : ℕ) (lines : List (List ℕ)) → AreValid names → n ≤ most_events + 1 → 0 < length lines → list_all (list_all (λ b. not (eqb b 10))) lines ≡ true → Told names n (join_with_byte 10 lines) (said_from names n lines)
+lines_reported : (names : NameLists) (n : ℕ) (lines : List (List ℕ)) → AreValid names → n ≤ most_events + 1 → 0 < length lines → list_all (list_all (λ b. not (eqb b 10))) lines ≡ true → Report names n (join_with_byte 10 lines) (said_from names n lines)
 unfolding said_from
-lines_told names n [] valid few some apart = absurd (omega (arith, some))
-lines_told names n (last ∷ []) valid few some apart = last_told names n last few (and_parts (list_all (λ b. not (eqb b 10)) last) true apart).0
-lines_told names n (line ∷ next ∷ lines) valid few some apart =
+lines_reported names n [] valid few some apart = absurd (omega (arith, some))
+lines_reported names n (last ∷ []) valid few some apart = last_reported names n last few (and_parts (list_all (λ b. not (eqb b 10)) last) true apart).0
+lines_reported names n (line ∷ next ∷ lines) valid few some apart =
     let parts = and_parts (list_all (λ b. not (eqb b 10)) line) (list_all (list_all (λ b. not (eqb b 10))) (next ∷ lines)) apart in
-    step_told names n line (join_with_byte 10 (next ∷ lines)) few parts.0 (line_said names n line) (said_from names (n + 1) (next ∷ lines)) (line_told names n line valid (omega (arith, few)))
-    (λ within. lines_told names (n + 1) (next ∷ lines) valid (omega (arith, within)) (omega arith) parts.1)
+    step_recorded names n line (join_with_byte 10 (next ∷ lines)) few parts.0 (line_said names n line) (said_from names (n + 1) (next ∷ lines)) (line_reported names n line valid (omega (arith, few)))
+    (λ within. lines_reported names (n + 1) (next ∷ lines) valid (omega (arith, within)) (omega arith) parts.1)
 
-text_told : (names : NameLists) (text : List ℕ) → AreValid names → Told names 1 text (said_from names 1 (pieces_of 10 text))
-text_told names text valid =
-    subst (λ (t : List ℕ). Told names 1 t (said_from names 1 (pieces_of 10 text))) (join-pieces_of 10 text) (lines_told names 1 (pieces_of 10 text) valid (omega arith) (some-pieces_of 10 text) (apart-pieces_of 10 text))
+text_reported : (names : NameLists) (text : List ℕ) → AreValid names → Report names 1 text (said_from names 1 (pieces_of 10 text))
+text_reported names text valid =
+    subst (λ (t : List ℕ). Report names 1 t (said_from names 1 (pieces_of 10 text))) (join-pieces_of 10 text) (lines_reported names 1 (pieces_of 10 text) valid (omega arith) (some-pieces_of 10 text) (apart-pieces_of 10 text))
 
 -- ---- whole texts
 
@@ -279,8 +279,8 @@ pub read_says : (names : NameLists) (text : List ℕ) (ss : List Said) → AreVa
 unfolding said_in
 read_says names text ss valid e =
     let p = too_long (ltb most_bytes (length text)) (said_from names 1 (pieces_of 10 text)) _ ss e in
-    let told = subst (Told names 1 text) p.1 (text_told names text valid) in
-    record { says = told.0; few = omega (arith, told.1); short = ltb-false most_bytes (length text) p.0 }
+    let report = subst (Report names 1 text) p.1 (text_reported names text valid) in
+    record { says = report.0; few = omega (arith, report.1); short = ltb-false most_bytes (length text) p.0 }
 
 -- what is read of a whole text that partly prints records
 pub record IsReadWhole (names : NameLists) (text : List ℕ) (records : List Record) : Type 0 where
@@ -300,7 +300,7 @@ err_parts : (long : Bool) (read : Result (List Said) TextFault) (first fault : T
 err_parts true read first fault e = let same : first ≡ fault = cc in inl (refl, sym same)
 err_parts false read first fault e = inr (refl, e)
 
-from_first : (names : NameLists) (text : List ℕ) (fault : TextFault) → length text ≤ most_bytes → FaultFrom names 1 text fault → FaultBehind names text fault
+from_first : (names : NameLists) (text : List ℕ) (fault : TextFault) → length text ≤ most_bytes → FaultFrom names 1 text fault → FaultAfter names text fault
 from_first names text fault short f =
     let at : f.at ≡ length f.before + 1 = omega (arith, f.is_at) in
     let few = f.few in let here = f.here in
@@ -311,5 +311,5 @@ unfolding said_in
 fault_is_first names text fault valid e =
     elim (err_parts (ltb most_bytes (length text)) (said_from names 1 (pieces_of 10 text)) (record { kind = TooMany; line = 0 }) fault e) [
       | inl p ↦ inl (ltb-true most_bytes (length text) p.0, p.1)
-      | inr p ↦ inr (from_first names text fault (ltb-false most_bytes (length text) p.0) (subst (Told names 1 text) p.1 (text_told names text valid)))
+      | inr p ↦ inr (from_first names text fault (ltb-false most_bytes (length text) p.0) (subst (Report names 1 text) p.1 (text_reported names text valid)))
     ]

@@ -22,9 +22,9 @@ whole_text : (names : NameLists) (n : ℕ) (r : Record) → AreValid names → F
 unfolding whole rest_text
 whole_text names n r valid fits =
     let event : List ℕ = event_text names r.event ++ 32 ∷ (answer_text r.answer ++ tail_text names r) in
-    let behind : List ℕ = decimal (processor_of r.event).number ++ 32 ∷ (runner_text names r.runner ++ 32 ∷ event) in
+    let following : List ℕ = decimal (processor_of r.event).number ++ 32 ∷ (runner_text names r.runner ++ 32 ∷ event) in
     let lead : (runner_text names r.runner ++ 32 ∷ []) ++ event ≡ runner_text names r.runner ++ 32 ∷ event = append_assoc (runner_text names r.runner) (32 ∷ []) event in
-    let number : (decimal n ++ 32 ∷ []) ++ 80 ∷ behind ≡ decimal n ++ 32 ∷ (80 ∷ behind) = append_assoc (decimal n) (32 ∷ []) (80 ∷ behind) in
+    let number : (decimal n ++ 32 ∷ []) ++ 80 ∷ following ≡ decimal n ++ 32 ∷ (80 ∷ following) = append_assoc (decimal n) (32 ∷ []) (80 ∷ following) in
     kept_laid names n whole r
     ∙ ap (λ (text : List ℕ). (decimal n ++ 32 ∷ []) ++ 80 ∷ (decimal (processor_of r.event).number ++ 32 ∷ text)) lead
     ∙ number

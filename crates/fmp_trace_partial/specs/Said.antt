@@ -5,7 +5,7 @@ use Rattle.std.specs.Str.{bytes_eq}
 use Rattle.fmp_codes.specs.declared.numbers.Proc.{Proc}
 use Rattle.fmp_codes.specs.declared.records.Record.{Record}
 use Rattle.fmp_bytes.specs.declared.classes.Class.TheVariants.{Word}
-use Rattle.fmp_bytes.specs.Bytes.{prefix, after, behind, cut_at, letter_p, open_parenthesis, space}
+use Rattle.fmp_bytes.specs.Bytes.{prefix, after, following, cut_at, letter_p, open_parenthesis, space}
 use Rattle.fmp_text.specs.Argument.{◌>>=◌}
 use Rattle.fmp_text.specs.Lines.{processor_numbered}
 use Rattle.fmp_names.specs.Names.{NameLists}
@@ -17,14 +17,14 @@ use Rattle.fmp_trace_partial.specs.declared.telling.Said.{Said}
 
 -- the text begins with a word and a parenthesis
 unfoldable pub opens : List ℕ → Bool
-opens text = is_some (behind open_parenthesis (after Word text))
+opens text = is_some (following open_parenthesis (after Word text))
 
 -- the text begins with an event: a call, or one of the three words that are events
 unfoldable pub begins_event : List ℕ → Bool
 begins_event text = opens text ||
     (bytes_eq (prefix Word text) (codes "tick") || (bytes_eq (prefix Word text) (codes "ipi") || bytes_eq (prefix Word text) (codes "ret_hdr")))
 
--- what stands behind the processor begins with a runner: it is no call, and an event follows its first word
+-- what stands after the processor begins with a runner: it is no call, and an event follows its first word
 unfoldable pub tells_runner : List ℕ → Bool
 tells_runner text = not (opens text) && option_map_or begins_event (cut_at space text).1 false
 
@@ -56,7 +56,7 @@ guess_on names number digits = do
 unfoldable pub guess_numbered : NameLists → List ℕ → Option Said
 guess_numbered names line = do
   rest ← (cut_at space line).1
-  digits ← behind letter_p rest
+  digits ← following letter_p rest
   guess_on names true digits
 
 abbrev pub guess_line : NameLists → List ℕ → Option (List ℕ) → Option Said
@@ -65,4 +65,4 @@ guess_line names line (Some digits) = guess_on names false digits
 
 -- what a line says, whatever its number
 unfoldable pub guess_said : NameLists → List ℕ → Option Said
-guess_said names line = guess_line names line (behind letter_p line)
+guess_said names line = guess_line names line (following letter_p line)

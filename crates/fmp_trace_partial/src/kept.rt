@@ -105,7 +105,7 @@ fn put_kept_requests(out: &mut Vec<u8>, kept: bool, requests: &Requests) -> Resu
     Ok(())
 }
 
-/// Adds what is kept behind the answer.
+/// Adds what is kept after the answer.
 #[tactic(auto, unfolding(fmp_trace::specs::Lines::tail_text))]
 fn put_kept_tail(
     out: &mut Vec<u8>,

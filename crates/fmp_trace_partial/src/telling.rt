@@ -7,7 +7,7 @@ ghost use Rattle.fmp_trace_partial.specs.Said as spec;
 ghost use Rattle.fmp_trace_partial.specs.Saying as saying;
 
 use crate::kept::{Kept, put_kept};
-use fmp_bytes::{Class, all_of, behind, cut, split_prefix};
+use fmp_bytes::{Class, all_of, cut, following, split_prefix};
 use fmp_codes::{Proc, Record};
 use fmp_text::{MOST_EVENTS, Names, TextFault, TextKind, processor_numbered};
 use fmp_trace::{guess_event, guess_runner};
@@ -28,7 +28,7 @@ fn opens(text: &[u8]) -> bool
     ensures { result ≡ spec.opens text.now }
 {
     let (_, rest) = split_prefix(Class::Word, text);
-    behind(b'(', rest).is_some()
+    following(b'(', rest).is_some()
 }
 
 /// Whether a text begins with an event.
@@ -43,7 +43,7 @@ fn begins_event(text: &[u8]) -> bool
         || word == b"ret_hdr".as_slice()
 }
 
-/// Whether what stands behind the processor begins with a runner.
+/// Whether what stands after the processor begins with a runner.
 #[tactic(auto, unfolding(crate::specs::Said::tells_runner))]
 fn tells_runner(text: &[u8]) -> bool
     ensures { result ≡ spec.tells_runner text.now }
@@ -71,7 +71,7 @@ fn kept_of(number: bool, runner: bool, entry: &Record) -> Kept
     }
 }
 
-/// The record that a line prints behind its processor, from its runner on or from its event on.
+/// The record that a line prints after its processor, from its runner on or from its event on.
 #[tactic(auto, unfolding(crate::specs::Said::guess_from))]
 fn guess_from(names: &Names, runner: bool, p: Proc, text: &[u8]) -> Option<Record>
     ensures { result ≡ spec.guess_from names.now runner p text.now }
@@ -105,7 +105,7 @@ fn guess_numbered(names: &Names, line: &[u8]) -> Option<Said>
     ensures { result ≡ spec.guess_numbered names.now line.now }
 {
     let (_, rest) = cut(b' ', line);
-    guess_on(names, true, behind(b'P', rest?)?)
+    guess_on(names, true, following(b'P', rest?)?)
 }
 
 /// What a line says, if anything. Its number is left aside.
@@ -113,7 +113,7 @@ fn guess_numbered(names: &Names, line: &[u8]) -> Option<Said>
 fn guess_said(names: &Names, line: &[u8]) -> Option<Said>
     ensures { result ≡ spec.guess_said names.now line.now }
 {
-    match behind(b'P', line) {
+    match following(b'P', line) {
         Some(digits) => guess_on(names, false, digits),
         None => guess_numbered(names, line),
     }

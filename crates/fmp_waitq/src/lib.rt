@@ -68,10 +68,10 @@ impl WaitQueue {
             }
             Order::Priority => {
                 let rank = priority.number;
-                let behind = spot(&self.tasks, &self.ranks, rank);
+                let following = spot(&self.tasks, &self.ranks, rank);
                 self.ranks[task.index()] = rank;
-                match behind {
-                    Some(behind) => self.tasks.insert_before(behind, task),
+                match following {
+                    Some(following) => self.tasks.insert_before(following, task),
                     None => self.tasks.push_last(task),
                 }
             }
@@ -140,13 +140,17 @@ impl Part for WaitQueue {
     ghost fits = { λ a b. Unit {0} };
 
     fn is_same(&self, other: &Self) -> bool {
-        self.order == other.order && self.tasks.is_same(&other.tasks) && self.ranks == other.ranks
+        self.order == other.order
+            && (self.tasks.are_empty(&other.tasks)
+                || self.tasks.is_same(&other.tasks) && self.ranks == other.ranks)
     }
 
     fn copy_from(&mut self, other: &Self) {
         self.order = other.order;
-        self.tasks.copy_from(&other.tasks);
-        self.ranks = other.ranks;
+        if !self.tasks.are_empty(&other.tasks) {
+            self.tasks.copy_from(&other.tasks);
+            self.ranks = other.ranks;
+        }
     }
 
     /// Adds the tasks, which tell their ranks.

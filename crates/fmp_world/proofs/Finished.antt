@@ -22,30 +22,30 @@ use Rattle.fmp_world.proofs.Bits.{events_fit}
 use Rattle.fmp_world.specs.Views.{ClockSeat, History, Seat}
 use Rattle.fmp_world.proofs.Found.{no_seat}
 
-abbrev told_in : Seat → List Receipt
-told_in s = s.receipts
+abbrev report_in : Seat → List Receipt
+report_in s = s.receipts
 
 seam : (xs : List (List Receipt)) (x : List Receipt) (n : ℕ) → length xs ≡ n → slice_index_or (xs ++ x ∷ []) n [] ≡ x
 seam xs x n is = rw (sym is) (get_or-append_seam xs x [] [])
 
-receipts_are : (n : ℕ) (cpus : List Seat) (clock : ClockSeat) (h : List Record) → AreSeats n cpus clock h → AreReceipts n (map told_in cpus ++ clock.receipts ∷ []) h
+receipts_are : (n : ℕ) (cpus : List Seat) (clock : ClockSeat) (h : List Record) → AreSeats n cpus clock h → AreReceipts n (map report_in cpus ++ clock.receipts ∷ []) h
 receipts_are n cpus clock h seats =
-    let len : length (map told_in cpus) ≡ n = simp length-map seats.count in
+    let len : length (map report_in cpus) ≡ n = simp length-map seats.count in
     record {
-      count = omega (arith, length-append (map told_in cpus) (clock.receipts ∷ []));
+      count = omega (arith, length-append (map report_in cpus) (clock.receipts ∷ []));
       cpus = λ k small.
           let inside : k < length cpus = omega (arith, seats.count) in
-          get_or-append (map told_in cpus) (clock.receipts ∷ []) [] k (omega arith)
-          ∙ get_or-map told_in cpus k no_seat [] inside
+          get_or-append (map report_in cpus) (clock.receipts ∷ []) [] k (omega arith)
+          ∙ get_or-map report_in cpus k no_seat [] inside
           ∙ (seats.fit k no_seat inside).1;
-      clock = seam (map told_in cpus) clock.receipts n len ∙ seats.clock_told;
+      clock = seam (map report_in cpus) clock.receipts n len ∙ seats.clock_reported;
     }
 
 pub run_of : (w : History) (cpus : List Seat) (clock : ClockSeat) (c : Setup) (s : List Steps) (ticks turns : ℕ) (receipts : List (List Receipt)) (ended : Ended)
     → IsRunOf w.config w.records × Scripted w.config w.scripts w.records × (length w.records ≤ w.turns) → IsValid c
-    → IsWhole w cpus clock c s ticks turns → (ended ≡ Quiet) ↔ EndsQuiet w.config ticks w.records → receipts ≡ map told_in cpus ++ clock.receipts ∷ []
+    → IsWhole w cpus clock c s ticks turns → (ended ≡ Quiet) ↔ EndsQuiet w.config ticks w.records → receipts ≡ map report_in cpus ++ clock.receipts ∷ []
     → IsSmpRun c s ticks turns w.records receipts ended
-run_of w cpus clock c s ticks turns receipts ended known valid whole quiet told =
+run_of w cpus clock c s ticks turns receipts ended known valid whole quiet report =
     let run : IsRunOf c w.records = rw whole.config at known.0 in
     let safe : IsSafeThroughout (booted c) (events_of w.records) = runs_safe c (events_of w.records) valid run.on in
     let scripted : Scripted c s w.records = rw (whole.config, whole.scripted) at known.1 in
@@ -55,7 +55,7 @@ run_of w cpus clock c s ticks turns receipts ended known valid whole quiet told 
       headline = subst (HeadlineThroughout c (events_of w.records)) (sym run.answers) (headline_throughout c (events_of w.records) valid run.on);
       scripted = scripted;
       in_bits = λ fit. events_fit c s fit w.records scripted;
-      told = rw told (receipts_are c.processors cpus clock w.records whole.seats);
+      report = rw report (receipts_are c.processors cpus clock w.records whole.seats);
       taken_within = whole.taken_within;
       within = rw whole.room at known.2;
       quiet = rw whole.config at quiet;

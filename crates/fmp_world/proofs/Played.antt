@@ -79,9 +79,9 @@ module _ (c : Setup) (s : List Steps) where
   unfolding added_by played_from
   added_none h = ap (drop (length h)) (sym (append-nil h)) ∙ drop-append_seam h []
 
-  added_behind : (h : List Record) (r : Record) (moves : List Move)
+  added_after : (h : List Record) (r : Record) (moves : List Move)
       → drop (length h) (played_from c s (h ++ r ∷ []) moves) ≡ r ∷ drop (length (h ++ r ∷ [])) (played_from c s (h ++ r ∷ []) moves)
-  added_behind h r moves =
+  added_after h r moves =
       let more = played_extends (h ++ r ∷ []) moves in
       let left : drop (length h) (played_from c s (h ++ r ∷ []) moves) ≡ r ∷ more.0 =
       ap (drop (length h)) (more.1 ∙ append_assoc h (r ∷ []) more.0) ∙ drop-append_seam h (r ∷ more.0) in
@@ -94,7 +94,7 @@ module _ (c : Setup) (s : List Steps) where
   unfolding added_by played_from
   added_next h m moves e is =
       let one = played_event h m e is in
-      rw one (added_behind h (step numbered (state_after c h) e).1 moves)
+      rw one (added_after h (step numbered (state_after c h) e).1 moves)
 
   pub added_all : (moves : List Move) → added_by c s [] moves ≡ played_from c s [] moves
   unfolding added_by

@@ -23,11 +23,11 @@ receipts_more test n (x ∷ h) r =
     ∙ one_more (test x.event) (receipt n x) (receipts_from test (n + 1) h) (cond (test r.event) (receipt (n + suc (length h)) r ∷ []) [])
 
 -- a record whose event passes the test adds its receipt, and another none
-pub told_too : (test : Event → Bool) (h : List Record) (r : Record) → test r.event ≡ true → receipts_from test 1 (h ++ r ∷ []) ≡ receipts_from test 1 h ++ receipt (1 + length h) r ∷ []
-told_too test h r is = receipts_more test 1 h r ∙ ap (λ b. receipts_from test 1 h ++ cond b (receipt (1 + length h) r ∷ []) []) is
+pub report_too : (test : Event → Bool) (h : List Record) (r : Record) → test r.event ≡ true → receipts_from test 1 (h ++ r ∷ []) ≡ receipts_from test 1 h ++ receipt (1 + length h) r ∷ []
+report_too test h r is = receipts_more test 1 h r ∙ ap (λ b. receipts_from test 1 h ++ cond b (receipt (1 + length h) r ∷ []) []) is
 
-pub untold : (test : Event → Bool) (h : List Record) (r : Record) → test r.event ≡ false → receipts_from test 1 (h ++ r ∷ []) ≡ receipts_from test 1 h
-untold test h r is = receipts_more test 1 h r ∙ ap (λ b. receipts_from test 1 h ++ cond b (receipt (1 + length h) r ∷ []) []) is ∙ append-nil (receipts_from test 1 h)
+pub unreported : (test : Event → Bool) (h : List Record) (r : Record) → test r.event ≡ false → receipts_from test 1 (h ++ r ∷ []) ≡ receipts_from test 1 h
+unreported test h r is = receipts_more test 1 h r ∙ ap (λ b. receipts_from test 1 h ++ cond b (receipt (1 + length h) r ∷ []) []) is ∙ append-nil (receipts_from test 1 h)
 
 few_more : (b : Bool) (y : Receipt) (t : List Receipt) (n : ℕ) → length t ≤ n → length (cond b (y ∷ t) t) ≤ suc n
 few_more true y t n few = omega (arith, few)

@@ -62,8 +62,8 @@ pub keeps_more : (c : Setup) (scripts : List Steps) (k k' : World Queues) (ts hs
     → ((m : State) → Stands k m → Stands k' (step numbered m e).0) → ((m : State) → Stands k m → r ≡ (step numbered m e).1)
     → (processor_of e).number ≤ c.processors → length ts ≡ 64 → length hs ≡ 8 → IsScripted c scripts h e
     → KeepsHistory c scripts k' (moved_tasks c scripts ts r) (moved_handlers c scripts hs r) (h ++ r ∷ [])
-keeps_more c scripts k k' ts hs h e r keeps stands told here ts_long hs_long scripted =
-    let is : r ≡ (step numbered (state_after c h) e).1 = told (state_after c h) keeps.stands in
+keeps_more c scripts k k' ts hs h e r keeps stands report here ts_long hs_long scripted =
+    let is : r ≡ (step numbered (state_after c h) e).1 = report (state_after c h) keeps.stands in
     let event : r.event ≡ e = ap (λ (x : Record). x.event) is ∙ step_event (state_after c h) e in
     record {
       valid = keeps.valid;

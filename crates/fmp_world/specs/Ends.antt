@@ -63,7 +63,7 @@ pub record EndsQuiet (c : Setup) (ticks : ℕ) (h : List Record) : Type 0 where
 pub record AreSeats (n : ℕ) (cpus : List Seat) (clock : ClockSeat) (h : List Record) : Type 0 where
   pub count : length cpus ≡ n
   pub fit : AllFit cpus h
-  pub clock_told : clock.receipts ≡ receipts_of_clock h
+  pub clock_reported : clock.receipts ≡ receipts_of_clock h
 
 -- the receipts by processor, and those of the clock last
 pub record AreReceipts (n : ℕ) (receipts : List (List Receipt)) (h : List Record) : Type 0 where
@@ -88,7 +88,7 @@ pub record IsSmpRun (c : Setup) (scripts : List Steps) (ticks turns : ℕ) (h : 
   pub scripted : Scripted c scripts h
   -- where the arguments of all steps are within the bits of their kinds, those of all events are
   pub in_bits : AreInBits scripts → All EventInBits (events_of h)
-  pub told : AreReceipts c.processors receipts h
+  pub report : AreReceipts c.processors receipts h
   pub taken_within : TicksWithin c.processors ticks h
   pub within : length h ≤ turns
   pub quiet : (ended ≡ Quiet) ↔ EndsQuiet c ticks h

@@ -11,7 +11,7 @@ use Rattle.fmp_world.specs.Ends as ends
 use Rattle.fmp_smp_histories.specs.Counted as history
 use Rattle.fmp_world.specs.Views.{Seat, ClockSeat}
 
--- the place of the seat that is told an event: its processor's, or behind the eight of those the clock's
+-- the place of the seat that is told an event: its processor's, or after the eight of those the clock's
 abbrev pub seat_of : Event → ℕ
 seat_of (event.Call p c) = p.number - 1
 seat_of (event.Tick p) = 8
@@ -20,17 +20,17 @@ seat_of (event.Ipi p) = p.number - 1
 abbrev pub is_of_seat : ℕ → Event → Bool
 is_of_seat k e = seat_of e == k
 
--- the receipts of a seat, and the clock's at every place behind the processors'
-abbrev pub told_of : ClockSeat → Option Seat → List Receipt
-told_of clock None = clock.receipts
-told_of clock (Some s) = s.receipts
+-- the receipts of a seat, and the clock's at every place after the processors'
+abbrev pub report_of : ClockSeat → Option Seat → List Receipt
+report_of clock None = clock.receipts
+report_of clock (Some s) = s.receipts
 
 abbrev pub receipts_at : List Seat → ClockSeat → ℕ → List Receipt
-receipts_at cpus clock k = told_of clock (slice_get cpus k)
+receipts_at cpus clock k = report_of clock (slice_get cpus k)
 
 -- the receipts of the records that are told a seat
-abbrev pub told_at : ℕ → List Record → List Receipt
-told_at k h = ends.receipts_from (is_of_seat k) 1 h
+abbrev pub report_at : ℕ → List Record → List Receipt
+report_at k h = ends.receipts_from (is_of_seat k) 1 h
 
 -- the receipt of a record that has this number
 abbrev pub receipt : ℕ → Record → Receipt
@@ -47,11 +47,11 @@ counted counts r =
 
 -- the seats begin with the receipts of the records
 abbrev pub Begin : List Seat → ClockSeat → List Record → Type 0
-Begin cpus clock h = (k : ℕ) → k < 9 → take (length (told_at k h)) (receipts_at cpus clock k) ≡ told_at k h
+Begin cpus clock h = (k : ℕ) → k < 9 → take (length (report_at k h)) (receipts_at cpus clock k) ≡ report_at k h
 
 -- how many receipts of each seat there are, and how many ticks each processor took
 abbrev pub ArePassed : List ℕ → List Record → Type 0
-ArePassed counts h = (k : ℕ) → k < 9 → slice_index counts k ≡ length (told_at k h)
+ArePassed counts h = (k : ℕ) → k < 9 → slice_index counts k ≡ length (report_at k h)
 
 abbrev pub AreTaken : List ℕ → List Record → Type 0
 AreTaken counts h = (k : ℕ) → k < 8 → slice_index counts k ≡ history.taken (k + 1) h

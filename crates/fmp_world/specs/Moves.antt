@@ -19,7 +19,7 @@ abbrev pub mover_of : Move → Proc
 mover_of (Turn p) = p
 mover_of (Tick p) = p
 
--- the event of a move behind a history: what its processor picks there, or its tick
+-- the event of a move after a history: what its processor picks there, or its tick
 abbrev pub moved : Setup → List Steps → List Record → Move → Option Event
 moved c scripts h (Turn p) = choice c scripts h p
 moved c scripts h (Tick p) = Some (event.Tick p)
@@ -37,7 +37,7 @@ played_one c scripts h by = recorded c h (moved c scripts h by)
 abbrev pub played_on : History → Move → History
 played_on w by = record w { records = played_one w.config w.scripts w.records by }
 
--- the records of moves behind a history, which they follow
+-- the records of moves after a history, which they follow
 unfoldable pub played_from : Setup → List Steps → List Record → List Move → List Record
 played_from c scripts h moves = fold (played_one c scripts) h moves
 
@@ -49,7 +49,7 @@ played c scripts moves = played_from c scripts [] moves
 unfoldable pub added_by : Setup → List Steps → List Record → List Move → List Record
 added_by c scripts h moves = drop (length h) (played_from c scripts h moves)
 
--- each move, behind the records of those before it, is one on a processor of the machine that makes a record
+-- each move, after the records of those before it, is one on a processor of the machine that makes a record
 abbrev pub AreMade : Setup → List Steps → List Record → List Move → Type 0
 AreMade c scripts h [] = Unit {0}
 AreMade c scripts h (by ∷ later) =

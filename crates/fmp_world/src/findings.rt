@@ -37,7 +37,7 @@ fn seat_of(event: &Event) -> usize
     }
 }
 
-/// The receipts of the seat of a place; the clock's is behind those of the processors.
+/// The receipts of the seat of a place; the clock's is after those of the processors.
 fn receipts_at(seats: &Seats, place: usize) -> &[Receipt]
     ensures { result.now ≡ spec.receipts_at seats.entry.now.cpus.items seats.entry.now.clock place }
 {
@@ -63,7 +63,7 @@ fn stands(receipts: &[Receipt], at: u32, receipt: &Receipt) -> bool
     ensures { IsTrue result ↔ (slice_get receipts.now at ≡ Some receipt.now) }
 {
     match receipts.get(at as usize) {
-        Some(told) => is_same(told, receipt),
+        Some(report) => is_same(report, receipt),
         None => false,
     }
 }
@@ -122,11 +122,11 @@ impl Findings {
         ensures { spec.Finds result seats.now.cpus.items seats.now.clock replay.entry }
     {
         let mut found = Findings::none();
-        let mut told = Record::answer(Event::Tick(Proc::new(1)), None, Answer::Nothing);
+        let mut report = Record::answer(Event::Tick(Proc::new(1)), None, Answer::Nothing);
         let mut number: u32 = 0;
-        while replay.next(&mut told) {
+        while replay.next(&mut report) {
             number += 1;
-            found.take(seats, number, &told);
+            found.take(seats, number, &report);
         }
         found
     }
@@ -153,8 +153,8 @@ impl Findings {
     {
         for (at, cpu) in cpus.iter().enumerate() {
             let number = at as u8 + 1;
-            let told = self.passed[at] as usize;
-            if cpu.processor().number != number || cpu.receipts().len() != told {
+            let report = self.passed[at] as usize;
+            if cpu.processor().number != number || cpu.receipts().len() != report {
                 return false;
             }
         }

@@ -5,7 +5,7 @@ ghost use Rattle.fmp_law_lists.specs.Stands.{Stands};
 ghost use Rattle.fmp_world.specs.Kept.{IsKnown};
 ghost use Rattle.fmp_smp_histories.specs.Scripted as scripted;
 ghost use Rattle.fmp_world.specs.Moves as moves;
-ghost use Rattle.fmp_world.specs.Turns.{AddsRecord, opening, is_full, told_after};
+ghost use Rattle.fmp_world.specs.Turns.{AddsRecord, opening, is_full, report_after};
 
 use crate::replay::Replay;
 use crate::seats::Receipt;
@@ -199,36 +199,36 @@ impl<'a> History<'a> {
     }
 
     /// A move and its event, with its record at the end of the history, which is told.
-    pub(crate) fn make(&mut self, by: Move, event: Event, told: &mut Record) -> Receipt
+    pub(crate) fn make(&mut self, by: Move, event: Event, report: &mut Record) -> Receipt
         requires room { length self.old.records < self.old.turns }
         requires place { (moves.mover_of by).number ≤ self.old.config.processors }
         requires picks { moves.moved self.old.config self.old.scripts self.old.records by ≡ Some event }
         ensures adds { AddsRecord self.old event result self.new }
-        ensures told { told.new ≡ told_after self.old event }
+        ensures report { report.new ≡ report_after self.old event }
     {
-        self.kernel.step_into(event, told);
-        advance_task(self.config, self.scripts, &mut self.tasks, told);
-        advance_handler(self.config, self.scripts, &mut self.handlers, told);
+        self.kernel.step_into(event, report);
+        advance_task(self.config, self.scripts, &mut self.tasks, report);
+        advance_handler(self.config, self.scripts, &mut self.handlers, report);
         let receipt = Receipt {
             number: self.moves.len() as u32 + 1,
             event,
-            answer: told.answer,
+            answer: report.answer,
         };
         self.moves.push_reserved(by);
         receipt
     }
 
     /// Makes the record of a move, which is told.
-    pub(crate) fn play(&mut self, by: Move, told: &mut Record)
+    pub(crate) fn play(&mut self, by: Move, report: &mut Record)
         requires room { length self.old.records < self.old.turns }
         requires place { (moves.mover_of by).number ≤ self.old.config.processors }
         requires some { is_some (moves.moved self.old.config self.old.scripts self.old.records by) ≡ true }
         ensures plays { self.new ≡ moves.played_on self.old by }
-        ensures told { moves.moved self.old.config self.old.scripts self.old.records by ≡ Some told.new.event }
-        ensures is { told.new ≡ told_after self.old told.new.event }
+        ensures report { moves.moved self.old.config self.old.scripts self.old.records by ≡ Some report.new.event }
+        ensures is { report.new ≡ report_after self.old report.new.event }
     {
         if let Some(event) = self.event_of(by) {
-            let _receipt = self.make(by, event, told);
+            let _receipt = self.make(by, event, report);
         }
     }
 }

@@ -27,7 +27,7 @@ impl<'h, 'a> Model for Replay<'h, 'a> {
 }
 
 impl<'h, 'a> Replay<'h, 'a> {
-    /// The records that moves make behind a history.
+    /// The records that moves make after a history.
     pub(crate) fn new(left: &'h [Move], again: History<'a>) -> Replay<'h, 'a>
         requires made { moves.AreMade again.config again.scripts again.records left.now }
         requires room { length again.records + length left.now ≤ again.turns }
@@ -37,13 +37,13 @@ impl<'h, 'a> Replay<'h, 'a> {
     }
 
     /// Tells the next record, or says that none is left; then what was told stays.
-    pub fn next(&mut self, told: &mut Record) -> bool
-        ensures { MatchBool result (self.old ≡ told.new ∷ self.new) ((self.old ≡ []) × (self.new ≡ []) × (told.new ≡ told.old)) }
+    pub fn next(&mut self, report: &mut Record) -> bool
+        ensures { MatchBool result (self.old ≡ report.new ∷ self.new) ((self.old ≡ []) × (self.new ≡ []) × (report.new ≡ report.old)) }
     {
         let Some((by, later)) = self.left.split_first() else {
             return false;
         };
-        self.again.play(*by, told);
+        self.again.play(*by, report);
         self.left = later;
         true
     }

@@ -114,7 +114,7 @@ impl Cpu {
         self.receipts.len() < self.room as usize
     }
 
-    /// Keeps one more receipt, behind the others.
+    /// Keeps one more receipt, after the others.
     pub(crate) fn keep(&mut self, receipt: Receipt)
         requires { length self.old.receipts < self.old.room }
         ensures { self.new ≡ record self.old { receipts = self.old.receipts ++ receipt ∷ [] } }
@@ -165,7 +165,7 @@ impl Clock {
         self.receipts.len() < self.room as usize
     }
 
-    /// Keeps one more receipt, behind the others.
+    /// Keeps one more receipt, after the others.
     pub(crate) fn keep(&mut self, receipt: Receipt)
         requires { length self.old.receipts < self.old.room }
         ensures { self.new ≡ record self.old { receipts = self.old.receipts ++ receipt ∷ [] } }

@@ -87,7 +87,7 @@ impl<'a> World<'a> {
     }
 
     /// One turn of the seat's processor. It takes a pending request that nothing holds back, or makes the call that is next in
-    /// the script of its due handler or else of its running task; behind the last step a task ends, and a handler returns. A
+    /// the script of its due handler or else of its running task; after the last step a task ends, and a handler returns. A
     /// call that spins is made again at the next turn.
     pub fn turn(&mut self, seat: &mut Cpu) -> Turn
         requires { seat.old.processor.number ≤ self.old.config.processors }

@@ -127,12 +127,12 @@ pub fn tell_asked<R: Eprint>(
         Some(column) => Spot::Column(line, column.saturating_add(number)),
         None => Spot::Line(line),
     };
-    let told = Diagnostic {
+    let report = Diagnostic {
         path,
         spot,
         code,
         words,
         word: "",
     };
-    let _ = eprintln!(rt; "{told}");
+    let _ = eprintln!(rt; "{report}");
 }

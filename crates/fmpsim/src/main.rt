@@ -23,7 +23,7 @@ mod words;
 
 use beside::Telling;
 use clap::error::ErrorKind;
-use fmp_cli::{Asked, Described, Paths, Request, Told};
+use fmp_cli::{Asked, Described, Paths, Report, Request};
 use fmp_cli_colour::ColourSink;
 use fmp_cli_diagnostics::{LineForm, line_form, without_option};
 use fmp_cli_explore::ExploreRequest;
@@ -63,7 +63,7 @@ fn answered<R, E>(
     rt: &R,
     config: &[u8],
     events: E,
-    told: Told,
+    report: Report,
     coloured: bool,
 ) -> Result<Status, Ending>
 where
@@ -76,10 +76,10 @@ where
     let mut sink = WriteSink::new(alloc, io::writer(rt))?;
     if coloured {
         let mut colours = ColourSink::new(sink);
-        let run = answer(alloc, &mut config, &mut events, &mut colours, told);
+        let run = answer(alloc, &mut config, &mut events, &mut colours, report);
         return settled(run, colours.below().is_closed());
     }
-    let run = answer(alloc, &mut config, &mut events, &mut sink, told);
+    let run = answer(alloc, &mut config, &mut events, &mut sink, report);
     settled(run, sink.is_closed())
 }
 
@@ -87,11 +87,11 @@ where
 fn calls<R: Files + Input + Print + AllocGlobal>(
     rt: &R,
     paths: &Paths<'_>,
-    told: Told,
+    report: Report,
     coloured: bool,
 ) -> Result<Status, Ending> {
     let (config, events) = both_opened(rt, paths)?;
-    let run = answered(rt, config.as_slice(), events, told, coloured);
+    let run = answered(rt, config.as_slice(), events, report, coloured);
     kept(run, config)
 }
 
@@ -338,9 +338,9 @@ fn explored<R: Files + Input + Print + Eprint + Clock + AllocGlobal>(
         line,
         text: TextForm::Scripts,
     };
-    let told = ProgressForm::at(is_terminal, request.progress);
+    let report = ProgressForm::at(is_terminal, request.progress);
     let seconds = request.seconds.map(u64::from);
-    let mut progress = ProgressLine::new(rt, told, seconds);
+    let mut progress = ProgressLine::new(rt, report, seconds);
     let run = match (request.questions, request.from) {
         (Some(file), _) => questions::asked(rt, &paths, telling, request, file, &mut progress),
         (None, Some(begun)) => explore_from(rt, &paths, request, begun, &mut progress),
@@ -549,13 +549,13 @@ fn refused<R: Files + Print + Eprint + AllocGlobal>(
     }
 }
 
-/// Tells that the word behind `--color` is none of those for it.
+/// Tells that the word after `--color` is none of those for it.
 fn uncoloured<R: Eprint>(rt: &R) -> Status {
     let _ = eprintln!(rt; "fmpsim: --color: expected auto, always or never");
     Status::Usage
 }
 
-/// Tells that the word behind `--diagnostics` is none of those for it.
+/// Tells that the word after `--diagnostics` is none of those for it.
 fn unformed<R: Eprint>(rt: &R) -> Status {
     let _ = eprintln!(rt; "fmpsim: --diagnostics: expected plain or gcc, as in --diagnostics=gcc");
     Status::Usage
@@ -567,7 +567,7 @@ fn scripted<R: Env + Files + Input + Print + Eprint + Clock + AllocGlobal + Thre
     request: &SmpRequest<'_>,
     line: LineForm,
     is_terminal: bool,
-    is_told_at_terminal: bool,
+    is_reported_at_terminal: bool,
 ) -> Status {
     let Some(coloured) = is_coloured(rt, request.colour, is_terminal) else {
         return uncoloured(rt);
@@ -587,8 +587,8 @@ fn scripted<R: Env + Files + Input + Print + Eprint + Clock + AllocGlobal + Thre
         line,
         text: TextForm::Scripts,
     };
-    let told = ProgressForm::at(is_told_at_terminal, request.progress);
-    let mut progress = ProgressLine::new(rt, told, request.seconds);
+    let report = ProgressForm::at(is_reported_at_terminal, request.progress);
+    let mut progress = ProgressLine::new(rt, report, request.seconds);
     let run = scripts::smp(rt, &paths, request, coloured, line, &mut progress);
     SeedProgress::end(&mut progress);
     replied(rt, &paths, telling, request.find.unwrap_or(""), run)
@@ -608,16 +608,16 @@ fn execute<R: Env + Files + Input + Print + Eprint + Clock + AllocGlobal + Threa
     words: &[String],
     line: LineForm,
     is_terminal: bool,
-    is_told_at_terminal: bool,
+    is_reported_at_terminal: bool,
 ) -> Status {
     let events = Telling {
         line,
         text: TextForm::Events,
     };
     match fmp_cli::parse(rt.alloc(), words) {
-        Ok(Request::Calls(paths, told, colour)) => match is_coloured(rt, colour, is_terminal) {
+        Ok(Request::Calls(paths, report, colour)) => match is_coloured(rt, colour, is_terminal) {
             Some(coloured) => {
-                let run = calls(rt, &paths, told, coloured);
+                let run = calls(rt, &paths, report, coloured);
                 ended(rt, &paths, events, run)
             }
             None => uncoloured(rt),
@@ -632,8 +632,14 @@ fn execute<R: Env + Files + Input + Print + Eprint + Clock + AllocGlobal + Threa
             ended(rt, &paths, Telling { line, text }, run)
         }
         Ok(Request::Save(paths)) => ended(rt, &paths, events, saved(rt, &paths)),
-        Ok(Request::Smp(request)) => scripted(rt, &request, line, is_terminal, is_told_at_terminal),
-        Ok(Request::Explore(request)) => explored(rt, &request, line, is_told_at_terminal),
+        Ok(Request::Smp(request)) => scripted(
+            rt,
+            &request,
+            line,
+            is_terminal,
+            is_reported_at_terminal,
+        ),
+        Ok(Request::Explore(request)) => explored(rt, &request, line, is_reported_at_terminal),
         Ok(Request::Shrink(request)) => shrunk(rt, &request, line),
         Ok(Request::List(name)) => ended(rt, &NO_PATHS, events, list(rt, name)),
         Ok(Request::Describe(request)) => described(rt, &request, line),
@@ -645,7 +651,7 @@ fn execute<R: Env + Files + Input + Print + Eprint + Clock + AllocGlobal + Threa
 fn run<R: Env + Files + Input + Print + Eprint + Clock + AllocGlobal + Threads + Wait + Sync>(
     rt: &R,
     is_terminal: bool,
-    is_told_at_terminal: bool,
+    is_reported_at_terminal: bool,
 ) -> Status {
     match words_of(rt) {
         Ok(mut words) => {
@@ -654,11 +660,17 @@ fn run<R: Env + Files + Input + Print + Eprint + Clock + AllocGlobal + Threads +
                 return unformed(rt);
             }
             without_option(&mut words);
-            let settled = settle_context(rt.alloc(), &mut words, line, is_told_at_terminal);
+            let settled = settle_context(rt.alloc(), &mut words, line, is_reported_at_terminal);
             if settled.is_err() {
                 return failed(rt, &NO_PATHS, &RunFault::Memory);
             }
-            execute(rt, words.as_slice(), line, is_terminal, is_told_at_terminal)
+            execute(
+                rt,
+                words.as_slice(),
+                line,
+                is_terminal,
+                is_reported_at_terminal,
+            )
         }
         Err(error) if error.kind() == io::ErrorKind::InvalidData => {
             let _ = eprintln!(rt; "fmpsim: a word of the command line is not UTF-8");
@@ -671,6 +683,6 @@ fn run<R: Env + Files + Input + Print + Eprint + Clock + AllocGlobal + Threads +
 /// The program, which ends with the exit status of what it did.
 fn main(rt: HostRuntime) -> ExitCode {
     let is_terminal = rt.stdout().is_terminal();
-    let is_told_at_terminal = rt.stderr().is_terminal();
-    ExitCode::from(run(&rt, is_terminal, is_told_at_terminal).code())
+    let is_reported_at_terminal = rt.stderr().is_terminal();
+    ExitCode::from(run(&rt, is_terminal, is_reported_at_terminal).code())
 }

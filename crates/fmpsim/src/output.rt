@@ -22,7 +22,7 @@ pub enum Ending {
     NoText(io::Error),
     /// More than one text was to come from standard input.
     OneInput,
-    /// Nobody reads the output any more, as behind `head`. Nothing is told of that.
+    /// Nobody reads the output any more, as after `head`. Nothing is told of that.
     Unread,
     /// The question has this fault, at the byte of this number from 0.
     Question(QuestionFault, usize),

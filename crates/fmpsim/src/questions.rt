@@ -349,7 +349,7 @@ fn answered<'x, R: Files + Eprint + Clock + AllocGlobal>(
     Ok((found.answer, found.outcome))
 }
 
-/// Puts a thing behind the others.
+/// Puts a thing after the others.
 fn keep<T: Drop>(things: &mut Vec<T>, thing: T) -> Result<(), AllocError> {
     things.push(thing)?;
     Ok(())

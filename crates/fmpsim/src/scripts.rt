@@ -24,14 +24,14 @@ use std::thread::Threads;
 #[derive(Drop)]
 struct Outcome {
     status: Status,
-    seed: SeedTold,
+    seed: SeedReported,
     /// A line for each task that waits at the end of what is written.
     waiting: Vec<u8>,
 }
 
 /// What is told of seeds.
 #[derive(Clone, Copy)]
-enum SeedTold {
+enum SeedReported {
     Nothing,
     /// This one was found.
     Found(u64),
@@ -46,7 +46,7 @@ impl Outcome {
     fn of_run(played: Played) -> Outcome {
         Outcome {
             status: played.status,
-            seed: SeedTold::Nothing,
+            seed: SeedReported::Nothing,
             waiting: played.waiting,
         }
     }
@@ -56,11 +56,11 @@ impl Outcome {
         let status = search.status(asked);
         let (seed, waiting) = match search {
             SeedSearch::Found(found) if asked => {
-                (SeedTold::Shown(found.seed, found.line), found.waiting)
+                (SeedReported::Shown(found.seed, found.line), found.waiting)
             }
-            SeedSearch::Found(found) => (SeedTold::Found(found.seed), found.waiting),
-            SeedSearch::Passed => (SeedTold::Nothing, Vec::new(alloc)),
-            SeedSearch::Ended(seed) => (SeedTold::Ended(seed), Vec::new(alloc)),
+            SeedSearch::Found(found) => (SeedReported::Found(found.seed), found.waiting),
+            SeedSearch::Passed => (SeedReported::Nothing, Vec::new(alloc)),
+            SeedSearch::Ended(seed) => (SeedReported::Ended(seed), Vec::new(alloc)),
         };
         Outcome {
             status,
@@ -78,10 +78,10 @@ impl Outcome {
         config: &[u8],
     ) {
         let _ = match self.seed {
-            SeedTold::Nothing => Ok(()),
-            SeedTold::Found(seed) => eprintln!(rt; "fmpsim: seed {seed}"),
-            SeedTold::Shown(seed, line) => eprintln!(rt; "fmpsim: seed {seed}, line {line}"),
-            SeedTold::Ended(seed) => {
+            SeedReported::Nothing => Ok(()),
+            SeedReported::Found(seed) => eprintln!(rt; "fmpsim: seed {seed}"),
+            SeedReported::Shown(seed, line) => eprintln!(rt; "fmpsim: seed {seed}, line {line}"),
+            SeedReported::Ended(seed) => {
                 eprintln!(rt; "fmpsim: ended by --seconds after seed {seed}")
             }
         };
@@ -99,7 +99,7 @@ impl Outcome {
 /// What is wrong with a request for the runs of seeds.
 #[derive(Clone, Copy)]
 pub enum Misfit {
-    /// The word behind `--seeds` is none of those for it, or it stands beside `--seed`.
+    /// The word after `--seeds` is none of those for it, or it stands beside `--seed`.
     Seeds,
     /// A question is asked, and no seeds are given.
     Question,

@@ -6,7 +6,7 @@ use fmp_search_pattern::Lasting;
 use std::alloc::{AllocError, Global};
 
 /// The words of what is to stay, as a question has them: those of its first moment, which has one part.
-fn told_of(alloc: Global, lasting: &Lasting) -> Result<Vec<u8>, AllocError> {
+fn report_of(alloc: Global, lasting: &Lasting) -> Result<Vec<u8>, AllocError> {
     let mut text = Vec::new(alloc);
     let Some(part) = lasting
         .moments()
@@ -27,7 +27,7 @@ fn tell_from<R: Eprint + AllocGlobal>(rt: &R, stayed: &Stayed, number: u8, line:
     let Some(lasting) = stayed.lasting.get(usize::from(number)) else {
         return;
     };
-    let Ok(words) = told_of(rt.alloc(), lasting) else {
+    let Ok(words) = report_of(rt.alloc(), lasting) else {
         return;
     };
     let not = if lasting.is_negated() { "not " } else { "" };

@@ -5,7 +5,7 @@ use fmp_calls::NameKind;
 use fmp_cli_explore::Bounds;
 use fmp_codes::{Event, Proc};
 use fmp_names::Names;
-use fmp_run_explore::{Extent, Layer, Met, Outcome, Progress, is_made};
+use fmp_run_explore::{Extent, Finding, Layer, Met, Outcome, Progress, is_made};
 use fmp_trace::put_event;
 use std::alloc::{AllocError, Global};
 use std::rt::Clock;
@@ -123,6 +123,20 @@ fn tell_met<R: Eprint + AllocGlobal>(
     tell_calls(rt, asked, layer, calls.as_slice(), within)
 }
 
+/// Whether the search used up the room for places, and that for the calls would, too. A question of one step without `without` lets both go through the same places.
+fn has_no_room(outcome: &Outcome, room: u32) -> bool {
+    let is_full = match outcome.extent {
+        Some(extent) => extent.places >= room as usize,
+        None => false,
+    };
+    let is_one = match outcome.layer.question().steps() {
+        [step] => step.without.is_none(),
+        _ => false,
+    };
+    let is_ended = matches!(outcome.finding, Finding::NotWithin(_)) && outcome.layer.count() == 0;
+    is_ended && is_full && is_one
+}
+
 /// Tells which calls of the scripts no order makes, beside a question that no order shows. It says nothing that is not found in time.
 pub fn tell_calls_unmade<R: Eprint + Clock + AllocGlobal>(
     rt: &R,
@@ -131,7 +145,10 @@ pub fn tell_calls_unmade<R: Eprint + Clock + AllocGlobal>(
     bounds: Bounds,
     progress: &mut ProgressLine<'_, R>,
 ) {
-    if outcome.extent.is_none() || Progress::is_over(progress) {
+    if outcome.extent.is_none()
+        || has_no_room(outcome, bounds.places)
+        || Progress::is_over(progress)
+    {
         return;
     }
     let found = outcome

@@ -79,7 +79,7 @@ fn asks_spurious(alloc: Global, question: &Question) -> bool {
 
 /// Whether something is told of what was found: of a question that no order shows, and that is more than one pattern or asks for interrupts which
 /// change nothing.
-fn is_told(alloc: Global, outcome: &Outcome) -> bool {
+fn is_reported(alloc: Global, outcome: &Outcome) -> bool {
     let question = outcome.layer.question();
     matches!(outcome.finding, Finding::Never)
         && (!is_plain(question) || asks_spurious(alloc, question))
@@ -200,7 +200,7 @@ pub fn tell<R: Eprint + Clock + AllocGlobal>(
     progress: &mut ProgressLine<'_, R>,
 ) {
     let question = outcome.layer.question();
-    if !is_told(rt.alloc(), outcome) {
+    if !is_reported(rt.alloc(), outcome) {
         return;
     }
     if !request.spurious && asks_spurious(rt.alloc(), question) {

@@ -37,7 +37,7 @@ fn is_by_itself(words: &[String], line: LineForm, is_terminal: bool) -> bool {
 }
 
 /// Settles whether the line of a fault is shown: `--no-context` takes `--context` away, and where standard error is a terminal
-/// `--context` goes behind the command by itself. The error is want of memory.
+/// `--context` goes after the command by itself. The error is want of memory.
 pub fn settle_context(
     alloc: Global,
     words: &mut Vec<String>,

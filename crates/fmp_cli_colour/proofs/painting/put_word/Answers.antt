@@ -18,10 +18,10 @@ returns-clause-ok g c = λ known.
     let old = bytes_of (g.W.Sink.written c.args.sink.now) in
     let new = bytes_of (g.W.Sink.written c.put_both.new.sink) in
     let is = c.before-2.ensures ∙ ap spec.before c.mark_of-mark.ensures in
-    let ends = c.behind.ensures ∙ ap spec.behind_word c.mark_of-mark.ensures in
+    let ends = c.following.ensures ∙ ap spec.following_word c.mark_of-mark.ensures in
     let all = ap₂ (λ (a b : List ℕ). a ++ (c.args.word.now ++ b)) is ends in
     subst (λ (bs : List ℕ). OnOk c.put_both.result (new ≡ old ++ bs)) all
-    (both_ok c.put_both.result old c.before-2.result.now (c.args.word.now ++ c.behind.result.now) _ new (c.in_ok-write_all.ensures.ok known) (c.put_both.ensures.ok (c.write_all.ensures.known known)))
+    (both_ok c.put_both.result old c.before-2.result.now (c.args.word.now ++ c.following.result.now) _ new (c.in_ok-write_all.ensures.ok known) (c.put_both.ensures.ok (c.write_all.ensures.known known)))
 
 pub returns-clause-err : goal.returns-clause-err
 unfolding spec.painted_word
@@ -29,7 +29,7 @@ returns-clause-err g c = λ known.
     let old = bytes_of (g.W.Sink.written c.args.sink.now) in
     let new = bytes_of (g.W.Sink.written c.put_both.new.sink) in
     let is = c.before-2.ensures ∙ ap spec.before c.mark_of-mark.ensures in
-    let ends = c.behind.ensures ∙ ap spec.behind_word c.mark_of-mark.ensures in
+    let ends = c.following.ensures ∙ ap spec.following_word c.mark_of-mark.ensures in
     let all = ap₂ (λ (a b : List ℕ). a ++ (c.args.word.now ++ b)) is ends in
     subst (λ (bs : List ℕ). OnErr c.put_both.result (BeginsWith old bs new)) all
-    (both_err c.put_both.result old c.before-2.result.now (c.args.word.now ++ c.behind.result.now) _ new (c.in_ok-write_all.ensures.ok known) (c.put_both.ensures.err (c.write_all.ensures.known known)))
+    (both_err c.put_both.result old c.before-2.result.now (c.args.word.now ++ c.following.result.now) _ new (c.in_ok-write_all.ensures.ok known) (c.put_both.ensures.err (c.write_all.ensures.known known)))

@@ -1,4 +1,4 @@
-use Rattle.fmp_cli_help.proofs.Listed.{config_listed, config_listed_once, config_in_order, config_told}
+use Rattle.fmp_cli_help.proofs.Listed.{config_listed, config_listed_once, config_in_order, config_reported}
 use Rattle.fmp_cli_help.proofs.laws.config_faults_are_listed.Goals as goal
 
 pub returns-clause-every : goal.returns-clause-every
@@ -10,5 +10,5 @@ returns-clause-once c = config_listed_once
 pub returns-clause-order : goal.returns-clause-order
 returns-clause-order c = config_in_order
 
-pub returns-clause-told : goal.returns-clause-told
-returns-clause-told c = config_told
+pub returns-clause-report : goal.returns-clause-report
+returns-clause-report c = config_reported

@@ -1,4 +1,4 @@
-use Rattle.fmp_cli_help.proofs.Listed.{text_listed, text_listed_once, text_in_order, text_told}
+use Rattle.fmp_cli_help.proofs.Listed.{text_listed, text_listed_once, text_in_order, text_reported}
 use Rattle.fmp_cli_help.proofs.laws.text_faults_are_listed.Goals as goal
 
 pub returns-clause-every : goal.returns-clause-every
@@ -10,5 +10,5 @@ returns-clause-once c = text_listed_once
 pub returns-clause-order : goal.returns-clause-order
 returns-clause-order c = text_in_order
 
-pub returns-clause-told : goal.returns-clause-told
-returns-clause-told c = text_told
+pub returns-clause-report : goal.returns-clause-report
+returns-clause-report c = text_reported

@@ -2,7 +2,7 @@ use Rattle.std.proofs.Common.{◌≡◌, ◌++◌, ap}
 use Rattle.std.specs.Option.{option_copied}
 use Rattle.fmp_cli_hints_question.specs.Known.{hints_of, run_hints}
 use Rattle.fmp_search_words.specs.Words.{runs_of}
-use Rattle.fmp_cli_hints_question.proofs.Runs.{fewer_runs, run_told}
+use Rattle.fmp_cli_hints_question.proofs.Runs.{fewer_runs, run_reported}
 use Rattle.fmp_cli_hints_question.proofs.known.put_run_hints.Goals as goal
 
 pub loop-rest-smaller : goal.loop-rest-smaller
@@ -11,5 +11,5 @@ loop-rest-smaller c = fewer_runs (option_copied c.loop-rest.rest) (option_copied
 pub loop-rest-preserved : goal.loop-rest-preserved
 loop-rest-preserved c =
     let held : c.loop-rest.out.items ++ hints_of c.args.names.now (runs_of c.in-Some.text.now) ≡ c.args.out.now.items ++ run_hints c.args.names.now c.args.word.now = rw c.in-Some.is at c.loop-rest.invariant in
-    let told = run_told c.args.names.now c.loop-rest.out.items c.in-Some.text.now (c.args.out.now.items ++ run_hints c.args.names.now c.args.word.now) held in
-    rw (c.in_ok-put_run_hint.ensures, c.cut_run.ensures.prefix, c.cut_run.ensures.rest) told
+    let report = run_reported c.args.names.now c.loop-rest.out.items c.in-Some.text.now (c.args.out.now.items ++ run_hints c.args.names.now c.args.word.now) held in
+    rw (c.in_ok-put_run_hint.ensures, c.cut_run.ensures.prefix, c.cut_run.ensures.rest) report

@@ -15,7 +15,7 @@ pub returns-in-Ok-Some-clause-rows : goal.returns-in-Ok-Some-clause-rows
 returns-in-Ok-Some-clause-rows c =
     let rows = c.loop-rest.rows.items in
     let n = c.loop-rest.line in
-    let is = sym (sym c.in-Ok-Some.field-0-is ∙ c.in-Ok-Some.ensures.told ∙ ap (λ l. (spec.with_line rows (n + 1) l).1) c.cut.ensures.prefix) in
+    let is = sym (sym c.in-Ok-Some.field-0-is ∙ c.in-Ok-Some.ensures.report ∙ ap (λ l. (spec.with_line rows (n + 1) l).1) c.cut.ensures.prefix) in
     c.in-Ok-Some.ensures.rows ∙ ap (λ l. (spec.with_line rows (n + 1) l).0) c.cut.ensures.prefix
     ∙ ap (λ p. p.0) (sym (line_fault rows n c.in-Some.lines.now c.in-Ok-Some.kind is) ∙ so_far (goal.at.returns-in-Ok-Some-clause-rows c).After-add_line)
 
@@ -23,7 +23,7 @@ pub returns-in-Ok-Some-clause-fault : goal.returns-in-Ok-Some-clause-fault
 returns-in-Ok-Some-clause-fault c =
     let rows = c.loop-rest.rows.items in
     let n = c.loop-rest.line in
-    let is = sym (sym c.in-Ok-Some.field-0-is ∙ c.in-Ok-Some.ensures.told ∙ ap (λ l. (spec.with_line rows (n + 1) l).1) c.cut.ensures.prefix) in
+    let is = sym (sym c.in-Ok-Some.field-0-is ∙ c.in-Ok-Some.ensures.report ∙ ap (λ l. (spec.with_line rows (n + 1) l).1) c.cut.ensures.prefix) in
     ap (λ p. p.1) (sym (line_fault rows n c.in-Some.lines.now c.in-Ok-Some.kind is) ∙ so_far (goal.at.returns-in-Ok-Some-clause-fault c).After-add_line)
 
 pub loop-rest-smaller : goal.loop-rest-smaller
@@ -34,7 +34,7 @@ loop-rest-preserved c =
     let rows = c.loop-rest.rows.items in
     let n = c.loop-rest.line in
     let text = c.in-Some.lines.now in
-    let is = sym (sym c.in-Ok-None.field-0-is ∙ c.in-Ok-None.ensures.told ∙ ap (λ l. (spec.with_line rows (n + 1) l).1) c.cut.ensures.prefix) in
+    let is = sym (sym c.in-Ok-None.field-0-is ∙ c.in-Ok-None.ensures.report ∙ ap (λ l. (spec.with_line rows (n + 1) l).1) c.cut.ensures.prefix) in
     let new = c.in-Ok-None.ensures.rows ∙ ap (λ l. (spec.with_line rows (n + 1) l).0) c.cut.ensures.prefix in
     let less = fewer_left line_feed (option_copied c.loop-rest.rest) (option_copied c.cut.result.1) text (ap option_copied c.in-Some.is) c.cut.ensures.rest in
     record {

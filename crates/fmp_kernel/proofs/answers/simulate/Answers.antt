@@ -18,8 +18,8 @@ loop-event-preserved c =
       processors = c.step.ensures.processors ∙ before.processors;
       state = (step numbered m c.event-item.result).0;
       stands = c.step.ensures.stands m before.stands;
-      told = rw (c.push_reserved.ensures.items, c.step.ensures.record m before.stands)
-          (answers_more m c.args.events.now c.loop-event.event-index c.event-item.result c.loop-event.records.items _ below c.event-item.is before.told);
+      report = rw (c.push_reserved.ensures.items, c.step.ensures.record m before.stands)
+          (answers_more m c.args.events.now c.loop-event.event-index c.event-item.result c.loop-event.records.items _ below c.event-item.is before.report);
     }
 
 pub returns-clause-safe : goal.returns-clause-safe
@@ -28,5 +28,5 @@ returns-clause-safe c = runs_safe c.args.config.now c.args.events.now c.in_ok-ke
 pub returns-clause-balanced : goal.returns-clause-balanced
 returns-clause-balanced c =
     let valid = c.in_ok-kernel.ensures.valid in
-    let made = answers_end c.loop-event.invariant.state c.args.events.now c.loop-event.event-index c.loop-event.records.items _ (omega (arith, c.loop-event-test)) c.loop-event.invariant.told in
+    let made = answers_end c.loop-event.invariant.state c.args.events.now c.loop-event.event-index c.loop-event.records.items _ (omega (arith, c.loop-event-test)) c.loop-event.invariant.report in
     rw made (balanced_throughout c.args.config.now c.args.events.now valid.few (runs_safe c.args.config.now c.args.events.now valid c.requires))

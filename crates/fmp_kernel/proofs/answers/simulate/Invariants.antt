@@ -14,5 +14,5 @@ invariant-loop-event l = record {
   processors : length l.kernel.processors ≡ l.config.processors;
   state : State;
   stands : Stands l.kernel state;
-  told : l.records.items ++ answers numbered state (drop l.event-index l.events) ≡ answers numbered (booted l.config) l.events;
+  report : l.records.items ++ answers numbered state (drop l.event-index l.events) ≡ answers numbered (booted l.config) l.events;
 }

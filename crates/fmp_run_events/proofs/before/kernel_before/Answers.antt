@@ -3,8 +3,8 @@ use Rattle.fmp_bytes.specs.Bytes.{pieces_of}
 use Rattle.fmp_rules.specs.Arrivals.{State}
 use Rattle.fmp_law_lists.specs.Stands.{Stands}
 use Rattle.fmp_trace.specs.Heads.{event_of}
-use Rattle.fmp_trace_check.specs.Walking.{behind}
-use Rattle.fmp_run_events.proofs.Behind.{line_played, none_played, none_left}
+use Rattle.fmp_trace_check.specs.Walking.{following}
+use Rattle.fmp_run_events.proofs.Following.{line_played, none_played, none_left}
 use Rattle.fmp_run_events.proofs.before.kernel_before.Goals as goal
 
 pub returns-in_default : goal.returns-in_default
@@ -21,9 +21,9 @@ loop-preserved c =
     let left = c.args.n - (c.loop.counter + 1) in
     let one_more : c.args.n - c.loop.counter ≡ suc left = omega (arith, c.loop-test.true) in
     let played = line_played names left held.0 c.loop.rest.now line c.in-Some.after.now c.in-Some.ensures.line c.in-Some.ensures.rest in
-    let stands : Stands c.play_line.new.kernel (behind held.0 (event_of names line)) = rw c.names-names.ensures.value at (c.play_line.ensures.stands held.0 held.1) in
+    let stands : Stands c.play_line.new.kernel (following held.0 (event_of names line)) = rw c.names-names.ensures.value at (c.play_line.ensures.stands held.0 held.1) in
     record {
-      stands = (behind held.0 (event_of names line), stands, sym played ∙ (rw one_more at held.2));
+      stands = (following held.0 (event_of names line), stands, sym played ∙ (rw one_more at held.2));
       processors = c.play_line.ensures.processors ∙ c.loop.invariant.processors;
     }
 

@@ -31,9 +31,9 @@ loop-trace-preserved g c =
       write_known = λ known. c.drain.ensures.known (kept_known _ _ c.flush.ensures.bytes (c.loop-trace.invariant.write_known known));
       end = λ known ended. c.in_ok-take_piece.ensures.end (c.loop-trace.invariant.read_known known) (sym same.0 ∙ ended);
       streams = λ reads d tells text whole old writes before.
-          let passed = stream_passed d tells _ text whole old c.loop-trace.run _ _ _ (λ told. kept_bytes _ _ c.flush.ensures.bytes (c.loop-trace.invariant.write_known (writes told)))
+          let passed = stream_passed d tells _ text whole old c.loop-trace.run _ _ _ (λ report. kept_bytes _ _ c.flush.ensures.bytes (c.loop-trace.invariant.write_known (writes report)))
           (c.loop-trace.invariant.streams reads d tells text whole old writes before) in
-          c.in_ok-drain.ensures.streams d tells text whole old _ (λ told. kept_known _ _ c.flush.ensures.bytes (c.loop-trace.invariant.write_known (writes told)))
+          c.in_ok-drain.ensures.streams d tells text whole old _ (λ report. kept_known _ _ c.flush.ensures.bytes (c.loop-trace.invariant.write_known (writes report)))
           (c.in_ok-take_piece.ensures.streams (c.loop-trace.invariant.read_known reads) d tells _ text whole old _ passed);
     }
 

@@ -4,55 +4,69 @@ use Rattle.std.proofs.lemmas.Result.{err_from_is_err_and}
 use Rattle.fmp_run_events.proofs.Ended.{config_right, early_result, first_result, flush_result, leaves_result, no_text, nothing_out, right_result, written_result}
 use Rattle.fmp_run_events.proofs.calls.run_events.Goals as goal
 
-pub returns-in_err-configuration-clause-text_fault : goal.returns-in_err-configuration-clause-text_fault
-returns-in_err-configuration-clause-text_fault g c = λ tells tells_too.
-    let p = err_from_is_err_and c.from_residual.result c.from_residual.ensures.1 in
-    rw (p.1, p.2) (no_text _ _ [] c.in_err-configuration.field-0.0 c.in_err-configuration.ensures.kinds.0)
-
-pub returns-in_err-configuration-clause-leaves : goal.returns-in_err-configuration-clause-leaves
-returns-in_err-configuration-clause-leaves g c = λ configs reads writes.
-    let p = err_from_is_err_and c.from_residual.result c.from_residual.ensures.1 in
-    rw (p.1, p.2) (nothing_out _ _ _ _ c.in_err-configuration.field-0.0 c.in_err-configuration.ensures.kinds.0 c.in_err-configuration.ensures.kinds.1)
-
-pub returns-clause-answered : goal.returns-clause-answered
-returns-clause-answered g c = λ configs reads writes.
-    written_result _ _ _ c.in_ok-configuration.configuration (c.in_ok-configuration.ensures.ok configs) c.args.detail _ c.answer_text.result c.answer_text.ensures.valid
-    (c.answer_text.ensures.answered reads writes)
-
-pub returns-clause-text_fault : goal.returns-clause-text_fault
-returns-clause-text_fault g c = λ configs reads.
-    first_result _ _ [] c.in_ok-configuration.configuration (c.in_ok-configuration.ensures.ok configs) c.answer_text.result (c.answer_text.ensures.first reads)
-
-pub returns-clause-leaves : goal.returns-clause-leaves
-returns-clause-leaves g c = λ configs reads writes.
-    leaves_result _ _ _ c.in_ok-configuration.configuration (c.in_ok-configuration.ensures.ok configs) c.args.detail _ c.answer_text.result c.answer_text.ensures.kinds
-    (c.answer_text.ensures.leaves reads writes)
-
-pub returns-in_err-configuration-clause-right : goal.returns-in_err-configuration-clause-right
-returns-in_err-configuration-clause-right g c = λ configs reads setup events says spells.
+pub returns-in_err-configuration-clause-owes : goal.returns-in_err-configuration-clause-owes
+returns-in_err-configuration-clause-owes g c =
     let p = err_from_is_err_and c.from_residual.result c.from_residual.ensures.1 in
     let failed = c.in_err-configuration.ensures in
-    rw (p.1, p.2) (config_right _ _ setup events says spells c.in_err-configuration.field-0.0 failed.kinds.0 (failed.fault configs))
+    record {
+      config_read = search rules;
+      events_read = search rules;
+      right = λ configs reads setup events says spells.
+          rw (p.1, p.2) (config_right _ _ setup events says spells c.in_err-configuration.field-0.0 failed.kinds.0 (failed.fault configs));
+      config_fault = search rules;
+      text_fault = λ configs reads. rw (p.1, p.2) (no_text _ _ [] c.in_err-configuration.field-0.0 failed.kinds.0);
+      no_thread_fault = search rules;
+      reads = search rules;
+      sink = search rules;
+    }
 
-pub returns-clause-right : goal.returns-clause-right
-returns-clause-right g c = λ configs reads setup events says spells.
+pub returns-in_err-configuration-clause-writes : goal.returns-in_err-configuration-clause-writes
+returns-in_err-configuration-clause-writes g c =
+    let p = err_from_is_err_and c.from_residual.result c.from_residual.ensures.1 in
+    let failed = c.in_err-configuration.ensures in
+    record {
+      answered = search rules;
+      passed = search rules;
+      unwritten = search rules;
+      leaves = λ configs reads writes. rw (p.1, p.2) (nothing_out _ _ _ _ c.in_err-configuration.field-0.0 failed.kinds.0 failed.kinds.1);
+      early = search rules;
+      flush = search rules;
+    }
+
+pub returns-clause-owes : goal.returns-clause-owes
+returns-clause-owes g c =
+    let says = c.in_ok-configuration.ensures.ok in
     let valid = subst AreValid c.names.ensures.value c.validity.ensures in
-    right_result _ _ setup events says spells c.in_ok-configuration.configuration (c.in_ok-configuration.ensures.ok configs) valid c.answer_text.result c.answer_text.ensures.kinds (c.answer_text.ensures.first reads)
+    let answer = c.answer_text.ensures in
+    let result = c.answer_text.result in
+    record {
+      config_read = search rules;
+      events_read = search rules;
+      right = λ configs reads setup events named spells.
+          right_result _ _ setup events named spells c.in_ok-configuration.configuration (says configs) valid result answer.kinds (answer.first reads);
+      config_fault = search rules;
+      text_fault = λ configs reads. first_result _ _ [] c.in_ok-configuration.configuration (says configs) result (answer.first reads);
+      no_thread_fault = search rules;
+      reads = λ fine.
+          let counted = c.in_ok-configuration.ensures.count in
+          let read = answer.reads fine in
+          record { sum = omega (arith, counted, read); first = omega (arith, counted); second = omega (arith, read) };
+      sink = search rules;
+    }
 
-pub returns-clause-flush : goal.returns-clause-flush
-returns-clause-flush g c = λ failed. (
-  search rules,
-  flush_result _ _ _ c.in_ok-configuration.configuration c.in_ok-configuration.ensures.ok c.args.detail _ _ _ c.answer_text.ensures.flush,
-)
-
-pub returns-clause-early : goal.returns-clause-early
-returns-clause-early g c = λ lines reads writes short.
+pub returns-clause-writes : goal.returns-clause-writes
+returns-clause-writes g c =
+    let config = c.in_ok-configuration.configuration in
+    let says = c.in_ok-configuration.ensures.ok in
     let valid = subst AreValid c.names.ensures.value c.validity.ensures in
-    early_result c.in_ok-configuration.configuration _ _ valid c.args.detail (record { lines = lines; short = short }) _ c.answer_text.result c.answer_text.ensures.kinds
-    (c.answer_text.ensures.leaves reads writes)
-
-pub returns-clause-reads : goal.returns-clause-reads
-returns-clause-reads g c = λ fine.
-    let counted = c.in_ok-configuration.ensures.count in
-    let read = c.answer_text.ensures.reads fine in
-    record { sum = omega (arith, counted, read); first = omega (arith, counted); second = omega (arith, read) }
+    let answer = c.answer_text.ensures in
+    let result = c.answer_text.result in
+    record {
+      answered = λ configs reads writes. written_result _ _ _ config (says configs) c.args.detail _ result answer.valid (answer.answered reads writes);
+      passed = search rules;
+      unwritten = search rules;
+      leaves = λ configs reads writes. leaves_result _ _ _ config (says configs) c.args.detail _ result answer.kinds (answer.leaves reads writes);
+      early = λ is_line reads writes short.
+          early_result config _ _ valid c.args.detail (record { lines = is_line; short = short }) _ result answer.kinds (answer.leaves reads writes);
+      flush = λ failed. (search rules, flush_result _ _ _ config says c.args.detail _ _ _ answer.flush);
+    }

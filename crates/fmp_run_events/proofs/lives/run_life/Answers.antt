@@ -3,7 +3,7 @@ use Rattle.fmp_run_texts.proofs.Grammars.{one_config}
 use Rattle.fmp_names.specs.Names.{AreValid}
 use Rattle.fmp_setup.specs.Setup.{Setup}
 use Rattle.fmp_run_events.proofs.Ended.{config_right, events_right}
-use Rattle.fmp_run_events.proofs.Living.{chosen_right, life_flush, life_leaves, life_told}
+use Rattle.fmp_run_events.proofs.Living.{chosen_right, life_flush, life_leaves, life_reported}
 use Rattle.fmp_run_events.proofs.lives.run_life.Goals as goal
 
 pub returns-in-Err-clause-right : goal.returns-in-Err-clause-right
@@ -16,7 +16,7 @@ returns-in-Err-chosen_from-clause-right g c = λ configs reads setup events xs s
 
 pub returns-in-Ok-answer_text-clause-answered : goal.returns-in-Ok-answer_text-clause-answered
 returns-in-Ok-answer_text-clause-answered g c = λ configs reads writes.
-    life_told c.args.names.now c.in-Ok.machine _ c.names-2.ensures.value c.in-Ok-chosen_from.life c.in-Ok-chosen_from.ensures.things _ _ _ (c.in-Ok.ensures.ok configs) _
+    life_reported c.args.names.now c.in-Ok.machine _ c.names-2.ensures.value c.in-Ok-chosen_from.life c.in-Ok-chosen_from.ensures.things _ _ _ (c.in-Ok.ensures.ok configs) _
     c.in-Ok-answer_text.ensures.valid (c.in-Ok-answer_text.ensures.answered reads writes)
 
 pub returns-clause-right : goal.returns-clause-right

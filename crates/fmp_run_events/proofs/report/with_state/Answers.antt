@@ -1,8 +1,8 @@
 use Rattle.std.proofs.Common.{refl, ◌∙◌}
 use Rattle.fmp_run_events.proofs.report.with_state.Goals as goal
 
-pub returns-clause-told : goal.returns-clause-told
-returns-clause-told c =
+pub returns-clause-report : goal.returns-clause-report
+returns-clause-report c =
     let put = c.in_ok-put_state_before.ensures c.requires.records c.requires.prints in
     record {
       lines = c.args.found.lines.items;

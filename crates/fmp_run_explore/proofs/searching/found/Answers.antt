@@ -9,7 +9,7 @@ use Rattle.fmp_search.specs.Runs.{run}
 use Rattle.fmp_search_orders.specs.Laws.{is_seen}
 use Rattle.fmp_search_orders.specs.Places.{after, origin, records}
 use Rattle.fmp_run_explore.proofs.Found.{shown}
-use Rattle.fmp_run_explore.proofs.Rest.{made_none, made_within, none_told, told_within}
+use Rattle.fmp_run_explore.proofs.Rest.{made_none, made_within, none_reported, report_within}
 use Rattle.fmp_run_explore.proofs.searching.found.Goals as goal
 
 pub trace_along-requires-clause-leads : goal.trace_along-requires-clause-leads
@@ -29,12 +29,12 @@ trace_along-requires-clause-few g c =
 pub returns-in_ok-text-in-Found-clause-leaves : goal.returns-in_ok-text-in-Found-clause-leaves
 returns-in_ok-text-in-Found-clause-leaves g c =
     let begin = origin c.args.config.now c.args.scripts.now c.args.rules c.args.question.now in
-    none_told begin c.in_ok-answer.roots (subst (λ a. LeavesRoots after is_seen begin c.args.turns a c.in_ok-answer.roots) c.in-Found.is c.in_ok-answer.ensures.leaves)
+    none_reported begin c.in_ok-answer.roots (subst (λ a. LeavesRoots after is_seen begin c.args.turns a c.in_ok-answer.roots) c.in-Found.is c.in_ok-answer.ensures.leaves)
 
 pub returns-in_ok-never-in-Never-clause-leaves : goal.returns-in_ok-never-in-Never-clause-leaves
 returns-in_ok-never-in-Never-clause-leaves g c =
     let begin = origin c.args.config.now c.args.scripts.now c.args.rules c.args.question.now in
-    none_told begin c.in_ok-answer.roots (subst (λ a. LeavesRoots after is_seen begin c.args.turns a c.in_ok-answer.roots) c.in-Never.is c.in_ok-answer.ensures.leaves)
+    none_reported begin c.in_ok-answer.roots (subst (λ a. LeavesRoots after is_seen begin c.args.turns a c.in_ok-answer.roots) c.in-Never.is c.in_ok-answer.ensures.leaves)
 
 pub returns-in_ok-text-in-Found-clause-finds : goal.returns-in_ok-text-in-Found-clause-finds
 returns-in_ok-text-in-Found-clause-finds g c =
@@ -74,7 +74,7 @@ returns-in_ok-not_within-in-NotWithin-clause-leaves g c =
     let begin = origin c.args.config.now c.args.scripts.now c.args.rules c.args.question.now in
     let law = c.roots_answer.ensures c.args.config.now c.args.scripts.now c.args.rules c.args.question.now c.names-names.ensures.valid in
     let leaves = subst (λ a. LeavesRoots after is_seen begin c.args.turns a c.in_ok-answer.roots) c.in-NotWithin.is c.in_ok-answer.ensures.leaves in
-    told_within c.args.config.now c.args.scripts.now c.args.rules c.args.question.now c.in-NotWithin.turns c.args.turns c.in_ok-answer.roots law leaves.0 leaves.1
+    report_within c.args.config.now c.args.scripts.now c.args.rules c.args.question.now c.in-NotWithin.turns c.args.turns c.in_ok-answer.roots law leaves.0 leaves.1
 
 pub returns-in_ok-not_within-in-NotWithin-clause-made : goal.returns-in_ok-not_within-in-NotWithin-clause-made
 returns-in_ok-not_within-in-NotWithin-clause-made g c =
@@ -93,7 +93,7 @@ returns-in_ok-not_within-in-Ended-clause-finds g c =
 pub returns-in_ok-not_within-in-Ended-clause-leaves : goal.returns-in_ok-not_within-in-Ended-clause-leaves
 returns-in_ok-not_within-in-Ended-clause-leaves g c =
     let begin = origin c.args.config.now c.args.scripts.now c.args.rules c.args.question.now in
-    none_told begin c.in_ok-answer.roots (subst (λ a. LeavesRoots after is_seen begin c.args.turns a c.in_ok-answer.roots) c.in-Ended.is c.in_ok-answer.ensures.leaves)
+    none_reported begin c.in_ok-answer.roots (subst (λ a. LeavesRoots after is_seen begin c.args.turns a c.in_ok-answer.roots) c.in-Ended.is c.in_ok-answer.ensures.leaves)
 
 pub returns-in_ok-not_within-in-Ended-clause-made : goal.returns-in_ok-not_within-in-Ended-clause-made
 returns-in_ok-not_within-in-Ended-clause-made g c =

@@ -14,7 +14,7 @@ loop-step-init c =
     let few = c.requires.few in
     let room = c.in_ok-restart.ensures.room in
     record {
-      told =
+      report =
           ap (λ (text : List ℕ). text ++ lines_from names 1 (records c.restart.new.self.place steps)) c.new-out.ensures.items
           ∙ ap (λ (w : Place). lines_from names 1 (records w steps)) begins;
       leads = subst (λ (w : Place). is_some (run after w steps) ≡ true) (sym begins) c.requires.leads;

@@ -14,7 +14,7 @@ pub returns-in_default-happen-clause-no_further : goal.returns-in_default-happen
 returns-in_default-happen-clause-no_further c =
     let small : c.args.n < 2 ^ 64 = omega arith in
     no_event c.args.names.now c.validity.ensures c.args.n small c.args.walker.now.place c.args.text.now c.in-Some.line.now c.in-Some.after.now c.in-Some.ensures.line c.in-Some.ensures.rest
-    c.in_default-happen.ensures.told
+    c.in_default-happen.ensures.report
 
 pub returns-then-branch-clause-further : goal.returns-then-branch-clause-further
 returns-then-branch-clause-further c =
@@ -34,4 +34,4 @@ returns-else-branch-clause-no_further c =
     let other : bytes_eq (core_text names c.args.n c.happen.new.walker.made) line ≡ false =
     ap (λ (r : Record). bytes_eq (core_text names c.args.n r) line) (sym c.made.ensures) ∙ sym c.in_ok-is_line.ensures ∙ c.if-branch.false in
     no_answer names c.validity.ensures c.args.n small c.args.walker.now.place c.args.text.now line c.in-Some.after.now c.in-Some.ensures.line c.in-Some.ensures.rest
-    c.happen.new.walker c.in-Some-happen.event c.in-Some-happen.ensures.happened c.in-Some-happen.ensures.told other
+    c.happen.new.walker c.in-Some-happen.event c.in-Some-happen.ensures.happened c.in-Some-happen.ensures.report other

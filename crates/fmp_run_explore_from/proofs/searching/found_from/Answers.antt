@@ -8,5 +8,5 @@ returns-clause-found g c =
       begun = by.records;
       order = by.order;
       trace = by.trace;
-      finds = c.in_ok-told.ensures.finds by.records by.order (c.as_slice.ensures.value ∙ by.chosen);
+      finds = c.in_ok-report.ensures.finds by.records by.order (c.as_slice.ensures.value ∙ by.chosen);
     }

@@ -6,8 +6,8 @@ use Rattle.fmp_run_forever.specs.Stayed.{IsLeast}
 use Rattle.fmp_run_forever.proofs.Found.{least_of}
 use Rattle.fmp_run_forever.proofs.searching.found.Goals as goal
 
-pub told_along-requires-clause-least : goal.told_along-requires-clause-least
-told_along-requires-clause-least g c = λ _.
+pub report_along-requires-clause-least : goal.report_along-requires-clause-least
+report_along-requires-clause-least g c = λ _.
     let config = c.args.config.now in
     let scripts = c.args.scripts.now in
     let lasting = c.args.lasting.now in

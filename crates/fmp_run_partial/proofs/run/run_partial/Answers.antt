@@ -1,22 +1,35 @@
-use Rattle.std.proofs.Common.{refl}
+use Rattle.std.proofs.Common.{refl, rules}
 use Rattle.std.proofs.lemmas.Result.{err_from_is_err_and}
 use Rattle.fmp_run_texts.specs.declared.fault.RunFault.TheVariants.{Write}
 use Rattle.fmp_run_texts.proofs.Owed.{failed_late}
 use Rattle.fmp_run_partial.specs.Partials.{FirstPartialFault}
 use Rattle.fmp_run_partial.proofs.run.run_partial.Goals as goal
 
-pub returns-in_err-verdict-clause-texts : goal.returns-in_err-verdict-clause-texts
-returns-in_err-verdict-clause-texts g c =
+pub returns-in_err-verdict-clause-owes : goal.returns-in_err-verdict-clause-owes
+returns-in_err-verdict-clause-owes g c =
     let p = err_from_is_err_and c.from_residual.result c.from_residual.ensures.1 in
-    rw (p.1, p.2) c.in_err-verdict.ensures.texts
+    record {
+      texts = rw (p.1, p.2) c.in_err-verdict.ensures.texts;
+      reads = search rules;
+      sink = search rules;
+    }
 
-pub returns-in_err-write_out-clause-texts : goal.returns-in_err-write_out-clause-texts
-returns-in_err-write_out-clause-texts g c =
+pub returns-in_err-write_out-clause-owes : goal.returns-in_err-write_out-clause-owes
+returns-in_err-write_out-clause-owes g c =
     let p = err_from_is_err_and c.from_residual-in_err-write_out.result c.from_residual-in_err-write_out.ensures.1 in
-    rw (p.1, p.2) (failed_late FirstPartialFault _ _ _ _ Write refl refl refl tt)
+    record {
+      texts = rw (p.1, p.2) (failed_late FirstPartialFault _ _ _ _ Write refl refl refl tt);
+      reads = search rules;
+      sink = search rules;
+    }
 
-pub returns-clause-texts : goal.returns-clause-texts
-returns-clause-texts g c = c.in_ok-verdict.ensures.texts
+pub returns-clause-owes : goal.returns-clause-owes
+returns-clause-owes g c =
+    record {
+      texts = c.in_ok-verdict.ensures.texts;
+      reads = search rules;
+      sink = search rules;
+    }
 
 pub returns-in_err-verdict-clause-partly : goal.returns-in_err-verdict-clause-partly
 returns-in_err-verdict-clause-partly g c = λ tells tells_too own.

@@ -24,7 +24,7 @@ loop-event-preserved c =
     let so_far = c.loop-event.invariant in
     let m = replay numbered (booted config) given in
     let longer : take (index + 1) events ≡ given ++ e ∷ [] = take_more events index e here ∙ ap (λ (x : Event). given ++ x ∷ []) (sym c.event-item.is) in
-    let told : Record = (step numbered m e).1 in
+    let report : Record = (step numbered m e).1 in
     let is = c.step_into.ensures.record m so_far.stands in
     let count = so_far.count in
     let long = length-answers (booted config) given ∙ length-take-le index events (omega (arith, here)) in
@@ -35,10 +35,10 @@ loop-event-preserved c =
           (c.step_into.ensures.stands m so_far.stands);
       processors = c.step_into.ensures.processors ∙ so_far.processors;
       made =
-          c.in_ok-put_line.ensures.ok ∙ ap (λ (x : List ℕ). x ++ line_text names (c.loop-event.n + 1) c.step_into.new.told) so_far.made
+          c.in_ok-put_line.ensures.ok ∙ ap (λ (x : List ℕ). x ++ line_text names (c.loop-event.n + 1) c.step_into.new.report) so_far.made
           ∙ ap (λ (r : Record). lines_from names 1 (answers numbered (booted config) given) ++ line_text names (c.loop-event.n + 1) r) is
-          ∙ ap (λ (k : ℕ). lines_from names 1 (answers numbered (booted config) given) ++ line_text names k told) number
-          ∙ sym (line_more names 1 (answers numbered (booted config) given) told)
+          ∙ ap (λ (k : ℕ). lines_from names 1 (answers numbered (booted config) given) ++ line_text names k report) number
+          ∙ sym (line_more names 1 (answers numbered (booted config) given) report)
           ∙ ap (lines_from names 1) (sym (ap (answers numbered (booted config)) longer ∙ answers_more (booted config) given e));
       count = ap (λ (n : ℕ). n + 1) count;
     }

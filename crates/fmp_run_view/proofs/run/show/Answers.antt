@@ -8,7 +8,7 @@ use Rattle.fmp_run_devices.proofs.Begun.{begun_first}
 use Rattle.fmp_trace.proofs.Headed.{event_of-fits}
 use Rattle.fmp_run_view.specs.Moments.{at_boot}
 use Rattle.fmp_run_view.specs.Pages.{page_of, start_of}
-use Rattle.fmp_run_view.proofs.SoFar.{begins, events_of, goes_on, is_begun, is_cut, is_cut_at_end, is_shown, is_told, on_err, page_is, rest_of}
+use Rattle.fmp_run_view.proofs.SoFar.{begins, events_of, goes_on, is_begun, is_cut, is_cut_at_end, is_shown, is_reported, on_err, page_is, rest_of}
 use Rattle.fmp_run_view.proofs.run.show.Goals as goal
 
 pub returns-in_err-write_all-clause-begun : goal.returns-in_err-write_all-clause-begun
@@ -44,12 +44,12 @@ loop-line-init g c =
 
 pub returns-in_default-event_of-clause-begun : goal.returns-in_default-event_of-clause-begun
 returns-in_default-event_of-clause-begun g c = λ tell records prints.
-    absurd (is_told c.args.config.now c.names-names.result.now c.validity.ensures c.loop-line.number c.loop-line.showing.before c.loop-line.rest.now c.in-Some.line.now c.in-Some.after.now
+    absurd (is_reported c.args.config.now c.names-names.result.now c.validity.ensures c.loop-line.number c.loop-line.showing.before c.loop-line.rest.now c.in-Some.line.now c.in-Some.after.now
     c.in-Some.ensures.line c.in-Some.ensures.rest (is_some (g.W.Sink.written c.args.page.now)) _ _ _ (c.loop-line.invariant.so_far records prints) (sym c.event_of.ensures ∙ c.in_default-event_of.is))
 
 pub returns-in_default-event_of-clause-kinds : goal.returns-in_default-event_of-clause-kinds
 returns-in_default-event_of-clause-kinds g c = λ records prints.
-    absurd (is_told c.args.config.now c.names-names.result.now c.validity.ensures c.loop-line.number c.loop-line.showing.before c.loop-line.rest.now c.in-Some.line.now c.in-Some.after.now
+    absurd (is_reported c.args.config.now c.names-names.result.now c.validity.ensures c.loop-line.number c.loop-line.showing.before c.loop-line.rest.now c.in-Some.line.now c.in-Some.after.now
     c.in-Some.ensures.line c.in-Some.ensures.rest (is_some (g.W.Sink.written c.args.page.now)) _ _ _ (c.loop-line.invariant.so_far records prints) (sym c.event_of.ensures ∙ c.in_default-event_of.is))
 
 pub returns-in_err-play-clause-begun : goal.returns-in_err-play-clause-begun

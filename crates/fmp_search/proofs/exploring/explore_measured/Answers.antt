@@ -5,7 +5,7 @@ use Rattle.fmp_search.specs.Roots.{roots_of, AreRoots}
 use Rattle.fmp_search.specs.Surveys.{GoesSo}
 use Rattle.fmp_search.proofs.Branches.{are_roots}
 use Rattle.fmp_search.proofs.Extents.{gone, all_near}
-use Rattle.fmp_search.proofs.Layers.{none-ever}
+use Rattle.fmp_search.proofs.Layers.{none-ever, none-within}
 use Rattle.fmp_search.proofs.exploring.explore_measured.Goals as goal
 
 -- not all places were opened, so that all steps were made
@@ -60,6 +60,23 @@ returns-then-chart-count-clause-went g c =
     let places = c.in_ok-how.ensures.surveyed.found in
     (nodes, gone after q nodes _ _ places.tree places.apart c.deref-in-Done.ensures.value c.in_ok-extent-in-Done.ensures, all_near after q wanted nodes found.depth opened through.explored all)
 
+pub returns-else-chart-count-clause-says : goal.returns-else-chart-count-clause-says
+returns-else-chart-count-clause-says g c =
+    let after = g.W.Space.after in
+    let wanted = g.W.Space.wanted in
+    let q = g.W.Space.origin c.args.walker.now in
+    let found = c.in_ok-how.field-0 in
+    let nodes = found.store.nodes.items in
+    let opened = found.chart.opened in
+    let through = subst (λ (how : Layer). GoesSo after wanted q c.args.turns c.args.most nodes found.depth opened how) c.in-Done.is c.in_ok-how.ensures.through in
+    let count = c.count.ensures in
+    let some = c.if-chart-count.false in
+    let last = last_of found.depth c.args.turns opened (length nodes + 1) through.ended (λ all. some (all ∙ sym count)) in (
+      through.within,
+      none-within after wanted q nodes found.depth (length nodes + 1) opened through.explored,
+      λ lt. absurd (omega (arith, lt, last)),
+    )
+
 pub returns-else-chart-count-clause-leaves : goal.returns-else-chart-count-clause-leaves
 returns-else-chart-count-clause-leaves g c =
     let after = g.W.Space.after in
@@ -69,10 +86,10 @@ returns-else-chart-count-clause-leaves g c =
     let nodes = found.store.nodes.items in
     let opened = found.chart.opened in
     let through = subst (λ (how : Layer). GoesSo after wanted q c.args.turns c.args.most nodes found.depth opened how) c.in-Done.is c.in_ok-how.ensures.through in
-    let behind = through.passed.few in
+    let following = through.passed.few in
     let count = c.count.ensures in
     let some = c.if-chart-count.false in
-    let few : opened ≤ length nodes = search (arith, behind, count, some) in
+    let few : opened ≤ length nodes = search (arith, following, count, some) in
     let last = last_of found.depth c.args.turns opened (length nodes + 1) through.ended (λ all. some (all ∙ sym count)) in
     let roots = are_roots after wanted q nodes found.depth opened through.explored through.near few in (
       λ lt. absurd (omega (arith, lt, last)),

@@ -2,9 +2,9 @@ use Rattle.std.proofs.Common.{◌+◌, ◌≡◌, ◌∙◌, List, [], ◌∷◌
 use Rattle.std.proofs.lemmas.Grind.{common_steps}
 use Rattle.fmp_search.specs.declared.nodes.Node.{Node}
 use Rattle.fmp_search.specs.Growth.{AreBefore}
-use Rattle.fmp_search.specs.Trees.{IsAt, StandsAt}
+use Rattle.fmp_search.specs.Trees.{IsAt}
 use Rattle.fmp_search.proofs.Apart.{before_more}
-use Rattle.fmp_search.proofs.Trees.{stands_more}
+use Rattle.fmp_search.proofs.InCache.{cache_stays}
 use Rattle.fmp_search.proofs.Growth.{stepped}
 use Rattle.fmp_search.proofs.layer.number_of.Goals as goal
 
@@ -35,10 +35,7 @@ pub returns-clause-leaves : goal.returns-clause-leaves
 returns-clause-leaves g c =
     subst (λ (ns : List Node). AreBefore ns c.args.at (c.args.step + 1)) (sym c.in_ok-push.ensures.more) (before_more c.args.store.now.nodes.items _ c.requires.before)
 
-pub returns-clause-trunk : goal.returns-clause-trunk
-returns-clause-trunk g c =
+pub returns-clause-cache : goal.returns-clause-cache
+returns-clause-cache g c =
     let q = g.W.Space.origin c.args.walker.now in
-    let place = g.W.Space.place c.args.trunk.now in
-    let room = g.W.Space.room c.args.trunk.now in
-    subst (λ (ns : List Node). StandsAt g.W.Space.after q ns c.args.front.stem place room) (sym {A = List Node} c.in_ok-push.ensures.more)
-    (stands_more g.W.Space.after q c.args.store.now.nodes.items _ c.args.front.stem place room c.requires.trunk)
+    cache_stays g.W.Space.place g.W.Space.room g.W.Space.origin g.W.Space.after q c.args.store.now.nodes.items c.push.new.self.nodes.items _ c.args.cache.now c.in_ok-push.ensures.more c.requires.cache

@@ -1,8 +1,8 @@
-use Rattle.std.proofs.Common.{◌≡◌}
+use Rattle.std.proofs.Common.{◌≡◌, length}
 use Rattle.fmp_search.specs.Answers.{Explored}
 use Rattle.fmp_search.specs.Charts.{Charting}
 use Rattle.fmp_search.specs.Growth.{AreBefore}
-use Rattle.fmp_search.specs.Trees.{StandsAt}
+use Rattle.fmp_search.specs.Cache.{IsCache}
 use Rattle.fmp_search.proofs.layer.open_layer.Given as goal
 
 abbrev pub invariant-loop-at : goal.invariant-loop-at
@@ -14,6 +14,7 @@ invariant-loop-at g l =
     × (g.W.Space.origin l.other ≡ q)
     × AreBefore l.store.nodes.items l.at 0
     × (l.store.most ≡ l.fn.store.most)
-    × StandsAt g.W.Space.after q l.store.nodes.items l.fn.front.stem (g.W.Space.place l.fn.trunk) (g.W.Space.room l.fn.trunk)
+    × IsCache g.W.Space.place g.W.Space.room g.W.Space.origin g.W.Space.after q l.store.nodes.items l.cache.items
     × Charting g.W.Space.after g.W.Space.passes q l.store.nodes.items l.chart l.at 0
     × (l.chart.kept ≡ l.fn.chart.kept)
+    × (length l.chart.marks.items ≡ length l.fn.chart.marks.items)

@@ -1,8 +1,8 @@
-use Rattle.std.proofs.Common.{◌≡◌}
+use Rattle.std.proofs.Common.{◌≡◌, length}
 use Rattle.fmp_search.specs.Answers.{Explored}
 use Rattle.fmp_search.specs.Charts.{Charting}
 use Rattle.fmp_search.specs.Growth.{Extends, AreTried, AreBefore}
-use Rattle.fmp_search.specs.Trees.{StandsAt}
+use Rattle.fmp_search.specs.Cache.{IsCache}
 use Rattle.fmp_search.proofs.layer.open_place.Given as goal
 
 abbrev pub invariant-loop-step : goal.invariant-loop-step
@@ -18,6 +18,7 @@ invariant-loop-step g l =
     × (g.W.Space.origin l.other ≡ q)
     × AreBefore nodes l.fn.at l.step
     × (l.store.most ≡ l.fn.store.most)
-    × StandsAt after q nodes l.fn.front.stem (g.W.Space.place l.fn.trunk) (g.W.Space.room l.fn.trunk)
+    × IsCache g.W.Space.place g.W.Space.room g.W.Space.origin after q nodes l.cache.items
     × Charting after g.W.Space.passes q nodes l.chart l.fn.at l.step
     × (l.chart.kept ≡ l.fn.chart.kept)
+    × (length l.chart.marks.items ≡ length l.fn.chart.marks.items)

@@ -2,10 +2,12 @@ use Rattle.std.proofs.Common.{ℕ, ◌+◌, ◌≤◌, ◌≡◌, ◌∙◌, tru
 use Rattle.std.proofs.lemmas.Grind.{common_steps}
 use Rattle.fmp_search.specs.Runs.{Watches}
 use Rattle.fmp_search.specs.Trees.{Found}
-use Rattle.fmp_search.specs.Growth.{Numbers}
+use Rattle.fmp_search.specs.declared.nodes.Node.{Node}
+use Rattle.fmp_search.specs.Growth.{AreFound, LeavesRoom, Numbers}
 use Rattle.fmp_search.proofs.Charted.{charting_more, edge_is_true, joined_by, step_there}
 use Rattle.fmp_search.proofs.Layers.{is-shortest}
-use Rattle.fmp_search.proofs.Growth.{leads_there, depth_there}
+use Rattle.fmp_search.proofs.Noted.{noted_more}
+use Rattle.fmp_search.proofs.Growth.{leads_there, depth_there, found_here, none_of}
 use Rattle.fmp_search.proofs.layer.try_step.Goals as goal
 
 one_more : (steps : List ℕ) (s n : ℕ) → length steps ≤ n → length (steps ++ s ∷ []) ≤ n + 1
@@ -21,9 +23,9 @@ returns-then-is_wanted-clause-steps g c =
     let p = g.W.Space.place c.copy_from.new.self in
     let r = g.W.Space.place c.watch.new.self in
     let same : g.W.Space.origin c.watch.new.self ≡ q = c.watch.ensures.origin ∙ c.copy_from.ensures.origin in
-    let told = subst (λ (o : Option ℕ). Watches (after p c.args.step) (passes p c.args.step) o r) c.in-Some.is c.in_ok-passes.ensures.goes in
+    let report = subst (λ (o : Option ℕ). Watches (after p c.args.step) (passes p c.args.step) o r) c.in-Some.is c.in_ok-passes.ensures.goes in
     let there = c.in_ok-copy_from.ensures.there ∙ c.requires.base in
-    let went = step_there after passes q nodes p r c.args.step c.in-Some.passes told in
+    let went = step_there after passes q nodes p r c.args.step c.in-Some.passes report in
     let step = subst (λ (y : g.W.Space.Place). after y c.args.step ≡ Some r) there went.0 in
     let list = c.deref.ensures.value in
     let leads = leads_there after _ q _ nodes c.in_ok-steps.steps.items at same list c.in_ok-steps.ensures.leads in
@@ -51,7 +53,7 @@ returns-clause-chart g c =
     let p = g.W.Space.place c.copy_from.new.self in
     let r = g.W.Space.place c.watch.new.self in
     let same : g.W.Space.origin c.watch.new.self ≡ q = c.watch.ensures.origin ∙ c.copy_from.ensures.origin in
-    let told = subst (λ (o : Option ℕ). Watches (after p s) (passes p s) o r) c.in-Some.is c.in_ok-passes.ensures.goes in
+    let report = subst (λ (o : Option ℕ). Watches (after p s) (passes p s) o r) c.in-Some.is c.in_ok-passes.ensures.goes in
     let number = subst (λ (o : Option ℕ). Numbers after wanted (g.W.Space.origin c.watch.new.self) nodes n first at r o more) c.in-Some-2.is c.in_ok-to.ensures.number in
     let got = subst (λ x. Numbers after wanted x nodes n first at r (Some c.in-Some-2.to) more) same number in
     let place = c.requires.place in
@@ -61,7 +63,22 @@ returns-clause-chart g c =
     let few_more : at ≤ length more = omega (arith, few, longer) in
     let there = c.in_ok-copy_from.ensures.there ∙ c.requires.base ∙ sym (ap (λ (f : Found g.W.Space.Place). f.place) (got.1.stays at few)) in
     charting_more after passes q nodes more got.1 c.args.chart.now c.add.new.self at s _ few c.add.ensures.opened c.add.ensures.kept c.in_ok-add.ensures.added
-    (edge_is_true after passes q more at s c.in-Some.passes c.in-Some-2.to p r few_more there told got.2)
+    (edge_is_true after passes q more at s c.in-Some.passes c.in-Some-2.to p r few_more there report got.2)
     (λ is. let was : c.args.chart.now.kept ≡ true = sym c.add.ensures.kept ∙ is in
-    joined_by after passes q more c.args.chart.now.edges c.add.new.self.edges at s c.in-Some.passes c.in-Some-2.to p r (c.in_ok-add.ensures.added was) there told got.2)
+    joined_by after passes q more c.args.chart.now.edges c.add.new.self.edges at s c.in-Some.passes c.in-Some-2.to p r (c.in_ok-add.ensures.added was) there report got.2)
+    (noted_more after passes q nodes more got.1 c.args.chart.now.marks.items c.add.new.self.marks.items at s c.in-Some.passes p r few c.add.ensures.noted there report c.requires.chart.noted)
     c.requires.chart
+
+pub returns-in_default-2-clause-fills : goal.returns-in_default-2-clause-fills
+returns-in_default-2-clause-fills g c =
+    let after = g.W.Space.after in
+    let wanted = g.W.Space.wanted in
+    let q = g.W.Space.origin c.args.walker.now in
+    let nodes = c.args.store.now.nodes.items in
+    let more = c.number_of.new.store.nodes.items in
+    let front = c.args.front in
+    let r = g.W.Space.place c.watch.new.self in
+    let none = none_of c.in_ok-to.field-0 c.in_default-2.not-Some in
+    let number = subst (λ (o : Option ℕ). Numbers after wanted (g.W.Space.origin c.watch.new.self) nodes front.depth front.end c.args.at r o more) none c.in_ok-to.ensures.number in
+    let room = subst (λ (o : Option ℕ). LeavesRoom c.args.store.now.most c.args.at c.args.step o more) none c.in_ok-to.ensures.leaves in
+    (subst (λ (ns : List Node). AreFound after q front.depth ns) (sym number) (found_here after q wanted nodes front.depth front.end c.args.at c.args.at c.args.step c.requires.explored c.requires.before), room)

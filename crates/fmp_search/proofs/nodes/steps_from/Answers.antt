@@ -1,5 +1,5 @@
 use Rattle.std.specs.Prelude.{IfOk, Result, Ok, Err}
-use Rattle.fmp_search.proofs.Branches.{tree-behind, rest_leads, rest_long}
+use Rattle.fmp_search.proofs.Branches.{tree-following, rest_leads, rest_long}
 use Rattle.fmp_search.proofs.nodes.steps_from.Goals as goal
 
 -- what follows of two facts on what a result holds
@@ -7,8 +7,8 @@ ok_both : {T E : Type 0} (A B C : T → Type 0) (o : Result T E) → ((x : T) �
 ok_both A B C (Ok x) follows a b = follows x a b
 ok_both A B C (Err e) follows a b = tt
 
-pub path_from-requires-clause-behind : goal.path_from-requires-clause-behind
-path_from-requires-clause-behind g c = tree-behind g.W.Space.after _ c.args.nodes.now c.requires.tree
+pub path_from-requires-clause-following : goal.path_from-requires-clause-following
+path_from-requires-clause-following g c = tree-following g.W.Space.after _ c.args.nodes.now c.requires.tree
 
 pub returns-clause-leads : goal.returns-clause-leads
 returns-clause-leads g c =

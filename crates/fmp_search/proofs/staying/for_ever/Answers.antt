@@ -27,16 +27,16 @@ within_turns after wanted q turns room n opened nodes layer.Full so = let lt = s
 within_turns after wanted q turns room n opened nodes layer.Over so = let lt = so.0 in omega (arith, lt)
 within_turns after wanted q turns room n opened nodes layer.Done so = so.within
 
-pub told_of-requires-clause-tree : goal.told_of-requires-clause-tree
-told_of-requires-clause-tree g c =
+pub report_of-requires-clause-tree : goal.report_of-requires-clause-tree
+report_of-requires-clause-tree g c =
     let after = g.W.Space.after in
     let nodes = c.in_ok-found.found.store.nodes.items in
     let same = c.go_through.ensures.walker_origin in
     subst (λ (ns : List Node). IsTree after (g.W.Space.origin c.go_through.new.walker) ns) (sym c.deref-in_default.ensures.value)
     (subst (λ x. IsTree after x nodes) (sym same) c.in_ok-found.ensures.surveyed.found.tree)
 
-pub told_of-requires-clause-charted : goal.told_of-requires-clause-charted
-told_of-requires-clause-charted g c =
+pub report_of-requires-clause-charted : goal.report_of-requires-clause-charted
+report_of-requires-clause-charted g c =
     let after = g.W.Space.after in
     let passes = g.W.Space.passes in
     let found = c.in_ok-found.found in
@@ -44,8 +44,8 @@ told_of-requires-clause-charted g c =
     subst (λ (ns : List Node). IsCharted after passes (g.W.Space.origin c.go_through.new.walker) ns found.chart) (sym c.deref-in_default.ensures.value)
     (subst (λ x. IsCharted after passes x found.store.nodes.items found.chart) (sym same) (c.in_ok-found.ensures.surveyed.charted c.in_ok-found.ensures.kept))
 
-pub told_of-requires-clause-nearest : goal.told_of-requires-clause-nearest
-told_of-requires-clause-nearest g c =
+pub report_of-requires-clause-nearest : goal.report_of-requires-clause-nearest
+report_of-requires-clause-nearest g c =
     let after = g.W.Space.after in
     let found = c.in_ok-found.found in
     let nodes = found.store.nodes.items in
@@ -56,8 +56,8 @@ told_of-requires-clause-nearest g c =
     let near = nearest_by after g.W.Space.passes (g.W.Space.origin c.args.walker.now) nodes found.chart (surveyed.charted c.in_ok-found.ensures.kept) all found.depth surveyed.found in
     subst (λ (ns : List Node). AreNearest after (g.W.Space.origin c.go_through.new.walker) ns) (sym c.deref-in_default.ensures.value) (subst (λ x. AreNearest after x nodes) (sym same) near)
 
-pub told_of-requires-clause-complete : goal.told_of-requires-clause-complete
-told_of-requires-clause-complete g c =
+pub report_of-requires-clause-complete : goal.report_of-requires-clause-complete
+report_of-requires-clause-complete g c =
     let after = g.W.Space.after in
     let found = c.in_ok-found.found in
     let nodes = found.store.nodes.items in

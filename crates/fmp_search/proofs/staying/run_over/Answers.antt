@@ -22,5 +22,5 @@ returns-clause-right g c =
       omega arith,
       subst (λ v. EndsForEver after (test_of g.W.Space.passes c.args.test) q v) (sym c.in_ok-push.ensures.items)
           (found after (test_of g.W.Space.passes c.args.test) q nodes c.args.marks.now c.requires.closed edge.from edge.step c.in_ok-steps.steps.items
-          (record { few = sure.from; next = edge.to; near = sure.to; goes = sure.goes; passes = subst (λ m. is_bit m c.args.test ≡ true) sure.told passed; free = free }) c.in_ok-steps.ensures.leads),
+          (record { few = sure.from; next = edge.to; near = sure.to; goes = sure.goes; passes = subst (λ m. is_bit m c.args.test ≡ true) sure.report passed; free = free }) c.in_ok-steps.ensures.leads),
     )

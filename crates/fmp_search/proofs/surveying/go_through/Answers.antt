@@ -1,11 +1,13 @@
-use Rattle.std.proofs.Common.{arith, ◌≡◌, ◌∙◌, ◌+◌, length, false, List, refl, sym, subst}
+use Rattle.std.proofs.Common.{arith, rules, ◌≡◌, ◌∙◌, ◌+◌, length, Bool, false, List, refl, ap, sym, subst}
+use Rattle.std.proofs.lemmas.List.{length-replicate}
 use Rattle.fmp_search.specs.declared.nodes.Node.{Node}
 use Rattle.fmp_search.specs.declared.surveying.Survey.{Survey}
 use Rattle.fmp_search.specs.Answers.{Explored}
 use Rattle.fmp_search.specs.Charts.{Charting, Charts}
 use Rattle.fmp_search.specs.Growth.{AreBefore, AreFound, Fills, Opens}
+use Rattle.fmp_search.specs.Meeting.{AreNoted}
 use Rattle.fmp_search.specs.Surveys.{GoesSo, IsSurveyed, IsThrough}
-use Rattle.fmp_search.specs.Trees.{StandsAt}
+use Rattle.fmp_search.specs.Cache.{IsCache}
 use Rattle.fmp_search.proofs.Apart.{before_none}
 use Rattle.fmp_search.proofs.Charted.{charting_none}
 use Rattle.fmp_search.proofs.Passed.{passed}
@@ -13,6 +15,10 @@ use Rattle.fmp_search.proofs.Trees.{stands_first}
 use Rattle.fmp_search.proofs.Layers.{explored-root, layer-more, none-within}
 use Rattle.fmp_search.proofs.Surveyed.{found_none, found_of, found_by, charted_by, through_by, through_all, through_last}
 use Rattle.fmp_search.proofs.surveying.go_through.Goals as goal
+
+pub first_cached-requires : goal.first_cached-requires
+first_cached-requires g c =
+    stands_first g.W.Space.after _ c.deref.result.now 0 _ _ refl (c.in_ok-restart.ensures.there ∙ sym c.restart.ensures.origin) c.in_ok-restart.ensures.room
 
 pub loop-depth-init : goal.loop-depth-init
 loop-depth-init g c =
@@ -30,11 +36,13 @@ loop-depth-init g c =
       before = subst (λ (ns : List Node). AreBefore ns 0 0) (sym c.in_ok-store.ensures.empty) before_none;
       room = c.in_ok-store.ensures.room;
       trunk_origin = c.restart.ensures.origin ∙ c.requires.origins.2;
-      trunk = stands_first after q nodes 0 _ _ refl there c.in_ok-restart.ensures.room;
+      cache = subst (λ (ns : List Node). IsCache g.W.Space.place g.W.Space.room g.W.Space.origin after q ns c.in_ok-cache.cache.items) c.deref.ensures.value
+          (subst (λ x. IsCache g.W.Space.place g.W.Space.room g.W.Space.origin after x c.deref.result.now c.in_ok-cache.cache.items) (c.restart.ensures.origin ∙ c.requires.origins.2) c.in_ok-cache.ensures);
       within = omega arith;
       passed = record { few = omega arith; near = λ i lt. absurd (omega (arith, lt)); through = λ steps r lt leads. absurd (omega (arith, lt)) };
-      chart = charting_none after g.W.Space.passes q nodes c.new-chart.result c.new-chart.ensures.opened c.new-chart.ensures.edges;
-      kept = c.new-chart.ensures.kept;
+      chart = charting_none after g.W.Space.passes q nodes c.in_ok-chart.chart c.args.count c.in_ok-chart.ensures.opened c.in_ok-chart.ensures.edges c.in_ok-chart.ensures.marks;
+      kept = c.in_ok-chart.ensures.kept;
+      marks = ap (λ (bs : List Bool). length bs) c.in_ok-chart.ensures.marks ∙ length-replicate c.args.count false;
     }
 
 pub loop-depth-preserved : goal.loop-depth-preserved
@@ -55,16 +63,17 @@ loop-depth-preserved g c =
       explored = layer-more after wanted q nodes depth end explored;
       few = explored.few;
       walker_origin = c.open_layer.ensures.walker_origin ∙ inv.walker_origin;
-      base_origin = c.open_layer.ensures.base_origin ∙ c.move_trunk.ensures.base_origin ∙ inv.base_origin;
+      base_origin = c.open_layer.ensures.base_origin ∙ inv.base_origin;
       other_origin = c.open_layer.ensures.other_origin ∙ inv.other_origin;
       before = subst (λ how. Fills after (g.W.Space.origin c.loop-depth.walker) depth c.loop-depth.store.most end 0 how nodes) c.in-Done.is c.in_ok-how.ensures.fills;
       room = c.open_layer.ensures.room ∙ inv.room;
-      trunk_origin = c.move_trunk.ensures.trunk_origin ∙ inv.trunk_origin;
-      trunk = subst (λ x. StandsAt after x nodes c.in_ok-stem.stem (g.W.Space.place c.move_trunk.new.trunk) (g.W.Space.room c.move_trunk.new.trunk)) inv.walker_origin c.in_ok-how.ensures.trunk;
+      trunk_origin = inv.trunk_origin;
+      cache = subst (λ x. IsCache g.W.Space.place g.W.Space.room g.W.Space.origin after x nodes c.open_layer.new.cache.items) inv.walker_origin c.in_ok-how.ensures.cache;
       within = omega (arith, before);
       passed = passed after wanted q nodes depth end explored;
       chart = subst (λ x. Charting after passes x nodes chart end 0) inv.walker_origin charts;
       kept = c.open_layer.ensures.kept ∙ inv.kept;
+      marks = c.open_layer.ensures.marks ∙ inv.marks;
     }
 
 pub returns-then-is_wanted-clause-surveyed : goal.returns-then-is_wanted-clause-surveyed
@@ -72,10 +81,15 @@ returns-then-is_wanted-clause-surveyed g c =
     let after = g.W.Space.after in
     let q = g.W.Space.origin c.args.walker.now in
     let nodes = c.in_ok-store.store.nodes.items in
-    let chart = charting_none after g.W.Space.passes q nodes c.new-chart.result c.new-chart.ensures.opened c.new-chart.ensures.edges in
+    let chart = charting_none after g.W.Space.passes q nodes c.in_ok-chart.chart c.args.count c.in_ok-chart.ensures.opened c.in_ok-chart.ensures.edges c.in_ok-chart.ensures.marks in
     subst (λ (s : Survey). IsSurveyed g.W.Space.after g.W.Space.passes (g.W.Space.origin c.args.walker.now) s) (sym c.of.ensures) (
-    record { found = found_none after q nodes c.in_ok-store.ensures.empty; charted = chart.charted }
+    record { found = found_none after q nodes c.in_ok-store.ensures.empty; charted = chart.charted; noted = λ is. absurd (search (rules, is)) }
     )
+
+pub returns-then-is_wanted-clause-marks : goal.returns-then-is_wanted-clause-marks
+returns-then-is_wanted-clause-marks g c =
+    subst (λ (s : Survey). length s.chart.marks.items ≡ c.args.count) (sym c.of.ensures)
+    (ap (λ (bs : List Bool). length bs) c.in_ok-chart.ensures.marks ∙ length-replicate c.args.count false)
 
 pub returns-then-begin-end-clause-surveyed : goal.returns-then-begin-end-clause-surveyed
 returns-then-begin-end-clause-surveyed g c =
@@ -84,6 +98,8 @@ returns-then-begin-end-clause-surveyed g c =
     record {
       found = found_of g.W.Space.after (g.W.Space.origin c.args.walker.now) g.W.Space.wanted c.loop-depth.store.nodes.items c.loop-depth.depth c.loop-depth.begin inv.explored inv.before.apart;
       charted = inv.chart.charted;
+      noted = λ is. subst (λ n. AreNoted g.W.Space.after g.W.Space.passes (g.W.Space.origin c.args.walker.now) c.loop-depth.store.nodes.items c.loop-depth.chart.marks.items n 0)
+          (sym inv.chart.opened) inv.chart.noted;
     }
     )
 
@@ -112,6 +128,7 @@ returns-in_default-clause-surveyed g c =
     record {
       found = found_by after _ how c.loop-depth.depth c.loop-depth.store.most c.count-end.result 0 nodes c.in_default.not-Done fills;
       charted = charted_by after _ passes how nodes chart c.count-end.result 0 charts;
+      noted = λ is. absurd (c.in_default.not-Done is);
     }
     )
 
@@ -145,6 +162,8 @@ returns-clause-surveyed g c =
       found = subst (λ n. AreFound g.W.Space.after (g.W.Space.origin c.args.walker.now) n c.loop-depth.store.nodes.items) last
           (found_of g.W.Space.after (g.W.Space.origin c.args.walker.now) g.W.Space.wanted c.loop-depth.store.nodes.items c.loop-depth.depth c.loop-depth.begin inv.explored inv.before.apart);
       charted = inv.chart.charted;
+      noted = λ is. subst (λ n. AreNoted g.W.Space.after g.W.Space.passes (g.W.Space.origin c.args.walker.now) c.loop-depth.store.nodes.items c.loop-depth.chart.marks.items n 0)
+          (sym inv.chart.opened) inv.chart.noted;
     }
     )
 

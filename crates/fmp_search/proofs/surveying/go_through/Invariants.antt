@@ -3,7 +3,7 @@ use Rattle.fmp_search.specs.Answers.{Explored}
 use Rattle.fmp_search.specs.Charts.{Charting}
 use Rattle.fmp_search.specs.Growth.{AreBefore}
 use Rattle.fmp_search.specs.Surveys.{IsPassed}
-use Rattle.fmp_search.specs.Trees.{StandsAt}
+use Rattle.fmp_search.specs.Cache.{IsCache}
 use Rattle.fmp_search.proofs.surveying.go_through.Given as goal
 
 abbrev pub invariant-loop-depth : goal.invariant-loop-depth
@@ -18,9 +18,10 @@ invariant-loop-depth g l =
       before : AreBefore nodes l.begin 0;
       room : l.store.most ≡ l.fn.most;
       trunk_origin : g.W.Space.origin l.trunk ≡ q;
-      trunk : StandsAt g.W.Space.after q nodes l.stem (g.W.Space.place l.trunk) (g.W.Space.room l.trunk);
+      cache : IsCache g.W.Space.place g.W.Space.room g.W.Space.origin g.W.Space.after q nodes l.cache.items;
       within : l.depth ≤ l.fn.turns;
       passed : IsPassed g.W.Space.after q nodes l.depth l.begin;
       chart : Charting g.W.Space.after g.W.Space.passes q nodes l.chart l.begin 0;
       kept : l.chart.kept ≡ l.fn.kept;
+      marks : length l.chart.marks.items ≡ l.fn.count;
     }

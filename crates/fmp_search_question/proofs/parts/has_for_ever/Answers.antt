@@ -16,14 +16,14 @@ module _ (after_for : Bool) (text : List ℕ) where
   abbrev ends : Bool
   ends = after_for && bytes_eq word (codes "ever")
 
-  abbrev behind : Bool
-  behind = spec.has_for_ever (bytes_eq word (codes "for")) (pieces_left space (cut_at space text).1)
+  abbrev following : Bool
+  following = spec.has_for_ever (bytes_eq word (codes "for")) (pieces_left space (cut_at space text).1)
 
   first : ends ≡ true → spec.has_for_ever after_for (pieces_of space text) ≡ true
-  first is = ap (spec.has_for_ever after_for) (pieces_of-cut space text) ∙ or_true ends behind is
+  first is = ap (spec.has_for_ever after_for) (pieces_of-cut space text) ∙ or_true ends following is
 
-  rest : ends ≡ false → spec.has_for_ever after_for (pieces_of space text) ≡ behind
-  rest is = ap (spec.has_for_ever after_for) (pieces_of-cut space text) ∙ or_false ends behind is
+  rest : ends ≡ false → spec.has_for_ever after_for (pieces_of space text) ≡ following
+  rest is = ap (spec.has_for_ever after_for) (pieces_of-cut space text) ∙ or_false ends following is
 
 tried : (c : After-is_ever) → c.is_ever.result ≡ ends c.loop-rest.after_for c.in-Some.words.now
 tried c = c.is_ever.ensures ∙ ap (λ w. c.loop-rest.after_for && bytes_eq w (codes "ever")) c.cut.ensures.prefix

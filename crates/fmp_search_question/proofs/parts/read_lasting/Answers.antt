@@ -16,7 +16,7 @@ so_far c = rw c.in-Some.is at c.loop-rest.invariant.0
 pub returns-in-Ok-Some-clause-err : goal.returns-in-Ok-Some-clause-err
 unfolding spec.lasting_in
 returns-in-Ok-Some-clause-err c other =
-    let is = sym c.in-Ok-Some.field-0-is ∙ c.in-Ok-Some.ensures.told ∙ ap (λ w. spec.fault_of (spec.after_word c.args.names.now c.loop-rest.parts w)) c.cut.ensures.prefix in
+    let is = sym c.in-Ok-Some.field-0-is ∙ c.in-Ok-Some.ensures.report ∙ ap (λ w. spec.fault_of (spec.after_word c.args.names.now c.loop-rest.parts w)) c.cut.ensures.prefix in
     ap (result_then (spec.ended (length c.args.text.now)))
     (sym (so_far (goal.at.returns-in-Ok-Some-clause-err c).After-add)
     ∙ word_fault c.args.names.now (length c.args.text.now) c.loop-rest.parts c.in-Some.words.now c.in-Ok-Some.fault is)
@@ -28,7 +28,7 @@ pub loop-rest-preserved : goal.loop-rest-preserved
 loop-rest-preserved c =
     let names = c.args.names.now in
     let bytes = length c.args.text.now in
-    let is = sym c.in-Ok-None.field-0-is ∙ c.in-Ok-None.ensures.told ∙ ap (λ w. spec.fault_of (spec.after_word names c.loop-rest.parts w)) c.cut.ensures.prefix in
+    let is = sym c.in-Ok-None.field-0-is ∙ c.in-Ok-None.ensures.report ∙ ap (λ w. spec.fault_of (spec.after_word names c.loop-rest.parts w)) c.cut.ensures.prefix in
     let read = word_read names bytes c.loop-rest.parts c.in-Some.words.now is in
     let new : c.add.new.self ≡ read.0 = c.in-Ok-None.ensures.added read.0 (ap (spec.after_word names c.loop-rest.parts) c.cut.ensures.prefix ∙ read.1) in
     let less : option_map_or (λ r. length r + 1) (option_copied c.cut.result.1) 0 < length c.in-Some.words.now + 1 =

@@ -21,9 +21,9 @@ loop-event-preserved c =
     let m = replay numbered (booted config) given in
     let so_far = c.loop-event.invariant in
     let longer : take (index + 1) events ≡ given ++ e ∷ [] = take_more events index e c.loop-event-test.true ∙ ap (λ (x : Event). given ++ x ∷ []) (sym c.event-item.is) in
-    let told = c.step_into.ensures.record m so_far.stands in
+    let report = c.step_into.ensures.record m so_far.stands in
     let stands = c.step_into.ensures.stands m so_far.stands in
-    let added = c.in_ok-put_made.ensures ∙ ap (λ (r : Record). c.loop-event.all.items ++ made_by r.runner r.event) told in
+    let added = c.in_ok-put_made.ensures ∙ ap (λ (r : Record). c.loop-event.all.items ++ made_by r.runner r.event) report in
     record {
       stands = subst (λ (es : List Event). Stands c.step_into.new.self (replay numbered (booted config) es)) (sym longer) (stands_after config given e c.step_into.new.self stands);
       processors = c.step_into.ensures.processors ∙ so_far.processors;

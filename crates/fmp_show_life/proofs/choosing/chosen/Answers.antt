@@ -5,11 +5,11 @@ use Rattle.fmp_bytes.specs.Bytes.{cut_at, pieces_of}
 use Rattle.fmp_bytes.proofs.Cutting.{fewer_left, pieces_left}
 use Rattle.fmp_show_life.specs.declared.things.Thing.{Thing}
 use Rattle.fmp_show_life.specs.Things.{chosen_in, thing_named, things_from}
-use Rattle.fmp_show_life.proofs.Names.{behind_these, none_there, one_more, watch_more}
+use Rattle.fmp_show_life.proofs.Names.{after_these, none_there, one_more, watch_more}
 use Rattle.fmp_show_life.proofs.choosing.chosen.Goals as goal
 use Rattle.fmp_show_life.proofs.choosing.chosen.Goals.{In-Some}
 
-so_far : (c : In-Some) → behind_these (map (λ x. x.thing) c.loop-rest.watched.items) (things_from c.args.names.now c.loop-rest.count (pieces_of 44 c.in-Some.list.now)) ≡ chosen_in c.args.names.now c.args.text.now
+so_far : (c : In-Some) → after_these (map (λ x. x.thing) c.loop-rest.watched.items) (things_from c.args.names.now c.loop-rest.count (pieces_of 44 c.in-Some.list.now)) ≡ chosen_in c.args.names.now c.args.text.now
 so_far c = rw c.in-Some.is at c.loop-rest.invariant.things
 
 pub returns-in-None-clause-unknown : goal.returns-in-None-clause-unknown
@@ -27,7 +27,7 @@ loop-rest-preserved c =
     let rest = pieces_left 44 (cut_at 44 c.in-Some.list.now).1 in
     let fewer = fewer_left 44 (option_copied c.loop-rest.rest) (option_copied c.cut.result.1) c.in-Some.list.now (ap option_copied c.in-Some.is) c.cut.ensures.rest in
     record {
-      things = rw c.cut.ensures.rest (ap (λ (xs : List Thing). behind_these xs (things_from c.args.names.now (c.loop-rest.count + 1) rest)) more.0
+      things = rw c.cut.ensures.rest (ap (λ (xs : List Thing). after_these xs (things_from c.args.names.now (c.loop-rest.count + 1) rest)) more.0
           ∙ one_more c.args.names.now c.loop-rest.count c.in-Some.list.now _ c.in-Some-thing_named.thing _
           (sym c.in-Some-thing_named.is ∙ (c.thing_named.ensures ∙ ap (thing_named c.args.names.now) c.cut.ensures.prefix)) (so_far (goal.at.loop-rest-preserved c).In-Some));
       fresh = more.1;

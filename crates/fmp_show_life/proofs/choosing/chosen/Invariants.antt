@@ -4,13 +4,13 @@ use Rattle.fmp_bytes.proofs.Cutting.{pieces_left}
 use Rattle.fmp_show_life.specs.Lives.{unseen}
 use Rattle.fmp_show_life.specs.Things.{chosen_in, things_from}
 use Rattle.fmp_show_life.specs.Watches.{seen_of}
-use Rattle.fmp_show_life.proofs.Names.{behind_these}
+use Rattle.fmp_show_life.proofs.Names.{after_these}
 use Rattle.fmp_show_life.proofs.choosing.chosen.Given as goal
 
 -- the things so far, and those of the names that are left
 abbrev pub invariant-loop-rest : goal.invariant-loop-rest
 invariant-loop-rest l = record {
-  things : behind_these (map (λ x. x.thing) l.watched.items) (things_from l.names l.count (pieces_left 44 (option_copied l.rest))) ≡ chosen_in l.names l.fn.text;
+  things : after_these (map (λ x. x.thing) l.watched.items) (things_from l.names l.count (pieces_left 44 (option_copied l.rest))) ≡ chosen_in l.names l.fn.text;
   fresh : map seen_of l.watched.items ≡ map unseen (map (λ x. x.thing) l.watched.items);
   few : l.count + option_map_or (λ rest. length rest + 1) (option_copied l.rest) 0 ≤ length l.fn.text + 1;
 }

@@ -1,5 +1,5 @@
 use Rattle.std.proofs.Common.{◌<◌, length, rules, arith}
-use Rattle.fmp_show_life.proofs.Telling.{one_seen, one_told, rest_same}
+use Rattle.fmp_show_life.proofs.Telling.{one_seen, one_reported, rest_same}
 use Rattle.fmp_show_life.proofs.life.put_all.Goals as goal
 
 pub loop-watched-preserved : goal.loop-watched-preserved
@@ -7,7 +7,7 @@ loop-watched-preserved c =
     let lt : c.loop-watched.watched-index < length c.loop-watched.all = search rules in
     let lt_first : c.loop-watched.watched-index < length c.args.all.now = omega (arith, lt, c.loop-watched.invariant.count) in
     record {
-      told = one_told c.args.names.now c.args.kernel.now _ _ c.loop-watched.watched-index c.watched-item.result lt lt_first _ _ _ c.loop-watched.invariant.rest c.in_ok-put_change.ensures.told c.loop-watched.invariant.told;
+      report = one_reported c.args.names.now c.args.kernel.now _ _ c.loop-watched.watched-index c.watched-item.result lt lt_first _ _ _ c.loop-watched.invariant.rest c.in_ok-put_change.ensures.report c.loop-watched.invariant.report;
       count = search rules;
       rest = rest_same c.args.names.now c.args.kernel.now _ _ c.loop-watched.watched-index c.watched-item.result lt lt_first _ c.loop-watched.invariant.rest;
       front = one_seen c.args.names.now c.args.kernel.now _ _ c.loop-watched.watched-index c.watched-item.result lt lt_first _ c.loop-watched.invariant.rest c.in_ok-put_change.ensures.seen c.loop-watched.invariant.front;

@@ -1,13 +1,13 @@
 use Rattle.std.proofs.Common.{◌≡◌, ◌++◌, map, take, drop, length}
 use Rattle.std.specs.List.{flat_map}
-use Rattle.fmp_show_life.specs.Lives.{renewed, told_since}
+use Rattle.fmp_show_life.specs.Lives.{renewed, report_since}
 use Rattle.fmp_show_life.specs.Watches.{seen_of}
 use Rattle.fmp_show_life.proofs.life.put_all.Given as goal
 
 -- those so far are told and kept in mind, and the others are as they were
 abbrev pub invariant-loop-watched : goal.invariant-loop-watched
 invariant-loop-watched l = record {
-  told : l.out.items ++ flat_map (told_since l.names l.kernel) (map seen_of (drop l.watched-index l.fn.all)) ≡ l.fn.out.items ++ flat_map (told_since l.names l.kernel) (map seen_of l.fn.all);
+  report : l.out.items ++ flat_map (report_since l.names l.kernel) (map seen_of (drop l.watched-index l.fn.all)) ≡ l.fn.out.items ++ flat_map (report_since l.names l.kernel) (map seen_of l.fn.all);
   count : length l.all ≡ length l.fn.all;
   rest : drop l.watched-index l.all ≡ drop l.watched-index l.fn.all;
   front : map seen_of (take l.watched-index l.all) ≡ map (renewed l.names l.kernel) (map seen_of (take l.watched-index l.fn.all));

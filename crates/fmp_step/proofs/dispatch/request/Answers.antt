@@ -1,6 +1,6 @@
-use Rattle.std.proofs.Common.{◌≡◌, [], List, ap, sym, ◌∙◌}
+use Rattle.std.proofs.Common.{◌≡◌, List, ap, sym, ◌∙◌}
 use Rattle.fmp_codes.specs.declared.numbers.Proc.{Proc}
-use Rattle.fmp_rules.specs.Step.{requests, tops, latched}
+use Rattle.fmp_rules.specs.Step.{tops, latched}
 use Rattle.fmp_step.proofs.Processors.{none_requested}
 use Rattle.fmp_step.proofs.dispatch.request.Goals as goal
 

@@ -15,4 +15,4 @@ returns c =
     let a = c.in_ok-trace.ensures in
     let same_trace = c.new-2.ensures.0 ∙ c.bytes.ensures ∙ a.2 in
     let answered : Answered c.new.result.rest.now c.args.events.now c.new-2.result.rest.now = rw (c.new.ensures.0, same_trace) a.1 in
-    yes_if_ok c.run_check.result (c.run_check.ensures.texts.answers refl refl c.args.events.now answered)
+    yes_if_ok c.run_check.result (c.run_check.ensures.owes.texts.answers refl refl c.args.events.now answered)

@@ -16,13 +16,13 @@ pub returns-in-Ok-None-clause-gives : goal.returns-in-Ok-None-clause-gives
 returns-in-Ok-None-clause-gives c =
     let end = c.args.searched + c.in-Some.found in
     let skipped = sym c.line_event-said.ensures ∙ said_as _ c.in-Ok-None.field-0 None c.in-Ok-None.is (rw c.in-Ok-None.is at c.in-Ok-None.field-0-is) in
-    line_skipped c.args.names.now c.args.before c.args.bytes.now _ end (feed (goal.at.returns-in-Ok-None-clause-gives c).In-Some) refl _ c.first_said-behind.result skipped
-    (take-to_end c.args.bytes.now (end + 1)) c.first_said-behind.ensures.gives
+    line_skipped c.args.names.now c.args.before c.args.bytes.now _ end (feed (goal.at.returns-in-Ok-None-clause-gives c).In-Some) refl _ c.first_said-following.result skipped
+    (take-to_end c.args.bytes.now (end + 1)) c.first_said-following.ensures.gives
 
 pub returns-in-Ok-None-clause-whole : goal.returns-in-Ok-None-clause-whole
 returns-in-Ok-None-clause-whole c =
     let end = c.args.searched + c.in-Some.found in
-    λ nothing. none_left c.args.bytes.now _ (end + 1) c.first_said-behind.result.used (take-to_end c.args.bytes.now (end + 1)) (c.first_said-behind.ensures.whole nothing)
+    λ nothing. none_left c.args.bytes.now _ (end + 1) c.first_said-following.result.used (take-to_end c.args.bytes.now (end + 1)) (c.first_said-following.ensures.whole nothing)
 
 pub returns-in_default-said-clause-gives : goal.returns-in_default-said-clause-gives
 returns-in_default-said-clause-gives c =

@@ -5,7 +5,7 @@ use Rattle.fmp_bytes.proofs.Cutting.{shorter}
 use Rattle.fmp_trace.specs.Heads.{event_of}
 use Rattle.fmp_trace_check.specs.Comparing.{hunks_from, difference_at}
 use Rattle.fmp_trace_check.specs.Differences.{difference_text}
-use Rattle.fmp_trace_check.specs.Walking.{behind, own_core, prints_answer}
+use Rattle.fmp_trace_check.specs.Walking.{following, own_core, prints_answer}
 use Rattle.fmp_trace_check.specs.declared.comparing.Shown.TheVariants.{Each}
 use Rattle.fmp_trace_check.proofs.Hunks.{hunk_of_own, hunk_of_other, no_hunks}
 use Rattle.fmp_trace_check.proofs.comparing.put_hunks.Goals as goal
@@ -23,15 +23,16 @@ loop-line-preserved-in_ok-put_hunk c =
     let names = c.args.names.now in
     let line = c.in-Some.line.now in
     let out = c.loop-line.out.items in
-    let behind_it = hunks_from names (behind w (event_of names line)) (n + 1) (pieces_of 10 c.in-Some.after.now) in
+    let after_it = hunks_from names (following w (event_of names line)) (n + 1) (pieces_of 10 c.in-Some.after.now) in
     let other : prints_answer names w n line (event_of names line) ≡ false = sym c.play.ensures.same ∙ c.if-not-play.true in
     let own_is : c.as_slice.result.now ≡ own_core names w n (event_of names line) = c.as_slice.ensures ∙ c.play.ensures.own in
     let put : c.put_hunk.new.out.items ≡ out ++ difference_text Each (difference_at names w n line) = rw own_is at c.in_ok-put_hunk.ensures in
     record {
-      told = rw (put, c.play.ensures.state) (append_assoc out (difference_text Each (difference_at names w n line)) behind_it
+      report = rw (put, c.play.ensures.state) (append_assoc out (difference_text Each (difference_at names w n line)) after_it
           ∙ ap (λ (hunks : List ℕ). out ++ hunks) (sym (hunk_of_other names w n c.loop-line.rest.now line c.in-Some.after.now c.in-Some.ensures.line c.in-Some.ensures.rest other))
-          ∙ c.loop-line.invariant.told);
+          ∙ c.loop-line.invariant.report);
       steps = omega (arith, c.loop-line.invariant.steps, c.play.ensures.steps);
+      count = c.play.ensures.count;
       left = omega (arith, c.loop-line.invariant.left, shorter 10 c.loop-line.rest.now c.in-Some.after.now c.in-Some.ensures.rest);
     }
 
@@ -43,9 +44,10 @@ loop-line-preserved c =
     let line = c.in-Some.line.now in
     let own : prints_answer names w n line (event_of names line) ≡ true = sym c.play.ensures.same ∙ c.if-not-play.false in
     record {
-      told = rw c.play.ensures.state (ap (λ (hunks : List ℕ). c.loop-line.out.items ++ hunks) (sym (hunk_of_own names w n c.loop-line.rest.now line c.in-Some.after.now c.in-Some.ensures.line c.in-Some.ensures.rest own))
-          ∙ c.loop-line.invariant.told);
+      report = rw c.play.ensures.state (ap (λ (hunks : List ℕ). c.loop-line.out.items ++ hunks) (sym (hunk_of_own names w n c.loop-line.rest.now line c.in-Some.after.now c.in-Some.ensures.line c.in-Some.ensures.rest own))
+          ∙ c.loop-line.invariant.report);
       steps = omega (arith, c.loop-line.invariant.steps, c.play.ensures.steps);
+      count = c.play.ensures.count;
       left = omega (arith, c.loop-line.invariant.left, shorter 10 c.loop-line.rest.now c.in-Some.after.now c.in-Some.ensures.rest);
     }
 
@@ -54,4 +56,4 @@ returns c =
     let out = c.loop-line.out.items in
     sym (append-nil out)
     ∙ ap (λ (hunks : List ℕ). out ++ hunks) (sym (no_hunks c.args.names.now c.loop-line.player.plain.state (c.loop-line.number + 1) c.loop-line.rest.now c.in_default.ensures.none))
-    ∙ c.loop-line.invariant.told
+    ∙ c.loop-line.invariant.report

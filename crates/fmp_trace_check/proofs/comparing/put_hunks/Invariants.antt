@@ -5,8 +5,9 @@ use Rattle.fmp_trace_check.proofs.comparing.put_hunks.Given as goal
 
 abbrev pub invariant-loop-line : goal.invariant-loop-line
 invariant-loop-line l = record {
-  told : l.out.items ++ hunks_from l.names l.player.plain.state (l.number + 1) (pieces_of 10 l.rest) ≡ l.fn.out.items ++ hunks_from l.names l.fn.player.plain.state (l.n + 1) (pieces_of 10 l.text);
+  report : l.out.items ++ hunks_from l.names l.player.plain.state (l.number + 1) (pieces_of 10 l.rest) ≡ l.fn.out.items ++ hunks_from l.names l.fn.player.plain.state (l.n + 1) (pieces_of 10 l.text);
   steps : l.player.plain.steps ≤ l.number;
+  count : l.player.count ≡ l.number;
   left : l.number + length l.rest ≤ l.n + length l.text;
 }
 

@@ -11,10 +11,10 @@ use Rattle.fmp_law_safety.proofs.Counted.{counts_booted}
 use Rattle.fmp_text.specs.Limits.{most_events}
 use Rattle.fmp_trace.specs.Heads.{event_of}
 use Rattle.fmp_trace.proofs.Numbered.{goes_on}
-use Rattle.fmp_trace_check.specs.Walking.{behind, own_core, prints_answer}
+use Rattle.fmp_trace_check.specs.Walking.{following, own_core, prints_answer}
 use Rattle.fmp_trace_check.specs.Watching.{watched_from}
-use Rattle.fmp_trace_check.proofs.Watched.{watched_behind, watched_nowhere}
-use Rattle.fmp_trace_check.proofs.OwnLines.{goes_behind, stops_here, stops_nowhere, is_own, reads_begin, is_within}
+use Rattle.fmp_trace_check.proofs.Watched.{watched_after, watched_nowhere}
+use Rattle.fmp_trace_check.proofs.OwnLines.{goes_after, stops_here, stops_nowhere, is_own, reads_begin, is_within}
 use Rattle.fmp_trace_check.proofs.walking.walk_within.Goals as goal
 use Rattle.fmp_trace_check.proofs.walking.walk_within.Goals.{then-not-own-via-then-not-own, then-not-own-via-else-not-own+then-number-gt-MOST_EVENTS}
 
@@ -28,6 +28,7 @@ loop-line-init g c =
       watched = rw state_is refl;
       goes = record { safe = c.in_ok-player.ensures.safe; counts = rw state_is (counts_booted c.args.config.now c.names-names.ensures.valid) };
       steps = omega (arith, steps_are);
+      count = omega (arith, c.in_ok-player.ensures.count);
       left = omega arith;
     }
 
@@ -41,7 +42,7 @@ returns-then-not-own-clause-stop g c =
     let w = c.loop-line.player.plain.state in
     let line = c.in-Some.line.now in
     let names = c.args.config.now.names in
-    let state_is : c.play-own.new.self.plain.state ≡ behind w (event_of names line) = rw named at c.play-own.ensures.state in
+    let state_is : c.play-own.new.self.plain.state ≡ following w (event_of names line) = rw named at c.play-own.ensures.state in
     let own_is : c.play-own.new.self.own ≡ own_core names w n (event_of names line) = rw named at c.play-own.ensures.own in
     elim c.then-not-own.branch [
       | then-not-own-via-then-not-own b ↦
@@ -65,13 +66,13 @@ loop-line-preserved g c =
     let line = c.in-Some.line.now in
     let names = c.args.config.now.names in
     let so_far = c.loop-line.invariant.read in
-    let state_is : c.play-own.new.self.plain.state ≡ behind w (event_of names line) = rw named at c.play-own.ensures.state in
+    let state_is : c.play-own.new.self.plain.state ≡ following w (event_of names line) = rw named at c.play-own.ensures.state in
     let test : prints_answer c.names-names.result.now w n line (event_of c.names-names.result.now line) ≡ true = sym c.play-own.ensures.same ∙ c.if-not-own.false in
-    let event = c.play-own.new.self.told.event in
+    let event = c.play-own.new.self.report.event in
     let after = c.in-Some.after.now in
-    let told : event_of names line ≡ Some event = rw named at (c.play-own.ensures.told c.if-not-own.false) in
-    let state_too : c.play-own.new.self.plain.state ≡ (step numbered w event).0 = state_is ∙ ap (behind w) told in
-    let said = c.play-own.new.self.told in
+    let report : event_of names line ≡ Some event = rw named at (c.play-own.ensures.report c.if-not-own.false) in
+    let state_too : c.play-own.new.self.plain.state ≡ (step numbered w event).0 = state_is ∙ ap (following w) report in
+    let said = c.play-own.new.self.report in
     let answer : said ≡ (step numbered w event).1 = c.play-own.ensures.answer c.if-not-own.false in
     let saw : c.watch.new.self ≡ g.W.Watcher.watched c.loop-line.watcher names n (step numbered w event).1 (step numbered w event).0 =
     c.in_ok-watch.ensures
@@ -84,11 +85,12 @@ loop-line-preserved g c =
       read = (so_far.0 ++ own.1.0 ∷ [], goes_on names _ so_far.0 n c.loop-line.rest.now so_far.1 line c.in-Some.after.now own.1.0 c.in-Some.ensures.line c.in-Some.ensures.rest own.1.1);
       watched = ap (λ (x : State). watched_from g.W.Watcher.watched names x (n + 1) (pieces_of 10 after) c.watch.new.self) state_too
           ∙ ap (watched_from g.W.Watcher.watched names (step numbered w event).0 (n + 1) (pieces_of 10 after)) saw
-          ∙ sym (watched_behind g.W.Watcher.watched names w n c.loop-line.rest.now line after event c.loop-line.watcher c.in-Some.ensures.line c.in-Some.ensures.rest told)
+          ∙ sym (watched_after g.W.Watcher.watched names w n c.loop-line.rest.now line after event c.loop-line.watcher c.in-Some.ensures.line c.in-Some.ensures.rest report)
           ∙ c.loop-line.invariant.watched;
-      stop = rw state_is (sym (goes_behind names w n c.loop-line.rest.now line c.in-Some.after.now c.in-Some.ensures.line c.in-Some.ensures.rest (rw named at test)) ∙ c.loop-line.invariant.stop);
+      stop = rw state_is (sym (goes_after names w n c.loop-line.rest.now line c.in-Some.after.now c.in-Some.ensures.line c.in-Some.ensures.rest (rw named at test)) ∙ c.loop-line.invariant.stop);
       goes = rw state_is own.0;
       steps = omega (arith, c.loop-line.invariant.steps, c.play-own.ensures.steps);
+      count = omega (arith, c.play-own.ensures.count);
       left = omega (arith, c.loop-line.invariant.left, shorter 10 c.loop-line.rest.now c.in-Some.after.now c.in-Some.ensures.rest);
     }
 

@@ -12,6 +12,7 @@ invariant-loop-line g l = record {
   watched : watched_from g.W.Watcher.watched l.config.names l.player.plain.state l.number (pieces_of 10 l.rest) l.watcher ≡ watched_in g.W.Watcher.watched l.config l.text l.fn.watcher;
   goes : Goes l.config l.player.plain.state;
   steps : l.player.plain.steps + 1 ≤ l.number;
+  count : l.player.count + 1 ≡ l.number;
   left : l.number + length l.rest ≤ length l.text + 1;
 }
 

@@ -4,7 +4,7 @@ use Rattle.fmp_bytes.proofs.Cutting.{shorter}
 use Rattle.fmp_rules.specs.Boot.{booted}
 use Rattle.fmp_names.specs.Names.{AreValid}
 use Rattle.fmp_plain.specs.Run.{Run}
-use Rattle.fmp_trace_check_partial.specs.Following.{state_behind, verdict_behind}
+use Rattle.fmp_trace_check_partial.specs.Following.{state_after, verdict_after}
 use Rattle.fmp_trace_check_partial.proofs.Followed.{goes_on, ends, is_whole, is_short}
 use Rattle.fmp_trace_check_partial.proofs.following.judge_lines.Goals as goal
 
@@ -38,8 +38,8 @@ loop-line-preserved c =
     let line = c.in-Some.line.now in
     let s = c.in_ok-said.said in
     let small : n < 2 ^ 64 = omega (arith, c.loop-line.invariant.left, c.requires) in
-    let verdict_is : c.follow.new.self.verdict ≡ verdict_behind names v w n s line = rw named at c.in_ok-follow.ensures.verdict in
-    let state_is : c.follow.new.self.plain.state ≡ state_behind v w s = c.follow.ensures.state in
+    let verdict_is : c.follow.new.self.verdict ≡ verdict_after names v w n s line = rw named at c.in_ok-follow.ensures.verdict in
+    let state_is : c.follow.new.self.plain.state ≡ state_after v w s = c.follow.ensures.state in
     record {
       judged = rw (verdict_is, state_is) (goes_on names _ v w n c.loop-line.rest.now c.loop-line.invariant.judged (subst AreValid named c.validity.ensures) small line c.in-Some.after.now s c.in-Some.ensures.line c.in-Some.ensures.rest (rw named at c.in_ok-said.ensures));
       steps = omega (arith, c.loop-line.invariant.steps, c.follow.ensures.steps);

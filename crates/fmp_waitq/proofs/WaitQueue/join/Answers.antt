@@ -12,7 +12,7 @@ push_last-requires c = is_absent c.self.inside.order c.self.inside.ranks c.self.
 
 pub insert_before-requires-clause-there : goal.insert_before-requires-clause-there
 insert_before-requires-clause-there c =
-    spot_there (rank_in c.self.inside.ranks) c.args.priority.number c.self.inside.tasks c.in-Some.behind (sym c.spot-behind.ensures ∙ c.in-Some.is)
+    spot_there (rank_in c.self.inside.ranks) c.args.priority.number c.self.inside.tasks c.in-Some.following (sym c.spot-following.ensures ∙ c.in-Some.is)
 
 pub insert_before-requires-clause-nowhere : goal.insert_before-requires-clause-nowhere
 insert_before-requires-clause-nowhere c = is_absent c.self.inside.order c.self.inside.ranks c.self.inside.tasks c.args.self.now c.args.task c.self.view_is c.requires
@@ -39,8 +39,8 @@ returns-in-Some c =
     let out = is_absent c.self.inside.order c.self.inside.ranks c.self.inside.tasks c.args.self.now c.args.task c.self.view_is c.requires in
     joined_is c.self.inside.order r _ ts c.insert_before.new.self c.args.self.now t c.args.priority n c.self.view_is (ap (λ (o : Order). rank_of o c.args.priority) c.in-Priority.is)
     (ap (map (waiter_in (slice_set r c.index-in-Priority.result n))) c.insert_before.ensures
-    ∙ ap (λ (i : ℕ). map (waiter_in (slice_set r i n)) (inserted c.in-Some.behind t ts)) c.index-in-Priority.ensures.value
-    ∙ joined_before r ts t n c.self.told out c.in-Some.behind (sym c.spot-behind.ensures ∙ c.in-Some.is))
+    ∙ ap (λ (i : ℕ). map (waiter_in (slice_set r i n)) (inserted c.in-Some.following t ts)) c.index-in-Priority.ensures.value
+    ∙ joined_before r ts t n c.self.told out c.in-Some.following (sym c.spot-following.ensures ∙ c.in-Some.is))
 
 pub returns-in-None : goal.returns-in-None
 returns-in-None c =
@@ -52,4 +52,4 @@ returns-in-None c =
     joined_is c.self.inside.order r _ ts c.push_last-in-None.new.self c.args.self.now t c.args.priority n c.self.view_is (ap (λ (o : Order). rank_of o c.args.priority) c.in-Priority.is)
     (ap (map (waiter_in (slice_set r c.index-in-Priority.result n))) c.push_last-in-None.ensures
     ∙ ap (λ (i : ℕ). map (waiter_in (slice_set r i n)) (ts ++ t ∷ [])) c.index-in-Priority.ensures.value
-    ∙ joined_last r ts t n c.self.told out (sym c.spot-behind.ensures ∙ c.in-None.is))
+    ∙ joined_last r ts t n c.self.told out (sym c.spot-following.ensures ∙ c.in-None.is))

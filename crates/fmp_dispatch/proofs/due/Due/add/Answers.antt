@@ -3,7 +3,7 @@ use Rattle.fmp_codes.specs.declared.records.Runner.{Runner}
 use Rattle.fmp_dispatch.proofs.Window.{length-window, window_after_push}
 use Rattle.fmp_dispatch.proofs.due.Due.add.Goals as goal
 
--- the handler is written behind the last one, since there is room
+-- the handler is written after the last one, since there is room
 pub returns : goal.returns
 returns c =
     let q = c.self.inside in

@@ -5,5 +5,5 @@ use Rattle.fmp_kernel.proofs.kernel.Kernel.first_ready.Goals as goal
 
 pub returns-clause-model : goal.returns-clause-model
 returns-clause-model c =
-    let told = rw c.self.view_is at c.first_ready.ensures in
-    λ m stands. told ∙ ap first_of ((tells_alike c.args.self.now m stands).ready c.args.p c.args.priority)
+    let report = rw c.self.view_is at c.first_ready.ensures in
+    λ m stands. report ∙ ap first_of ((tells_alike c.args.self.now m stands).ready c.args.p c.args.priority)

@@ -4,5 +4,5 @@ use Rattle.fmp_kernel.proofs.kernel.Kernel.top.Goals as goal
 
 pub returns-clause-model : goal.returns-clause-model
 returns-clause-model c =
-    let told = rw c.self.view_is at c.top.ensures in
-    λ m stands. told ∙ (tells_alike c.args.self.now m stands).top c.args.p
+    let report = rw c.self.view_is at c.top.ensures in
+    λ m stands. report ∙ (tells_alike c.args.self.now m stands).top c.args.p

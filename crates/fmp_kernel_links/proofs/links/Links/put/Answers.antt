@@ -9,7 +9,7 @@ bounds-self-inside-ahead g c =
     let n = c.self.inside.next in
     let s : IsSound g.row.ITEMS n c.self.inside.prev c.self.inside.place c.args.self.now = subst (IsSound g.row.ITEMS n c.self.inside.prev c.self.inside.place) c.self.view_is c.self.invariant.2 in
     let within : c.args.list < length c.args.self.now = omega (arith, s.next_count) in
-    let low = ring_in s c.args.list (slice_index c.self.inside.prev c.args.behind) within (prev_in_ring s c.args.list c.args.behind within c.requires.behind_in) in
+    let low = ring_in s c.args.list (slice_index c.self.inside.prev c.args.following) within (prev_in_ring s c.args.list c.args.following within c.requires.after_in) in
     omega (arith, low, s.next_count)
 
 pub invariant_of-self : goal.invariant_of-self
@@ -19,8 +19,8 @@ invariant_of-self g c =
     let within : c.args.list < length c.args.self.now = omega (arith, s.next_count) in (
       c.self.invariant.0,
       c.self.invariant.1,
-      settled (sound_put g.row.ITEMS n c.self.inside.prev c.self.inside.place c.args.self.now c.args.list c.args.behind c.args.item s within c.requires.item_in
-          (place_none s c.args.item c.requires.nowhere) c.requires.behind_in),
+      settled (sound_put g.row.ITEMS n c.self.inside.prev c.self.inside.place c.args.self.now c.args.list c.args.following c.args.item s within c.requires.item_in
+          (place_none s c.args.item c.requires.nowhere) c.requires.after_in),
     )
 
 pub returns-clause-lists : goal.returns-clause-lists
@@ -28,8 +28,8 @@ returns-clause-lists g c =
     let n = c.self.inside.next in
     let s : IsSound g.row.ITEMS n c.self.inside.prev c.self.inside.place c.args.self.now = subst (IsSound g.row.ITEMS n c.self.inside.prev c.self.inside.place) c.self.view_is c.self.invariant.2 in
     let within : c.args.list < length c.args.self.now = omega (arith, s.next_count) in
-    lists_are (sound_put g.row.ITEMS n c.self.inside.prev c.self.inside.place c.args.self.now c.args.list c.args.behind c.args.item s within c.requires.item_in
-    (place_none s c.args.item c.requires.nowhere) c.requires.behind_in)
+    lists_are (sound_put g.row.ITEMS n c.self.inside.prev c.self.inside.place c.args.self.now c.args.list c.args.following c.args.item s within c.requires.item_in
+    (place_none s c.args.item c.requires.nowhere) c.requires.after_in)
 
 pub returns-clause-head_out : goal.returns-clause-head_out
 returns-clause-head_out g c =

@@ -16,8 +16,8 @@ bounds-self-inside-ahead g c =
     (prev_in_ring s i c.args.item within (has_there c.args.item (g.row.ITEMS + i) (list_at c.args.self.now i) c.requires.somewhere.1)) in
     omega (arith, low, s.next_count)
 
-pub bounds-self-inside-behind : goal.bounds-self-inside-behind
-bounds-self-inside-behind g c =
+pub bounds-self-inside-following : goal.bounds-self-inside-following
+bounds-self-inside-following g c =
     let n = c.self.inside.next in
     let s : IsSound g.row.ITEMS n c.self.inside.prev c.self.inside.place c.args.self.now = subst (IsSound g.row.ITEMS n c.self.inside.prev c.self.inside.place) c.self.view_is c.self.invariant.2 in
     let i = c.requires.somewhere.0 in

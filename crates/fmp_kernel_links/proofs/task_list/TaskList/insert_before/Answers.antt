@@ -9,7 +9,7 @@ use Rattle.fmp_kernel_links.proofs.task_list.TaskList.insert_before.Goals as goa
 pub insert_before-requires : goal.insert_before-requires
 insert_before-requires c =
     let there : has c.index.result (list_at c.self.inside.links 0) ≡ true =
-    sym (has_task-map c.args.behind c.index.result (list_at c.self.inside.links 0) c.index.ensures.next c.self.invariant.small) ∙ ap (has_task c.args.behind) c.self.view_is ∙ c.requires.there in
+    sym (has_task-map c.args.following c.index.result (list_at c.self.inside.links 0) c.index.ensures.next c.self.invariant.small) ∙ ap (has_task c.args.following) c.self.view_is ∙ c.requires.there in
     let out : has c.index-2.result (list_at c.self.inside.links 0) ≡ false =
     sym (has_task-map c.args.task c.index-2.result (list_at c.self.inside.links 0) c.index-2.ensures.next c.self.invariant.small) ∙ ap (has_task c.args.task) c.self.view_is ∙ c.requires.nowhere in
     (search rules, (omega arith, (c.index.ensures.in_range, (there, (c.index-2.ensures.in_range, elsewhere c.self.inside.links c.index-2.result c.self.invariant out)))))
@@ -21,6 +21,6 @@ pub returns : goal.returns
 returns c =
     ap (λ (q : List (List ℕ)). map task_at (list_at q 0)) c.insert_before.ensures
     ∙ ap (map task_at) (one_insert c.self.inside.links c.index.result c.index-2.result c.self.invariant)
-    ∙ inserted-map c.args.behind c.args.task c.index.result c.index-2.result (list_at c.self.inside.links 0) c.index.ensures.next
+    ∙ inserted-map c.args.following c.args.task c.index.result c.index-2.result (list_at c.self.inside.links 0) c.index.ensures.next
     (task_is c.args.task c.index-2.result c.index-2.ensures.next) c.self.invariant.small
-    ∙ ap (λ (us : List Task). inserted c.args.behind c.args.task us) c.self.view_is
+    ∙ ap (λ (us : List Task). inserted c.args.following c.args.task us) c.self.view_is

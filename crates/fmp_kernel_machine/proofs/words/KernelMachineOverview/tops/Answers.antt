@@ -3,7 +3,7 @@ use Rattle.fmp_codes.specs.Numbers.{task_number}
 use Rattle.fmp_rules.specs.World.{World}
 use Rattle.fmp_ready.specs.Queues.{top_at}
 use Rattle.fmp_kernel_order.specs.Queues.{Queues}
-use Rattle.fmp_kernel_machine.proofs.Topping.{small_each, tops_told}
+use Rattle.fmp_kernel_machine.proofs.Topping.{small_each, tops_reported}
 use Rattle.fmp_kernel_machine.proofs.words.KernelMachineOverview.tops.Goals as goal
 
 pub new-requires : goal.new-requires
@@ -14,6 +14,6 @@ new-requires c = record {
 
 pub returns : goal.returns
 returns c =
-    c.new.ensures ∙ tops_told c.args.self.now c.tops.result c.count.result (c.count.ensures.value ∙ ap (λ (w : World Queues). length w.processors) c.self.view_is)
+    c.new.ensures ∙ tops_reported c.args.self.now c.tops.result c.count.result (c.count.ensures.value ∙ ap (λ (w : World Queues). length w.processors) c.self.view_is)
     c.count.ensures.few c.tops.ensures.count
     (λ k h. c.tops.ensures.each k h ∙ ap (λ (w : World Queues). task_number (top_at w.order.ready k)) c.self.view_is)

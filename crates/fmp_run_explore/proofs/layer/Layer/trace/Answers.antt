@@ -1,6 +1,6 @@
 use Rattle.std.proofs.Common.{◌∙◌, ◌≤◌, ℕ, List, length, subst, sym}
 use Rattle.std.proofs.lemmas.Result.{IfOk-weaker}
-use Rattle.fmp_run_explore.proofs.Rest.{told_at}
+use Rattle.fmp_run_explore.proofs.Rest.{report_at}
 use Rattle.fmp_run_explore.proofs.layer.Layer.trace.Goals as goal
 
 pub trace_along-requires-clause-few : goal.trace_along-requires-clause-few
@@ -11,5 +11,5 @@ trace_along-requires-clause-few c =
 pub returns : goal.returns
 returns c =
     let inside = c.self.inside in
-    let is = told_at inside.asked.config inside.asked.scripts inside.rules inside.asked.question inside.roots c.args.self.now c.args.at _ _ c.self.view_is c.in_ok-steps.ensures c.deref.ensures.value in
+    let is = report_at inside.asked.config inside.asked.scripts inside.rules inside.asked.question inside.roots c.args.self.now c.args.at _ _ c.self.view_is c.in_ok-steps.ensures c.deref.ensures.value in
     IfOk-weaker c.trace_along.result _ _ (λ text prints. prints ∙ is) c.trace_along.ensures

@@ -10,10 +10,10 @@ returns-in_ok-answer-in-Ok-true-clause-answers c = λ d tells text whole old wri
     let event = c.next_into.new.event in
     let gives = rw c.in-Ok-true.field-0-test at c.in-Ok-true.ensures.gives in
     let next = named_next _ c.args.config.now names c.args.self.now.feed c.next_into.new.self (Some event) event refl gives in
-    let told = c.in_ok-answer-in-Ok-true.ensures in
+    let report = c.in_ok-answer-in-Ok-true.ensures in
     stream_step d tells c.args.config.now text whole old c.args.self.now c.answer.new.self c.next_into.new.self _ _ remaining event before (next remaining)
-    c.in-Ok-true.ensures.rest c.next_into.ensures.same.2 (λ m stands. named_detail _ c.args.config.now names _ _ _ (told.detail m stands)) c.answer.ensures.feed c.answer.ensures.stands c.answer.ensures.count
-    (λ _ m stands. named_entry _ c.args.config.now names _ _ _ _ _ (ap (λ (xs : List ℕ). written ++ xs) (told.ok m stands) ∙ sym (append_assoc written (pending c.args.self.now) _)))
+    c.in-Ok-true.ensures.rest c.next_into.ensures.same.2 (λ m stands. named_detail _ c.args.config.now names _ _ _ (report.detail m stands)) c.answer.ensures.feed c.answer.ensures.stands c.answer.ensures.count
+    (λ _ m stands. named_entry _ c.args.config.now names _ _ _ _ _ (ap (λ (xs : List ℕ). written ++ xs) (report.ok m stands) ∙ sym (append_assoc written (pending c.args.self.now) _)))
 
 pub returns-in-Ok-false-clause-answers : goal.returns-in-Ok-false-clause-answers
 returns-in-Ok-false-clause-answers c = λ d tells text whole old written remaining before.

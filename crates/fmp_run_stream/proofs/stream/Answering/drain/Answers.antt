@@ -11,8 +11,8 @@ returns-clause-streams g c =
     on_ok_weaker c.gather-gathered.result
     (λ answers d tells text whole old remaining writes before.
     record {
-      told = answers_moved d tells c.args.config.now text whole old c.gather-gathered.new.self c.pass.new.self _ _ remaining c.pass.ensures.same
-          (λ told. c.in_ok-pass.ensures.ok (c.gather-gathered.ensures.known (writes told))) (answers d tells text whole old remaining writes before);
+      report = answers_moved d tells c.args.config.now text whole old c.gather-gathered.new.self c.pass.new.self _ _ remaining c.pass.ensures.same
+          (λ report. c.in_ok-pass.ensures.ok (c.gather-gathered.ensures.known (writes report))) (answers d tells text whole old remaining writes before);
       passed = c.in_ok-pass.ensures.passed;
     })
     c.gather-gathered.ensures.answers

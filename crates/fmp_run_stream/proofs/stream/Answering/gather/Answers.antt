@@ -22,7 +22,7 @@ loop-self-init g c =
       known = c.make_room.ensures.known;
       answers = λ d tells text whole old remaining writes before.
           answers_moved d tells c.args.config.now text whole old c.args.self.now c.make_room.new.self _ _ remaining c.make_room.ensures.same
-          (λ told. (made.ok (writes told)).2 ∙ ap (λ (xs : List ℕ). bytes_of (g.W.Sink.written c.args.trace.now) ++ xs) before.passed ∙ append-nil (bytes_of (g.W.Sink.written c.args.trace.now))) before.told;
+          (λ report. (made.ok (writes report)).2 ∙ ap (λ (xs : List ℕ). bytes_of (g.W.Sink.written c.args.trace.now) ++ xs) before.passed ∙ append-nil (bytes_of (g.W.Sink.written c.args.trace.now))) before.report;
       grown = λ known. ((made.ok known).0, (made.ok known).1);
     }
 
@@ -40,7 +40,7 @@ loop-self-preserved g c =
       known = λ known. c.make_room-in-loop-self.ensures.known (c.loop-self.invariant.known known);
       answers = λ d tells text whole old remaining writes before.
           answers_moved d tells c.args.config.now text whole old c.answer_next.new.self c.make_room-in-loop-self.new.self _ _ remaining c.make_room-in-loop-self.ensures.same
-          (λ told. (made.ok (c.loop-self.invariant.known (writes told))).2) (next.answers d tells text whole old _ remaining (c.loop-self.invariant.answers d tells text whole old remaining writes before));
+          (λ report. (made.ok (c.loop-self.invariant.known (writes report))).2) (next.answers d tells text whole old _ remaining (c.loop-self.invariant.answers d tells text whole old remaining writes before));
       grown = λ known.
           let before = c.loop-self.invariant.grown known in
           let more = made.ok (c.loop-self.invariant.known known) in
@@ -70,23 +70,23 @@ returns-in_err-answer_next-clause-begun g c = λ known other d text whole old re
 pub returns-in_err-make_room-2-clause-write : goal.returns-in_err-make_room-2-clause-write
 returns-in_err-make_room-2-clause-write g c = λ known is d text whole old remaining before.
     let more = c.loop-self.invariant.grown known in
-    let told = c.in_ok-answer_next.ensures.answers d true text whole old _ remaining (c.loop-self.invariant.answers d true text whole old remaining (λ e. known) before) in
-    let begun = begun_from d c.args.config.now text whole old c.args.self.now c.answer_next.new.self _ _ (pending c.answer_next.new.self) remaining more.0 before told more.1 in
+    let report = c.in_ok-answer_next.ensures.answers d true text whole old _ remaining (c.loop-self.invariant.answers d true text whole old remaining (λ e. known) before) in
+    let begun = begun_from d c.args.config.now text whole old c.args.self.now c.answer_next.new.self _ _ (pending c.answer_next.new.self) remaining more.0 before report more.1 in
     torn d c.args.config.now whole.events old begun.0.0 _ (pending c.answer_next.new.self) _ begun.0.1 begun.1 (c.in_err-make_room-2.ensures.err (c.loop-self.invariant.known known))
 
 pub returns-in_err-make_room-clause-write : goal.returns-in_err-make_room-clause-write
 returns-in_err-make_room-clause-write g c = λ known is d text whole old remaining before.
     let bytes = bytes_of (g.W.Sink.written c.args.trace.now) in
-    let told = answers_moved d true c.args.config.now text whole old c.args.self.now c.args.self.now _ (bytes ++ pending c.args.self.now) remaining (refl, refl, refl, refl)
-    (λ e. ap (λ (xs : List ℕ). bytes ++ xs) before.passed ∙ append-nil bytes) before.told in
-    let begun = begun_from d c.args.config.now text whole old c.args.self.now c.args.self.now bytes bytes (pending c.args.self.now) remaining [] before told (sym (append-nil bytes)) in
+    let report = answers_moved d true c.args.config.now text whole old c.args.self.now c.args.self.now _ (bytes ++ pending c.args.self.now) remaining (refl, refl, refl, refl)
+    (λ e. ap (λ (xs : List ℕ). bytes ++ xs) before.passed ∙ append-nil bytes) before.report in
+    let begun = begun_from d c.args.config.now text whole old c.args.self.now c.args.self.now bytes bytes (pending c.args.self.now) remaining [] before report (sym (append-nil bytes)) in
     torn d c.args.config.now whole.events old begun.0.0 _ (pending c.args.self.now) _ begun.0.1 begun.1 (c.in_err-make_room.ensures.err known)
 
 pub returns-clause-begun : goal.returns-clause-begun
 returns-clause-begun g c = λ known other d text whole old remaining before.
     let more = c.loop-self.invariant.grown known in
-    let told = c.in_ok-answer_next.ensures.answers d true text whole old _ remaining (c.loop-self.invariant.answers d true text whole old remaining (λ e. known) before) in
-    begun_from d c.args.config.now text whole old c.args.self.now c.answer_next.new.self _ _ (pending c.answer_next.new.self) remaining more.0 before told more.1
+    let report = c.in_ok-answer_next.ensures.answers d true text whole old _ remaining (c.loop-self.invariant.answers d true text whole old remaining (λ e. known) before) in
+    begun_from d c.args.config.now text whole old c.args.self.now c.answer_next.new.self _ _ (pending c.answer_next.new.self) remaining more.0 before report more.1
 
 pub returns-clause-answers : goal.returns-clause-answers
 returns-clause-answers g c = λ d tells text whole old remaining writes before.

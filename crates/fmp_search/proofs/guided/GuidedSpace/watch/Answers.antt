@@ -12,6 +12,6 @@ returns-clause-goes g c =
     let q = g.W.Space.place c.args.self.now.walker in
     let r = g.W.Space.place c.watch.new.self in
     let passes = g.W.Space.passes q c.args.step in
-    subst (λ (xs : List Choice). Watches (guided_after g.W.Space.after (guide left q) c.args.step) passes c.in_ok-told.told (guide xs r))
+    subst (λ (xs : List Choice). Watches (guided_after g.W.Space.after (guide left q) c.args.step) passes c.in_ok-report.report (guide xs r))
     (drop_one c.args.self.now.made cs ∙ ap (λ n. drop n cs) (sym c.one_more-self.ensures))
-    (watches_guided g.W.Space.after q r left c.args.step passes c.in_ok-told.told (sym c.may_choose.ensures ∙ c.if-not-may_choose.false) c.in_ok-told.ensures.goes)
+    (watches_guided g.W.Space.after q r left c.args.step passes c.in_ok-report.report (sym c.may_choose.ensures ∙ c.if-not-may_choose.false) c.in_ok-report.ensures.goes)

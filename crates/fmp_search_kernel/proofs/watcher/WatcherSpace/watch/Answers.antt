@@ -15,8 +15,8 @@ returns-clause-goes c =
     let step = c.args.step in
     let w = s.walker.place in
     let v = c.watch_for.new.self.place in
-    subst (λ (x : Watching). IfOk c.watch_for.result (λ told. Watches (watched_after x.place step) (watched_passes x.place step) told (watched s.lasting.now v))) c.self.view_is
-    (IfOk-weaker c.watch_for.result _ _ (λ told is. watches_watched s.lasting.now w v step (bits_of (map (λ l. step_test (is_so l) w step) s.lasting.now)) told is) c.watch_for.ensures.goes)
+    subst (λ (x : Watching). IfOk c.watch_for.result (λ report. Watches (watched_after x.place step) (watched_passes x.place step) report (watched s.lasting.now v))) c.self.view_is
+    (IfOk-weaker c.watch_for.result _ _ (λ report is. watches_watched s.lasting.now w v step (bits_of (map (λ l. step_test (is_so l) w step) s.lasting.now)) report is) c.watch_for.ensures.goes)
 
 pub returns-clause-origin : goal.returns-clause-origin
 returns-clause-origin c =

@@ -24,9 +24,9 @@ returns c = λ given so_far.
     let w = c.answer.new.self in
     let next = c.see.new.self in
     let same = c.see.ensures.same in
-    let told = c.answer.ensures.made m so_far.stands in
+    let report = c.answer.ensures.made m so_far.stands in
     let stands = c.answer.ensures.stands m so_far.stands in
-    let taken_are = taken_next config rules question given e before.taken w.taken w.made told c.answer.ensures.taken so_far.taken_are so_far.sized in
+    let taken_are = taken_next config rules question given e before.taken w.taken w.made report c.answer.ensures.taken so_far.taken_are so_far.sized in
     let lines = sight listed config rules (count_in w.taken) w.kernel w.made in
     let seen = subst (λ (ns : List Bool). AreNext question lines ns next.numbers) c.answer.ensures.numbers c.in_ok-see.ensures.next in
     record {
@@ -35,5 +35,5 @@ returns c = λ given so_far.
       processors = ap (λ (k : World Queues). length k.processors) same.0 ∙ c.answer.ensures.processors ∙ so_far.processors;
       taken_are = subst (λ (ns : List ℕ). TakenAre rules ns (answers numbered (booted config) (given ++ e ∷ []))) (sym same.2) taken_are;
       sized = ap (λ (ns : List ℕ). length ns) (same.2 ∙ c.answer.ensures.taken) ∙ taken_long rules before.taken w.made.event w.made.answer ∙ so_far.sized;
-      seen = seen_next config rules question given e w.taken w.kernel w.made before.numbers next.numbers taken_are stands told so_far.seen seen;
+      seen = seen_next config rules question given e w.taken w.kernel w.made before.numbers next.numbers taken_are stands report so_far.seen seen;
     }

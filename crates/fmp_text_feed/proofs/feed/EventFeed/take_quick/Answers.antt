@@ -14,10 +14,10 @@ returns-clause-gives c =
     let fine : old.fault ≡ None = search rules in
     let room : old.events < most_events = grind (arith, common_steps) in
     let tail = take-to_end c.deref.result.now s.start ∙ ap (drop s.start) c.deref.ensures.value in
-    λ _. rw (← c.self.view_is, ← drop-drop _ s.start s.bytes.items) (quick_gives c.args.names.now _ c.quick_line.new.event _ c.in-Some.ensures old fine tail room)
+    λ _. rw (← c.self.view_is, ← drop-drop _ s.start s.bytes.items) (quick_gives c.args.names.now _ c.quick_line.new.event _ c.in-Some.ensures.line old fine tail room)
 
 pub returns-clause-on : goal.returns-clause-on
-returns-clause-on c = λ _. quick_on c.args.names.now _ c.quick_line.new.event _ c.in-Some.ensures
+returns-clause-on c = λ _. quick_on c.args.names.now _ c.quick_line.new.event _ c.in-Some.ensures.line
 
 pub returns-clause-in_bits : goal.returns-clause-in_bits
-returns-clause-in_bits c = λ _. quick_in_bits c.args.names.now _ c.quick_line.new.event _ c.in-Some.ensures c.validity.ensures
+returns-clause-in_bits c = λ _. quick_in_bits c.args.names.now _ c.quick_line.new.event _ c.in-Some.ensures.line c.validity.ensures

@@ -62,13 +62,13 @@ invariant_of-self c =
     let scripted : IsScripted i.config.now i.scripts.now h c.args.event = moved_scripted i.config.now i.scripts.now h c.args.by c.args.event picks in
     let place = rw config at c.requires.place in
     let here : (processor_of c.args.event).number ≤ i.config.now.processors = rw on place in
-    let longer = keeps_more i.config.now i.scripts.now i.kernel c.step_into.new.self i.tasks i.handlers h c.args.event c.step_into.new.told keeps c.step_into.ensures.stands c.step_into.ensures.record here sized.task_places sized.handler_places scripted in
+    let longer = keeps_more i.config.now i.scripts.now i.kernel c.step_into.new.self i.tasks i.handlers h c.args.event c.step_into.new.report keeps c.step_into.ensures.stands c.step_into.ensures.record here sized.task_places sized.handler_places scripted in
     let room : length h < i.turns = rw (history, turns) at c.requires.room in
     let count = made_count i.config.now i.scripts.now [] i.moves.items made in
-    let told = c.step_into.ensures.record _ keeps.stands in
+    let report = c.step_into.ensures.record _ keeps.stands in
     let more = played_more i.config.now i.scripts.now [] i.moves.items c.args.by in
     let added = played_event i.config.now i.scripts.now h c.args.by c.args.event picks in (
-      rw (c.push_reserved.ensures.items, more, added, ← told, c.advance_task.ensures, c.advance_handler.ensures) longer,
+      rw (c.push_reserved.ensures.items, more, added, ← report, c.advance_task.ensures, c.advance_handler.ensures) longer,
       rw c.push_reserved.ensures.items (made_more i.config.now i.scripts.now [] i.moves.items c.args.by made place (rw picks refl)),
       record {
         within = omega (arith, c.push_reserved.ensures.len);
@@ -109,7 +109,7 @@ returns-clause-adds c =
     let history : c.args.self.now.records ≡ h = sym (ap (λ w. w.records) view) in
     let picks = rw (config, scripts, history) at c.requires.picks in
     let made : Record = (step numbered (state_after i.config.now h) c.args.event).1 in
-    let told : c.step_into.new.told ≡ made = c.step_into.ensures.record _ c.self.invariant.0.stands in
+    let report : c.step_into.new.report ≡ made = c.step_into.ensures.record _ c.self.invariant.0.stands in
     let count = made_count i.config.now i.scripts.now [] i.moves.items c.self.invariant.1 in
     let number : c.len.result + 1 ≡ length h + 1 = omega arith in
     let longer : played i.config.now i.scripts.now c.push_reserved.new.self.items ≡ h ++ made ∷ [] =
@@ -117,4 +117,4 @@ returns-clause-adds c =
     ∙ played_more i.config.now i.scripts.now [] i.moves.items c.args.by
     ∙ played_event i.config.now i.scripts.now h c.args.by c.args.event picks in
     let with_records : List Record → History = λ x. record { config = i.config.now; scripts = i.scripts.now; turns = i.turns; records = x } in
-    rw (← c.self.view_is) (record { history = ap with_records longer; receipt = rw (number, told) refl })
+    rw (← c.self.view_is) (record { history = ap with_records longer; receipt = rw (number, report) refl })

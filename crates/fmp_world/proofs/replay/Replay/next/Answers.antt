@@ -22,11 +22,11 @@ returns c =
     let by = c.in-Some.by.now in
     let later = c.in-Some.later.now in
     let split : c.self.inside.left.now ≡ by ∷ later = search rules in
-    let event = c.play.new.told.event in
-    let told : c.play.new.told ≡ (step numbered (state_after w.config w.records) event).1 = c.play.ensures.is in
+    let event = c.play.new.report.event in
+    let report : c.play.new.report ≡ (step numbered (state_after w.config w.records) event).1 = c.play.ensures.is in
     let longer : List Record = played_one w.config w.scripts w.records by in
     sym c.self.view_is
     ∙ ap (added_by w.config w.scripts w.records) split
-    ∙ added_next w.config w.scripts w.records by later event c.play.ensures.told
-    ∙ ap (λ (r : Record). r ∷ added_by w.config w.scripts longer later) (sym told)
-    ∙ ap (λ (v : History). c.play.new.told ∷ added_by v.config v.scripts v.records later) (sym c.play.ensures.plays)
+    ∙ added_next w.config w.scripts w.records by later event c.play.ensures.report
+    ∙ ap (λ (r : Record). r ∷ added_by w.config w.scripts longer later) (sym report)
+    ∙ ap (λ (v : History). c.play.new.report ∷ added_by v.config v.scripts v.records later) (sym c.play.ensures.plays)

@@ -1,6 +1,0 @@
-use Rattle.std.proofs.Common.{◌≡◌, drop, map}
-use Rattle.fmp_cli_hints.specs.Rows.{told_of}
-use Rattle.fmp_cli_hints.proofs.rows.told_of.Given as goal
-
-abbrev pub invariant-loop-row : goal.invariant-loop-row
-invariant-loop-row l = told_of (map (λ row. (row.0.now, row.1.now)) (drop l.row-index l.rows)) l.word ≡ told_of (map (λ row. (row.0.now, row.1.now)) l.rows) l.word

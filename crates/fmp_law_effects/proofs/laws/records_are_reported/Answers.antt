@@ -1,0 +1,8 @@
+use Rattle.fmp_law_effects.proofs.Records.{one_record, record_reported}
+use Rattle.fmp_law_effects.proofs.laws.records_are_reported.Goals as goal
+
+pub returns-clause-report : goal.returns-clause-report
+returns-clause-report c = record_reported
+
+pub returns-clause-one : goal.returns-clause-one
+returns-clause-one c = one_record

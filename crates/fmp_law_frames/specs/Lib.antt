@@ -1,0 +1,1 @@
+pub mod Frames  -- What a record says that its event may change, and what it leaves.

@@ -1,5 +1,0 @@
-use Rattle.fmp_law_records.proofs.RequestsRuns.{requests_told, signals_fit}
-use Rattle.fmp_law_records.proofs.laws.requests_are_told.Goals as goal
-
-pub returns : goal.returns
-returns c = record { told = λ c events valid on n p here. requests_told c p here events valid on n; fits = λ c events valid on e p here. signals_fit c p here events valid on e }

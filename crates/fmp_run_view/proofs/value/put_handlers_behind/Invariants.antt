@@ -1,7 +1,0 @@
-use Rattle.std.proofs.Common.{◌≡◌, ◌++◌, drop}
-use Rattle.fmp_run_view.specs.Values.{handlers_behind}
-use Rattle.fmp_run_view.proofs.value.put_handlers_behind.Given as goal
-
--- the handlers so far, and those that are left
-abbrev pub invariant-loop-handler : goal.invariant-loop-handler
-invariant-loop-handler l = l.out.items ++ handlers_behind (drop l.handler-index l.handlers) ≡ l.fn.out.items ++ handlers_behind l.fn.handlers

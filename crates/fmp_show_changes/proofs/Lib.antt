@@ -1,0 +1,1 @@
+mod Looking  -- One line less to look at.

@@ -1,0 +1,1 @@
+pub mod Changes  -- What of a state changed, by the lines of two states.

@@ -1,9 +1,0 @@
-use Rattle.std.proofs.Common.{length}
-use Rattle.fmp_text.specs.Fronts.{IsBehindBlanks}
-use Rattle.fmp_text.proofs.quick.behind_all_blanks.Given as goal
-
-abbrev pub invariant-loop-more : goal.invariant-loop-more
-invariant-loop-more l = IsBehindBlanks l.text l.rest
-
-abbrev pub decreases-loop-more : goal.decreases-loop-more
-decreases-loop-more l = length l.rest

@@ -1,7 +1,0 @@
-use Rattle.std.proofs.Common.{◌∙◌}
-use Rattle.fmp_trace_check.proofs.Heads.{lined}
-use Rattle.fmp_trace_check.proofs.told.tell_quickly.Goals as goal
-
-pub returns : goal.returns
-returns c = λ told.
-    lined c.args.names.now c.args.line.now c.in-Some.text.now c.in-Some.ensures ∙ c.in-Some-quick_head.ensures ∙ c.tell_front.ensures told
