@@ -53,6 +53,18 @@ run() {
     count "$well" "${@:4}"
 }
 
+# browsed PAGE PLACE WORD..: what chromium, with these words, has of a page behind its scripts. The page's own clock has gone on for five seconds by
+# then, so what it draws in its next frame is there. Chromium does not shut itself in where it is run by root, and is asked again where it says nothing.
+browsed() {
+    local words=(--headless --disable-gpu "--user-data-dir=$PWD/profile" --virtual-time-budget=5000 "${@:3}" --dump-dom) tries
+    [ "$(id -u)" != 0 ] || words+=(--no-sandbox)
+    for tries in 1 2 3; do
+        timeout 120 chromium "${words[@]}" "file://$PWD/$1$2" > browsed 2> /dev/null && grep -q '<body' browsed && break
+        rm -rf profile
+    done
+    cat browsed
+}
+
 # unread WORD..: the program cannot read one of the files that these words name, and tells below that which one and why.
 unread() {
     local well=yes

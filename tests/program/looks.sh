@@ -32,13 +32,12 @@ delayed() {
 
 # looked PLACE SCRIPT WHAT: the page, at this place, finds what stands on standard input where this script is played in it.
 looked() {
-    local words=(--headless --disable-gpu "--user-data-dir=$PWD/profile" --window-size=1500,800 --dump-dom) well=yes
-    [ "$(id -u)" != 0 ] || words+=(--no-sandbox)
+    local well=yes
     {
         sed '/<head>/q' page.html && echo '<script>' && cat "$top/tests/program/looks.js"
         printf 'played.push(say => {\n%s\n});\n</script>\n' "$2" && sed '1,/<head>/d' page.html
     } > played.html
-    timeout 120 chromium "${words[@]}" "file://$PWD/played.html$1" 2> /dev/null | sed -n '/<pre>/,/<\/pre>/p' | sed 's/.*<pre>//; /<\/pre>/d; s/&lt;/</g; s/&gt;/>/g; s/&amp;/\&/g' > found
+    browsed played.html "$1" --window-size=1500,800 | sed -n '/<pre>/,/<\/pre>/p' | sed 's/.*<pre>//; /<\/pre>/d; s/&lt;/</g; s/&gt;/>/g; s/&amp;/\&/g' > found
     diff - found || well=no
     count "$well" view "# $3"
 }

@@ -210,12 +210,12 @@ in_a_browser() {
         mv output page.html
         sed -E 's/^[0-9]+ (P[0-9]+) [^ ]+ (tick|ipi|ret_hdr|[a-z_]+\([^)]*\)).*/\1 \2/' "$folder/trace.txt" > events.txt
         play calls --state "$folder/machine.cfg" events.txt
-        seen page.html '#states' | awk '/<body>/ { on = 1; sub(/.*<pre>/, "") } /<\/pre>/ { exit } on' > states
+        browsed page.html '#states' | awk '/<body>/ { on = 1; sub(/.*<pre>/, "") } /<\/pre>/ { exit } on' > states
         diff states output > differs || { well=no && head differs; }
         count "$well" view "$folder" '# its states in a browser'
     done
     well=yes
-    seen page.html '#3' > drawn
+    browsed page.html '#3' > drawn
     grep -q "data-shown=\"$(wc -l < "$folder/trace.txt")\"" drawn && grep -q '<h2>3 P' drawn || well=no
     count "$well" view "$folder" '# drawn in a browser'
     well=yes
@@ -223,15 +223,8 @@ in_a_browser() {
     sed '9s/E_TMOUT/E_OK/;12s/:16/:17/' "$folder/trace.txt" > changed.txt
     play view --differences "$folder/machine.cfg" changed.txt
     mv output page.html
-    seen page.html '#9' > drawn
+    browsed page.html '#9' > drawn
     grep -q 'data-shown="15" data-differs="2"' drawn && grep -q '2 lines differ: 1 of 2' drawn && [ "$(grep -o 'class="row given[^<]*' drawn | grep -o 'Given: [^"]*')" \
         = $'Given: 9 P1 PRODUCER psnd_dtq(SAMPLES, 15) E_OK\nGiven: 12 P2 CONSUMER prcv_dtq(SAMPLES) E_OK:17' ] && grep -q 'given: .*<b>E_OK</b>' drawn || well=no
     count "$well" view --differences "$folder" '# drawn in a browser'
-}
-
-# seen PAGE PLACE: a page behind its scripts. Chromium does not shut itself in where it is run by root.
-seen() {
-    local words=(--headless --disable-gpu "--user-data-dir=$PWD/profile" --dump-dom)
-    [ "$(id -u)" != 0 ] || words+=(--no-sandbox)
-    timeout 120 chromium "${words[@]}" "file://$PWD/$1$2" 2> /dev/null
 }
