@@ -1,1 +1,1 @@
-pub mod Runs  -- The runs of a word, one after the other, as a loop tells of them.
+mod Runs  -- What is told of the runs of a word, one after the other.

@@ -1,38 +1,9 @@
--- The runs of a word, one after the other, as a loop tells of them.
-use Rattle.std.proofs.Common.{◌≡◌, ℕ, ◌+◌, ◌<◌, List, [], ◌∷◌, ◌++◌, length, drop, Option, Some, None, refl, sym, ap, ◌∙◌, append_assoc, arith, inl, inr, length-drop}
-use Rattle.std.proofs.lemmas.Bool.{cases_lt, lt-ltb, le-ltb}
-use Rattle.std.proofs.lemmas.List.Splits.{slice_split_first, slice_split_none}
-use Rattle.std.proofs.lemmas.List.Sums.{fails_before_first}
-use Rattle.std.specs.List.{position_or_len}
-use Rattle.std.specs.Option.{option_map_or}
+-- What is told of the runs of a word, one after the other.
+use Rattle.std.proofs.Common.{◌≡◌, ℕ, List, ◌++◌, refl, sym, ◌∙◌, append_assoc}
 use Rattle.fmp_cli_hints_question.specs.Known.{hints_of, run_hint}
 use Rattle.fmp_names.specs.Names.{NameLists}
-use Rattle.fmp_search_words.specs.Words.{is_outside, cut_run, runs_of}
-
-abbrev pub runs_left : Option (List ℕ) → List (List ℕ)
-runs_left rest = option_map_or runs_of rest []
-
--- the first run ends at the first byte that is none of a run
-pub runs_cut : (word : List ℕ) → runs_of word ≡ (cut_run word).0 ∷ runs_left (cut_run word).1
-unfolding runs_of cut_run
-runs_cut word =
-    elim (cases_lt (position_or_len is_outside word) (length word)) [
-      | inl lt ↦ let test = lt-ltb (position_or_len is_outside word) (length word) lt in rw test (slice_split_first is_outside word 0 lt)
-      | inr le ↦ let test = le-ltb (position_or_len is_outside word) (length word) le in rw test (slice_split_none is_outside word (λ k d h. fails_before_first is_outside word k d (omega (arith, h, le))))
-    ]
-
--- what follows such a byte is shorter
-shorter : (word rest : List ℕ) → (cut_run word).1 ≡ Some rest → length rest < length word
-unfolding cut_run
-shorter word rest e =
-    elim (cases_lt (position_or_len is_outside word) (length word)) [
-      | inl lt ↦ let test = lt-ltb (position_or_len is_outside word) (length word) lt in let e2 = rw test at e in let same : drop (position_or_len is_outside word + 1) word ≡ rest = cc in omega (arith, length-drop (position_or_len is_outside word + 1) word, ap length same)
-      | inr le ↦ let test = le-ltb (position_or_len is_outside word) (length word) le in let e2 = rw test at e in absurd cc
-    ]
-
-pub fewer_runs : (rest after : Option (List ℕ)) (word : List ℕ) → rest ≡ Some word → after ≡ (cut_run word).1 → option_map_or (λ r. length r + 1) after 0 < option_map_or (λ r. length r + 1) rest 0
-fewer_runs rest None word e f = rw e (omega arith)
-fewer_runs rest (Some after) word e f = let lt = shorter word after (rw f refl) in rw e (omega arith)
+use Rattle.fmp_search_words.proofs.Running.{runs_cut, runs_left}
+use Rattle.fmp_search_words.specs.Words.{cut_run, runs_of}
 
 -- what is told of the first run stands before what is told of the others
 pub run_reported : (names : NameLists) (out word total : List ℕ) → out ++ hints_of names (runs_of word) ≡ total →

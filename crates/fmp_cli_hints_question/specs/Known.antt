@@ -5,19 +5,19 @@ use Rattle.std.specs.Option.{option_or}
 use Rattle.std.specs.Str.{bytes_eq}
 use Rattle.fmp_calls.specs.declared.kinds.NameKind.TheVariants.{Function}
 use Rattle.fmp_cli_help.specs.Near.{near_answer, nearest}
-use Rattle.fmp_cli_hints_question.specs.declared.known.TheConstants.{LINE_WORDS}
 use Rattle.fmp_cli_hints_question.specs.declared.rows.TheConstants.{QUESTION_ROWS}
 use Rattle.fmp_cli_hints.specs.Hints.{near_line}
 use Rattle.fmp_cli_hints.specs.Rows.{report_of}
 use Rattle.fmp_cli_hints.specs.Things.{near_thing}
 use Rattle.fmp_cli_hints.specs.Wanted.{processors}
 use Rattle.fmp_names.specs.Names.{NameLists, is_object, is_processor_word, is_taken}
+use Rattle.fmp_search_words.specs.declared.words.TheConstants.{TRACE_WORDS}
 use Rattle.fmp_search_words.specs.Words.{begins_with_digit, runs_of, star}
 use Rattle.fmp_text.specs.Lines.{processor_in}
 
 -- the nearest of what may stand in a line of a trace or of a state: an object or a word, or else a call or a code
 unfoldable pub near_known : NameLists → List ℕ → Option (List ℕ)
-near_known names word = option_or (nearest word (near_thing names word) (map (λ w. w.now) LINE_WORDS)) (near_answer word)
+near_known names word = option_or (nearest word (near_thing names word) (map (λ w. w.now) TRACE_WORDS)) (near_answer word)
 
 -- nothing is told of what has a star, begins with a digit, is empty, or is the name of an object
 unfoldable pub is_settled : NameLists → List ℕ → Bool

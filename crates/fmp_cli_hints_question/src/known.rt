@@ -1,61 +1,16 @@
 //! What is told of a word of a question that is no name, no call, no code and no word of a trace.
-ghost use Rattle.std.specs.Prelude.{◌≡◌, ◌++◌, ◌<◌, ◌==◌, IfOk, IfSome, OnOk, None, length, map, position};
-ghost use Rattle.std.specs.List.{list_any};
+ghost use Rattle.std.specs.Prelude.{◌≡◌, ◌++◌, IfOk, OnOk, map};
 ghost use Rattle.std.specs.Option.{option_copied};
 ghost use Rattle.fmp_cli_help.specs.Near.{nearest};
 ghost use Rattle.fmp_cli_hints_question.specs.Known as spec;
-ghost use Rattle.fmp_search_words.specs.Words as words;
 
 use crate::rows::QUESTION_ROWS;
-use fmp_bytes::Class;
 use fmp_cli_help::{near_answer, nearer};
 use fmp_cli_hints::{near_thing, put_near, put_processors, report_of};
 use fmp_names::is_processor_word;
+use fmp_search_words::{TRACE_WORDS, begins_with_digit, cut_run, has_star};
 use fmp_text::{Names, processor_in};
 use std::alloc::{AllocError, Global};
-
-/// The words of a trace and of a state, besides names, processors, calls and codes.
-pub const LINE_WORDS: [&[u8]; 39] = [
-    b"tick",
-    b"ipi",
-    b"wait",
-    b"spin",
-    b"gone",
-    b"idle",
-    b"held",
-    b"taken",
-    b"none",
-    b"rel",
-    b"lost",
-    b"run",
-    b"ready",
-    b"due",
-    b"locked",
-    b"disabled",
-    b"latch",
-    b"suspended",
-    b"waits",
-    b"slp",
-    b"dly",
-    b"sem",
-    b"flg",
-    b"sdtq",
-    b"rdtq",
-    b"mpf",
-    b"left",
-    b"stopped",
-    b"pri",
-    b"act",
-    b"wup",
-    b"count",
-    b"pattern",
-    b"values",
-    b"free",
-    b"end",
-    b"TSK_SELF",
-    b"TWF_ANDW",
-    b"TWF_ORW",
-];
 
 /// The nearest of these words, and of the best one before them.
 fn near_word<'a>(
@@ -83,28 +38,11 @@ fn near_known<'a>(
     ensures { IfOk result (λ found. option_copied found ≡ spec.near_known names.now word.now) }
 {
     let best = near_thing(alloc, names, word)?;
-    let best = near_word(alloc, word, best, &LINE_WORDS)?;
+    let best = near_word(alloc, word, best, &TRACE_WORDS)?;
     if best.is_some() {
         return Ok(best);
     }
     near_answer(alloc, word)
-}
-
-/// Whether the first byte of a run is a decimal digit. That holds of an empty run too.
-fn begins_with_digit(run: &[u8]) -> bool
-    ensures { result ≡ words.begins_with_digit run.now }
-{
-    match run {
-        [] => true,
-        [first, ..] => first.is_ascii_digit(),
-    }
-}
-
-/// Whether some byte of a run is a star.
-fn has_star(run: &[u8]) -> bool
-    ensures { result ≡ list_any (λ b. b == words.star) run.now }
-{
-    run.iter().any(|b| *b == b'*')
 }
 
 /// Whether nothing is told of a run: it has a star, begins with a digit, is empty, or is the name of an object.
@@ -184,33 +122,6 @@ fn put_run_hint(
         put_name_hint(alloc, out, names, run)
     } else {
         out.extend_from_slice(row)
-    }
-}
-
-/// Whether a byte is no letter, no digit, no `_` and no star, so that it ends a run.
-fn is_outside(byte: u8) -> bool
-    ensures { result ≡ words.is_outside byte }
-{
-    !(Class::Word.has(byte) || byte == b'*')
-}
-
-/// The place of the first byte that ends a run, from 0. None where the whole word is one run.
-fn end_of_run(word: &[u8]) -> Option<usize>
-    ensures place { result ≡ position words.is_outside word.now }
-    ensures within { IfSome result (λ i. i < length word.now) }
-{
-    word.iter().position(|byte| is_outside(*byte))
-}
-
-/// The first run of a word, and what follows the byte that ends it, which is in neither. None follows where the whole word is one run.
-#[tactic(auto, unfolding(fmp_search_words::specs::Words::cut_run))]
-fn cut_run(word: &[u8]) -> (&[u8], Option<&[u8]>)
-    ensures prefix { result.0.now ≡ (words.cut_run word.now).0 }
-    ensures rest { option_copied result.1 ≡ (words.cut_run word.now).1 }
-{
-    match end_of_run(word) {
-        Some(end) => (&word[..end], Some(&word[end + 1..])),
-        None => (word, None),
     }
 }
 

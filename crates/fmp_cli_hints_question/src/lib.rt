@@ -3,16 +3,12 @@
 //!
 //! The contract of [`question_context`] is one equation with `specs/Questions`, and what is told of a word says `specs/Known`: a name that is near, the
 //! number that a trace has in place of a constant, or what stands for a word of another language of patterns. What is told of a word that no line has
-//! after those before it says `specs/Lines`. The law
-//! `near_words_are_those_of_questions` says that the words of a trace among them are those that questions may have. That the question has the fault is
-//! taken from the caller.
+//! after those before it says `specs/Lines`. That the question has the fault is taken from the caller.
 #![tactic(auto)]
 
 mod known;
-mod laws;
 mod lines;
 mod question;
 mod rows;
 
-pub use laws::near_words_are_those_of_questions;
 pub use question::{question_code, question_context, question_words};

@@ -1,1 +1,1 @@
-mod Running  -- The runs of a word, one after the other.
+pub mod Running  -- The runs of a word, one after the other.

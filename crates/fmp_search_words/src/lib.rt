@@ -9,4 +9,4 @@ mod words;
 
 pub use forms::spot_of;
 pub use spot::Spot;
-pub use words::{are_fine, is_printed};
+pub use words::{TRACE_WORDS, are_fine, begins_with_digit, cut_run, has_star, is_printed};

@@ -97,7 +97,7 @@ fn is_known(names: &Names, run: &[u8]) -> bool
 }
 
 /// Whether the first byte of a run is a decimal digit. That holds of an empty run too.
-fn begins_with_digit(run: &[u8]) -> bool
+pub fn begins_with_digit(run: &[u8]) -> bool
     ensures { result ≡ spec.begins_with_digit run.now }
 {
     match run {
@@ -107,7 +107,7 @@ fn begins_with_digit(run: &[u8]) -> bool
 }
 
 /// Whether some byte of a run is a star.
-pub(crate) fn has_star(run: &[u8]) -> bool
+pub fn has_star(run: &[u8]) -> bool
     ensures { result ≡ list_any (λ b. b == spec.star) run.now }
 {
     run.iter().any(|b| *b == b'*')
@@ -138,7 +138,7 @@ fn end_of_run(word: &[u8]) -> Option<usize>
 
 /// The first run of a word, and what follows the byte that ends it, which is in neither. None follows where the whole word is one run.
 #[tactic(auto, unfolding(crate::specs::Words::cut_run))]
-fn cut_run(word: &[u8]) -> (&[u8], Option<&[u8]>)
+pub fn cut_run(word: &[u8]) -> (&[u8], Option<&[u8]>)
     ensures prefix { result.0.now ≡ (spec.cut_run word.now).0 }
     ensures rest { option_copied result.1 ≡ (spec.cut_run word.now).1 }
 {

@@ -2,7 +2,8 @@ use Rattle.std.proofs.Common.{◌≡◌, ◌++◌, ap}
 use Rattle.std.specs.Option.{option_copied}
 use Rattle.fmp_cli_hints_question.specs.Known.{hints_of, run_hints}
 use Rattle.fmp_search_words.specs.Words.{runs_of}
-use Rattle.fmp_cli_hints_question.proofs.Runs.{fewer_runs, run_reported}
+use Rattle.fmp_search_words.proofs.Running.{fewer_runs}
+use Rattle.fmp_cli_hints_question.proofs.Runs.{run_reported}
 use Rattle.fmp_cli_hints_question.proofs.known.put_run_hints.Goals as goal
 
 pub loop-rest-smaller : goal.loop-rest-smaller

@@ -1,7 +1,7 @@
 use Rattle.std.proofs.Common.{◌≡◌, ◌++◌, ◌+◌, length}
 use Rattle.std.specs.Option.{option_copied, option_map_or}
 use Rattle.fmp_cli_hints_question.specs.Known.{hints_of, run_hints}
-use Rattle.fmp_cli_hints_question.proofs.Runs.{runs_left}
+use Rattle.fmp_search_words.proofs.Running.{runs_left}
 use Rattle.fmp_cli_hints_question.proofs.known.put_run_hints.Given as goal
 
 -- what is told of the runs that are left
