@@ -1,4 +1,4 @@
-use Rattle.std.proofs.Common.{ap, omega, arith, rules, subst}
+use Rattle.std.proofs.Common.{ap, rules, subst}
 use Rattle.fmp_run_texts.proofs.Grammars.{one_config}
 use Rattle.fmp_names.specs.Names.{AreValid}
 use Rattle.fmp_setup.specs.Setup.{Setup}
