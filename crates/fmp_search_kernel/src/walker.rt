@@ -1,8 +1,9 @@
 //! One who stands at a place of all orders, and makes steps.
 ghost use Rattle.std.specs.Prelude.{◌≡◌, ◌≤◌, ◌<◌, ◌+◌, ◌^◌, ℕ, List, [], ◌∷◌, true, false, Some, is_some, length, map, IfOk, IfSome, IfNone, IsTrue, if◌then◌else◌};
 ghost use Rattle.fmp_codes.specs.Records.{processor_of};
+ghost use Rattle.fmp_rules.specs.Boot.{boot};
 ghost use Rattle.fmp_rules.specs.Step as machine;
-ghost use Rattle.fmp_kernel_order.specs.Queues.{listed};
+ghost use Rattle.fmp_kernel_order.specs.Queues.{listed, no_queues};
 ghost use Rattle.fmp_search_orders.specs.Places as places;
 ghost use Rattle.fmp_search.specs.Runs.{Watches};
 ghost use Rattle.fmp_search_orders.specs.Lasting.{step_test};
@@ -22,6 +23,7 @@ use fmp_smp_histories::{advance_handler, advance_task, asked_at};
 use fmp_text_scripts::Scripts;
 use std::alloc::AllocError;
 use std::marker::Model;
+use std::rc::Rc;
 
 // For how many steps there is room from where all runs begin.
 pub(crate) const MOST: u32 = 2_147_483_648;
@@ -33,8 +35,8 @@ pub struct Walker<'a> {
     scripts: &'a Scripts,
     pub(crate) question: &'a Question,
     rules: Rules,
-    /// The kernel at boot.
-    pub(crate) start: Kernel,
+    /// The kernel at boot, which twins share.
+    pub(crate) start: Rc<Kernel>,
     pub(crate) kernel: Kernel,
     /// Where the scripts of the tasks, and of the handlers on each processor, have come to.
     pub(crate) tasks: [u32; 64],
@@ -78,8 +80,8 @@ impl<'a> Model for Walker<'a> {
       made = w.made;
     } };
 
-    ghost invariant = { λ w. (length w.kernel.processors ≡ w.config.now.processors) × (w.start ≡ boot listed (no_queues w.config.now) w.config.now)
-        × (length w.start.processors ≡ w.config.now.processors) × IsRoomy w.tasks w.handlers w.taken w.idled w.seen w.left };
+    ghost invariant = { λ w. (length w.kernel.processors ≡ w.config.now.processors) × (w.start.value ≡ boot listed (no_queues w.config.now) w.config.now)
+        × (length w.start.value.processors ≡ w.config.now.processors) × IsRoomy w.tasks w.handlers w.taken w.idled w.seen w.left };
 }
 
 /// How many steps were seen after one more event, which is marked or not.
@@ -220,12 +222,28 @@ impl<'a> Walker<'a> {
     ) -> Result<Walker<'a>, AllocError>
         ensures { IfOk result (λ w. w.place ≡ places.origin config.entry.now scripts.entry.now rules question.entry.now) }
     {
+        let start = Rc::new(config.allocator(), Kernel::boot(config)?)?;
+        Walker::starting(config, scripts, rules, question, start)
+    }
+
+    /// A walker where all runs begin, with the kernel at boot given.
+    fn starting(
+        config: &'a Config,
+        scripts: &'a Scripts,
+        rules: Rules,
+        question: &'a Question,
+        start: Rc<Kernel>,
+    ) -> Result<Walker<'a>, AllocError>
+        requires boot { start.value ≡ boot listed (no_queues config.now) config.now }
+        requires processors { length start.value.processors ≡ config.now.processors }
+        ensures { IfOk result (λ w. w.place ≡ places.origin config.entry.now scripts.entry.now rules question.entry.now) }
+    {
         Ok(Walker {
             config,
             scripts,
             question,
             rules,
-            start: Kernel::boot(config)?,
+            start,
             kernel: Kernel::boot(config)?,
             tasks: [0; 64],
             handlers: [0; 8],
@@ -243,7 +261,8 @@ impl<'a> Walker<'a> {
     pub(crate) fn twin(&self) -> Result<Walker<'a>, AllocError>
         ensures { IfOk result (λ w. w.place ≡ origin_of self.now.place) }
     {
-        Walker::new(self.config, self.scripts, self.rules, self.question)
+        let start = self.start.clone()?;
+        Walker::starting(self.config, self.scripts, self.rules, self.question, start)
     }
 
     /// Goes on by an event: the machine, the positions, the ticks and the steps seen change, and `made` tells what was done. It takes the room

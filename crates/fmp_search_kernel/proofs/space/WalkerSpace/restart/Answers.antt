@@ -9,11 +9,11 @@ returns-then-not-copy_from-clause-origin c = rw (← c.self.view_is) refl
 
 pub invariant_of-self-2 : goal.invariant_of-self-2
 invariant_of-self-2 c =
-    let same = c.if-not-copy_from.ensures.copied refl in
+    let same = c.if-not-copy_from.ensures.copied refl ∙ c.deref.ensures in
     (ap (λ (k : World Queues). length k.processors) same ∙ c.self.invariant.2, c.self.invariant.1, c.self.invariant.2, roomy_start _ (omega arith))
 
 pub returns-clause-there : goal.returns-clause-there
-returns-clause-there c = let same = c.if-not-copy_from.ensures.copied refl ∙ c.self.invariant.1 in rw (← c.self.view_is, same) refl
+returns-clause-there c = let same = c.if-not-copy_from.ensures.copied refl ∙ c.deref.ensures ∙ c.self.invariant.1 in rw (← c.self.view_is, same) refl
 
 pub returns-clause-origin : goal.returns-clause-origin
 returns-clause-origin c = rw (← c.self.view_is) refl
