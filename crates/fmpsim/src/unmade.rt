@@ -13,6 +13,9 @@ use std::rt::Clock;
 // How many calls are told.
 const MOST_CALLS: usize = 8;
 
+// By which part of the lines to the farthest place most calls are made.
+const SOON: u32 = 4;
+
 // How many positions of a script are looked at: a script has no more steps.
 const POSITIONS: u32 = 256;
 
@@ -137,6 +140,36 @@ fn has_no_room(outcome: &Outcome, room: u32) -> bool {
     is_ended && is_full && is_one
 }
 
+/// Which calls are made, where all of them are made by a part of the lines to the farthest place of a search. Few places are that near.
+fn all_met_soon<P: Progress>(
+    alloc: Global,
+    layer: &Layer,
+    extent: Extent,
+    bounds: Bounds,
+    progress: &mut P,
+) -> Result<Option<Met>, AllocError> {
+    let soon = bounds.turns.min(extent.farthest / SOON);
+    let Some(met) = layer.made(alloc, progress, soon, bounds.places)? else {
+        return Ok(None);
+    };
+    let is_all = unmade_calls(alloc, layer, &met)?.is_empty();
+    Ok(is_all.then_some(met))
+}
+
+/// Which calls are made, as far as that is known in time. The orders are not gone through to their ends where each call is made before.
+fn calls_met<P: Progress>(
+    alloc: Global,
+    layer: &Layer,
+    extent: Extent,
+    bounds: Bounds,
+    progress: &mut P,
+) -> Result<Option<Met>, AllocError> {
+    match all_met_soon(alloc, layer, extent, bounds, progress)? {
+        Some(met) => Ok(Some(met)),
+        None => layer.made(alloc, progress, bounds.turns, bounds.places),
+    }
+}
+
 /// Tells which calls of the scripts no order makes, beside a question that no order shows. It says nothing that is not found in time.
 pub fn tell_calls_unmade<R: Eprint + Clock + AllocGlobal>(
     rt: &R,
@@ -145,17 +178,16 @@ pub fn tell_calls_unmade<R: Eprint + Clock + AllocGlobal>(
     bounds: Bounds,
     progress: &mut ProgressLine<'_, R>,
 ) {
-    if outcome.extent.is_none()
-        || has_no_room(outcome, bounds.places)
-        || Progress::is_over(progress)
-    {
+    let Some(extent) = outcome.extent else {
+        return;
+    };
+    if has_no_room(outcome, bounds.places) || Progress::is_over(progress) {
         return;
     }
-    let found = outcome
-        .layer
-        .made(rt.alloc(), progress, bounds.turns, bounds.places);
+    let layer = &outcome.layer;
+    let found = calls_met(rt.alloc(), layer, extent, bounds, progress);
     Progress::end(progress);
     if let Ok(Some(met)) = found {
-        let _ = tell_met(rt, asked, &outcome.layer, &met, bounds.turns);
+        let _ = tell_met(rt, asked, layer, &met, bounds.turns);
     }
 }
