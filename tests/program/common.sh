@@ -54,12 +54,13 @@ run() {
 }
 
 # browsed PAGE PLACE WORD..: what chromium, with these words, has of a page behind its scripts. The page's own clock has gone on for five seconds by
-# then, so what it draws in its next frame is there. Chromium does not shut itself in where it is run by root, and is asked again where it says nothing.
+# then, so what it draws in its next frame is there. Chromium does not shut itself in where it is run by root. Where it says nothing it is asked again,
+# with more time: on a machine on which much else runs a page takes minutes.
 browsed() {
-    local words=(--headless --disable-gpu "--user-data-dir=$PWD/profile" --virtual-time-budget=5000 "${@:3}" --dump-dom) tries
+    local words=(--headless --disable-gpu "--user-data-dir=$PWD/profile" --virtual-time-budget=5000 "${@:3}" --dump-dom) patience
     [ "$(id -u)" != 0 ] || words+=(--no-sandbox)
-    for tries in 1 2 3; do
-        timeout 120 chromium "${words[@]}" "file://$PWD/$1$2" > browsed 2> /dev/null && grep -q '<body' browsed && break
+    for patience in 120 600 1200; do
+        timeout "$patience" chromium "${words[@]}" "file://$PWD/$1$2" > browsed 2> /dev/null && grep -q '<body' browsed && break
         rm -rf profile
     done
     cat browsed

@@ -17,7 +17,7 @@ drives() {
     local named well
     for named in "$program" fmpsim; do
         well=no
-        PATH=$PWD/bin:$PATH timeout --foreground 60 "$@" "$named" "$folder/machine.cfg" > output 2> errors \
+        PATH=$PWD/bin:$PATH timeout --foreground 600 "$@" "$named" "$folder/machine.cfg" > output 2> errors \
             && cmp output "$folder/trace.txt" && [ ! -s errors ] && well=yes
         count "$well" "# $named driven by ${*##*/}"
     done

@@ -97,7 +97,7 @@ is_spun() {
 # run had to be ended, so that no other one is waited for.
 ring() {
     local words=(smp ring.cfg ring.txt --ticks 5 --turns "$turns" "${@:4}") status well=no
-    within 120 "${words[@]}"
+    within 600 "${words[@]}"
     status=$?
     mv output trace.txt
     case $status in

@@ -122,16 +122,20 @@ answers_not_known() {
     run 6 "$(as_file echo 'not known stuck: not within 5')" /dev/null explore "$folder/machine.cfg" "$folder/scripts.txt" --ticks any --turns 5 --questions asked.txt
 }
 
-# The seconds are those of all questions together.
+# The seconds are those of all questions together. Where a machine is so busy that they are over before the first question has come to a line, more are given.
 answers_in_time() {
-    local folder=$top/examples/explore-philosophers words begun=$SECONDS well=no lines
+    local folder=$top/examples/explore-philosophers words begun well=no lines seconds
     printf '%s\n' 'first never lost=*' 'second never deadlock' 'third never E_PAR' > asked.txt
-    words=(explore "$folder/machine.cfg" "$folder/scripts.txt" --ticks any --drift 1000000 --turns 1000000 --places 20000000 --seconds 2 --questions asked.txt)
-    play "${words[@]}"
-    [ $? = 6 ] && lines=$(sed -n '1s/^not known first: not within \([0-9]*\)$/\1/p' output) && [ "${lines:-0}" -gt 0 ] && [ ! -s errors ] \
-        && tail -n +2 output | cmp -s - "$(as_file printf '%s\n' 'not known second: not within 0' 'not known third: not within 0')" \
-        && [ $((SECONDS - begun)) -lt 60 ] && well=yes
-    count "$well" "${words[@]}"
+    words=(explore "$folder/machine.cfg" "$folder/scripts.txt" --ticks any --drift 1000000 --turns 1000000 --places 20000000 --questions asked.txt)
+    for seconds in 2 20 200; do
+        begun=$SECONDS
+        play "${words[@]}" --seconds "$seconds"
+        [ $? = 6 ] && lines=$(sed -n '1s/^not known first: not within \([0-9]*\)$/\1/p' output) && [ -n "$lines" ] && [ ! -s errors ] \
+            && tail -n +2 output | cmp -s - "$(as_file printf '%s\n' 'not known second: not within 0' 'not known third: not within 0')" \
+            && [ $((SECONDS - begun)) -lt $((seconds + 300)) ] || break
+        [ "$lines" = 0 ] || { well=yes && break; }
+    done
+    count "$well" "${words[@]}" --seconds "$seconds"
 }
 
 # at_fault LINE WORDS [WORD..]: the text on standard input has this fault there, and nothing is searched for or written.

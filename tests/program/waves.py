@@ -21,7 +21,7 @@ from pathlib import Path
 from typing import NamedTuple
 
 TOP = Path(__file__).resolve().parents[2]
-SECONDS = 120
+SECONDS = 600
 
 
 class Wrong(Exception):
