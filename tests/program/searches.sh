@@ -260,8 +260,8 @@ tells_beside_never() {
     count "$([ $((SECONDS - begun)) -ge 9 ] && [ $((SECONDS - begun)) -lt 300 ] && echo yes || echo no)" '# ten seconds'
 }
 
-# never_within WORD..: the answer is `never`, and what goes on beside it ends with the seconds, and not before. A machine may be so busy that the time is
-# over before the first place is made: then, and only then, more seconds are given.
+# never_within WORD..: the answer is `never`, and what goes on beside it ends with the seconds, or with ten if there are more, and not before. A machine
+# may be so busy that the time is over before the first place is made: then, and only then, more seconds are given.
 never_within() {
     local seconds begun past well=no
     for seconds in 2 20 200; do
@@ -271,7 +271,7 @@ never_within() {
         if [ $? = 6 ] && [ "$(cat output)" = 'not within 0' ]; then continue; fi
         past=$((SECONDS - begun))
         sed -i '/; lines to the farthest: /d' errors
-        cmp output never.txt && [ ! -s errors ] && [ "$past" -ge $((seconds - 1)) ] && [ "$past" -lt $((seconds + 300)) ] && well=yes
+        cmp output never.txt && [ ! -s errors ] && [ "$past" -ge $((seconds < 10 ? seconds - 1 : 9)) ] && [ "$past" -lt $((seconds + 300)) ] && well=yes
         break
     done
     [ "$well" = yes ] || cat errors
