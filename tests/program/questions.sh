@@ -124,18 +124,18 @@ answers_not_known() {
 
 # The seconds are those of all questions together. Where a machine is so busy that they are over before the first question has come to a line, more are given.
 answers_in_time() {
-    local folder=$top/examples/explore-philosophers words begun well=no lines seconds
+    local folder=$top/examples/explore-philosophers words begun well=no lines patience
     printf '%s\n' 'first never lost=*' 'second never deadlock' 'third never E_PAR' > asked.txt
     words=(explore "$folder/machine.cfg" "$folder/scripts.txt" --ticks any --drift 1000000 --turns 1000000 --places 20000000 --questions asked.txt)
-    for seconds in 2 20 200; do
+    for patience in 2 20 200; do
         begun=$SECONDS
-        play "${words[@]}" --seconds "$seconds"
+        play "${words[@]}" --seconds "$patience"
         [ $? = 6 ] && lines=$(sed -n '1s/^not known first: not within \([0-9]*\)$/\1/p' output) && [ -n "$lines" ] && [ ! -s errors ] \
             && tail -n +2 output | cmp -s - "$(as_file printf '%s\n' 'not known second: not within 0' 'not known third: not within 0')" \
-            && [ $((SECONDS - begun)) -lt $((seconds + 300)) ] || break
+            && [ $((SECONDS - begun)) -lt $((patience + 300)) ] || break
         [ "$lines" = 0 ] || { well=yes && break; }
     done
-    count "$well" "${words[@]}" --seconds "$seconds"
+    count "$well" "${words[@]}" --seconds "$patience"
 }
 
 # at_fault LINE WORDS [WORD..]: the text on standard input has this fault there, and nothing is searched for or written.

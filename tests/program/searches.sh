@@ -263,19 +263,19 @@ tells_beside_never() {
 # never_within WORD..: the answer is `never`, and what goes on beside it ends with the seconds, or with ten if there are more, and not before. A machine
 # may be so busy that the time is over before the first place is made: then, and only then, more seconds are given.
 never_within() {
-    local seconds begun past well=no
-    for seconds in 2 20 200; do
+    local patience begun past well=no
+    for patience in 2 20 200; do
         : > output
         begun=$SECONDS
-        play "$@" --seconds "$seconds"
+        play "$@" --seconds "$patience"
         if [ $? = 6 ] && [ "$(cat output)" = 'not within 0' ]; then continue; fi
         past=$((SECONDS - begun))
         sed -i '/; lines to the farthest: /d' errors
-        cmp output never.txt && [ ! -s errors ] && [ "$past" -ge $((seconds < 10 ? seconds - 1 : 9)) ] && [ "$past" -lt $((seconds + 300)) ] && well=yes
+        cmp output never.txt && [ ! -s errors ] && [ "$past" -ge $((patience < 10 ? patience - 1 : 9)) ] && [ "$past" -lt $((patience + 300)) ] && well=yes
         break
     done
     [ "$well" = yes ] || cat errors
-    count "$well" "$@" --seconds "$seconds"
+    count "$well" "$@" --seconds "$patience"
 }
 
 # strays LINE WORD..: the trace on standard input has this line, and no order of the scripts has it there.
@@ -343,9 +343,9 @@ are_counting() {
 
 # counts_up EDIT WORD..: these words and --progress lead to such lines on standard error within three seconds, or on a busy machine within thirty
 counts_up() {
-    local seconds
-    for seconds in 3 10 30; do
-        timeout --preserve-status -s INT "$seconds" "$program" "${@:2}" --progress < /dev/null > output 2> errors
+    local patience
+    for patience in 3 10 30; do
+        timeout --preserve-status -s INT "$patience" "$program" "${@:2}" --progress < /dev/null > output 2> errors
         are_counting "$1" && return
     done
     return 1

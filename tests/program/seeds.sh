@@ -181,16 +181,16 @@ seeds_that_draw() {
 # A search that ends after a second: at least one seed was played, nothing is written, and the last one is told. Where a machine is so busy that few were played
 # by then, more seconds are given. One that is done before says what it says without --seconds.
 seeds_in_time() {
-    local words=(smp dead.cfg dead.txt --ticks 0 --turns 25 --seeds) last ended seconds well=no
-    for seconds in 1 10 100; do
+    local words=(smp dead.cfg dead.txt --ticks 0 --turns 25 --seeds) last ended patience well=no
+    for patience in 1 10 100; do
         : > output
-        play smp wait.cfg wait.txt --ticks 3 --turns 25 --seeds 0..18446744073709551615 --find E_CTX --seconds "$seconds"
+        play smp wait.cfg wait.txt --ticks 3 --turns 25 --seeds 0..18446744073709551615 --find E_CTX --seconds "$patience"
         ended=$?
         last=$(sed -n 's/^fmpsim: ended by --seconds after seed \([0-9]*\)$/\1/p' errors)
         [ "$ended" = 6 ] && [ ! -s output ] && [ "$(wc -l < errors)" = 1 ] && [ -n "$last" ] || break
         [ "$last" -le 10 ] || { well=yes && break; }
     done
-    count "$well" smp --seeds --seconds "$seconds"
+    count "$well" smp --seeds --seconds "$patience"
     run 6 /dev/null "$(as_file echo 'fmpsim: ended by --seconds after seed 22')" "${words[@]}" 22..72 --seconds 0
     run 0 /dev/null /dev/null "${words[@]}" 22..22 --seconds 0
     run 7 dead.trace dead.errors "${words[@]}" 21..99 --seconds 0
