@@ -116,6 +116,13 @@ impl Kernel {
         step_recorded(&mut self.machine, report);
     }
 
+    /// The machine between two events.
+    pub fn machine(&self) -> &KernelMachine
+        ensures { result.now ≡ self.now }
+    {
+        &self.machine
+    }
+
     /// Whether it is the same as another kernel, so that both answer all events alike. Where it says no, contracts may see the
     /// same all the same.
     pub fn is_same(&self, other: &Kernel) -> bool

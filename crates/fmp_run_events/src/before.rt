@@ -61,5 +61,5 @@ pub(crate) fn put_state_before(
     let names = config.names();
     names.validity();
     let kernel = kernel_before(config, trace, n)?;
-    put_state(out, names, &kernel)
+    put_state(out, names, kernel.machine())
 }

@@ -73,7 +73,7 @@ fn waiting_after(alloc: Global, config: &Config, events: &[Event]) -> Result<Vec
         kernel.step_into(*event, &mut report);
     }
     let mut waiting = Vec::new(alloc);
-    put_waiting(&mut waiting, config.names(), &kernel)?;
+    put_waiting(&mut waiting, config.names(), kernel.machine())?;
     Ok(waiting)
 }
 
@@ -121,7 +121,7 @@ fn stuck_in_turn(
 {
     let run = run_seeded(alloc, config, scripts, runs.ticks, runs.turns, seed)?;
     let mut waiting = Vec::new(alloc);
-    put_waiting(&mut waiting, config.names(), run.history.last())?;
+    put_waiting(&mut waiting, config.names(), run.history.last().machine())?;
     let lines = waiting.as_slice();
     if !is_quiet(run.ended) || lines.is_empty() {
         return Ok(None);

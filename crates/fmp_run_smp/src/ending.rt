@@ -69,7 +69,7 @@ fn waiting_at_end(
     ensures { IfOk result (λ v. v.items ≡ waiting_lines names.now (state_after history.now.config history.now.records)) }
 {
     let mut lines = Vec::new(alloc);
-    put_waiting(&mut lines, names, history.last())?;
+    put_waiting(&mut lines, names, history.last().machine())?;
     Ok(lines)
 }
 

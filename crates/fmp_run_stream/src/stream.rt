@@ -53,6 +53,7 @@ pub enum Detail {
 }
 
 /// Adds what is told at boot, and keeps in mind what is.
+#[tactic(auto, using(fmp_show_state::proofs::Alike::states_alike, fmp_show_life::proofs::Alike::report_alike, fmp_show_life::proofs::Alike::renewed_alike))]
 fn put_boot(
     detail: &mut Detail,
     names: &Names,
@@ -65,13 +66,14 @@ fn put_boot(
 {
     match detail {
         Detail::Line => Ok(()),
-        Detail::State => put_state(line, names, kernel),
+        Detail::State => put_state(line, names, kernel.machine()),
         Detail::Changes(changes) => changes.put_state(line, names, kernel),
-        Detail::Life(life) => life.put_changes(line, names, kernel),
+        Detail::Life(life) => life.put_changes(line, names, kernel.machine()),
     }
 }
 
 /// Adds the lines of things of which something changed, or takes the line away where there are none.
+#[tactic(auto, using(fmp_show_life::proofs::Alike::report_alike, fmp_show_life::proofs::Alike::renewed_alike))]
 fn put_life(
     life: &mut Life,
     names: &Names,
@@ -82,7 +84,7 @@ fn put_life(
     ensures report { (m : State) → Stands kernel.now m → OnOk result (life.new ≡ map (renewed names.now m) life.old) }
 {
     let bytes = line.len();
-    life.put_changes(line, names, kernel)?;
+    life.put_changes(line, names, kernel.machine())?;
     if line.len() == bytes {
         line.clear();
     }
@@ -90,6 +92,7 @@ fn put_life(
 }
 
 /// Makes of the line of an event all that is told of it, and keeps in mind what is.
+#[tactic(auto, using(fmp_show_state::proofs::Alike::states_alike))]
 fn put_after(
     detail: &mut Detail,
     names: &Names,
@@ -102,7 +105,7 @@ fn put_after(
 {
     match detail {
         Detail::Line => Ok(()),
-        Detail::State => put_state(line, names, kernel),
+        Detail::State => put_state(line, names, kernel.machine()),
         Detail::Changes(changes) => changes.put_changes(line, names, kernel),
         Detail::Life(life) => put_life(life, names, kernel, line),
     }

@@ -60,7 +60,7 @@ pub fn put_sight(
     ensures { OnOk result (text.new.items ≡ line_text names.now 1 made.now ++ state_lines listed names.now kernel.now ++ (if over then codes "end\n" else [])) }
 {
     trace_line(1, made, names, text)?;
-    put_lines(text, names, kernel)?;
+    put_lines(text, names, kernel.machine())?;
     if over {
         text.extend_from_slice(b"end\n")?;
     }

@@ -191,6 +191,7 @@ impl Session {
     }
 
     /// Writes the text of the state at the beginning of a room, and says how many bytes it has.
+    #[tactic(auto, using(fmp_show_state::proofs::Alike::states_alike))]
     pub fn put_state(&mut self, room: &mut [u8]) -> Result<usize, Refused>
         ensures ok { (c : Setup) (es : List AnyEvent) → IsAt self.old c es
             → OnOk result (room.new ≡ spec.written_over (state_text c.names (spec.state_after c es)) room.old) }
@@ -202,7 +203,7 @@ impl Session {
         ensures session { self.new ≡ record self.old { text = self.new.text } }
     {
         self.text.clear();
-        if put_state(&mut self.text, self.config.names(), &self.kernel).is_err() {
+        if put_state(&mut self.text, self.config.names(), self.kernel.machine()).is_err() {
             return Err(Refused::Memory);
         }
         put(self.text.as_slice(), room)

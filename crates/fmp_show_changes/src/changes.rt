@@ -42,6 +42,7 @@ impl Changes {
 
     /// Adds the lines of the kernel's state, and the one that ends it, and keeps them in mind. After an error a beginning of these lines may
     /// have been added.
+    #[tactic(auto, using(fmp_show_state::proofs::Alike::states_alike))]
     pub fn put_state(
         &mut self,
         out: &mut Vec<u8>,
@@ -52,13 +53,14 @@ impl Changes {
         ensures kept { (m : State) → Stands kernel.now m → OnOk result (self.new ≡ state_lines numbered names.now m) }
     {
         self.before.clear();
-        put_lines(&mut self.before, names, kernel)?;
-        put_state(out, names, kernel)
+        put_lines(&mut self.before, names, kernel.machine())?;
+        put_state(out, names, kernel.machine())
     }
 
     /// Adds what of the kernel's state changed since a state was told last, and keeps this one in mind: each line of a processor and each
     /// other line that is new or differs, then the name of each line that is gone, and the line that ends a state. After an error a
     /// beginning of this may have been added.
+    #[tactic(auto, using(fmp_show_state::proofs::Alike::states_alike))]
     pub fn put_changes(
         &mut self,
         out: &mut Vec<u8>,
@@ -69,7 +71,7 @@ impl Changes {
         ensures kept { (m : State) → Stands kernel.now m → OnOk result (self.new ≡ state_lines numbered names.now m) }
     {
         self.after.clear();
-        put_lines(&mut self.after, names, kernel)?;
+        put_lines(&mut self.after, names, kernel.machine())?;
         put_changes(out, self.before.as_slice(), self.after.as_slice())?;
         mem::swap(&mut self.before, &mut self.after);
         Ok(())

@@ -1,15 +1,13 @@
 //! What was told of some things last.
 ghost use Rattle.std.specs.Prelude.{◌≡◌, ◌++◌, map, OnOk, IfOk};
 ghost use Rattle.std.specs.List.{flat_map};
-ghost use Rattle.fmp_rules.specs.Arrivals.{State};
-ghost use Rattle.fmp_law_lists.specs.Stands.{Stands};
 ghost use Rattle.fmp_show_life.specs.Lives as spec;
 ghost use Rattle.fmp_show_life.specs.Watches.{seen_of};
 
 use crate::lines::put_line;
 use crate::things::Thing;
-use fmp_kernel::Kernel;
 use fmp_names::Names;
+use fmp_show_views::Views;
 use std::alloc::{AllocError, Global};
 use std::marker::Model;
 use std::mem;
@@ -52,38 +50,38 @@ impl Model for Life {
 }
 
 /// Adds the line of a thing, where something else is told of it than was told last, and keeps in mind what is.
-fn put_change(
+fn put_change<M: Views>(
     out: &mut Vec<u8>,
     watched: &mut Watched,
     fresh: &mut Vec<u8>,
     names: &Names,
-    kernel: &Kernel,
+    machine: &M,
 ) -> Result<(), AllocError>
-    ensures report { OnOk result (out.new.items ≡ out.old.items ++ spec.report_since names.now kernel.now (seen_of watched.old)) }
-    ensures seen { OnOk result (seen_of watched.new ≡ spec.renewed names.now kernel.now (seen_of watched.old)) }
+    ensures report { OnOk result (out.new.items ≡ out.old.items ++ spec.report_since names.now (M.world machine.now) (seen_of watched.old)) }
+    ensures seen { OnOk result (seen_of watched.new ≡ spec.renewed names.now (M.world machine.now) (seen_of watched.old)) }
 {
     fresh.clear();
-    put_line(fresh, names, kernel, watched.thing, false)?;
+    put_line(fresh, names, machine, watched.thing, false)?;
     if fresh.as_slice() != watched.text.as_slice() {
-        put_line(out, names, kernel, watched.thing, true)?;
+        put_line(out, names, machine, watched.thing, true)?;
         mem::swap(&mut watched.text, fresh);
     }
     Ok(())
 }
 
 /// The same of all things.
-fn put_all(
+fn put_all<M: Views>(
     out: &mut Vec<u8>,
     all: &mut [Watched],
     fresh: &mut Vec<u8>,
     names: &Names,
-    kernel: &Kernel,
+    machine: &M,
 ) -> Result<(), AllocError>
-    ensures report { OnOk result (out.new.items ≡ out.old.items ++ flat_map (spec.report_since names.now kernel.now) (map seen_of all.old)) }
-    ensures seen { OnOk result (map seen_of all.new ≡ map (spec.renewed names.now kernel.now) (map seen_of all.old)) }
+    ensures report { OnOk result (out.new.items ≡ out.old.items ++ flat_map (spec.report_since names.now (M.world machine.now)) (map seen_of all.old)) }
+    ensures seen { OnOk result (map seen_of all.new ≡ map (spec.renewed names.now (M.world machine.now)) (map seen_of all.old)) }
 {
     for watched in all.iter_mut() {
-        put_change(out, watched, fresh, names, kernel)?;
+        put_change(out, watched, fresh, names, machine)?;
     }
     Ok(())
 }
@@ -99,39 +97,24 @@ impl Life {
         }
     }
 
-    /// The same of all its things, by what the kernel's lists tell.
-    fn put_lists(
+    /// Adds the lines of those things of which something else is told than was told last, in the order in which they were chosen, and
+    /// keeps in mind what is. That ticks count down changes nothing. After an error a beginning of these lines may have been added, and
+    /// some of them be kept in mind.
+    pub fn put_changes<M: Views>(
         &mut self,
         out: &mut Vec<u8>,
         names: &Names,
-        kernel: &Kernel,
+        machine: &M,
     ) -> Result<(), AllocError>
-        ensures report { OnOk result (out.new.items ≡ out.old.items ++ flat_map (spec.report_since names.now kernel.now) self.old) }
-        ensures seen { OnOk result (self.new ≡ map (spec.renewed names.now kernel.now) self.old) }
+        ensures report { OnOk result (out.new.items ≡ out.old.items ++ flat_map (spec.report_since names.now (M.world machine.now)) self.old) }
+        ensures seen { OnOk result (self.new ≡ map (spec.renewed names.now (M.world machine.now)) self.old) }
     {
         put_all(
             out,
             self.watched.as_mut_slice(),
             &mut self.fresh,
             names,
-            kernel,
+            machine,
         )
-    }
-
-    /// Adds the lines of those things of which something else is told than was told last, in the order in which they were chosen, and
-    /// keeps in mind what is. That ticks count down changes nothing. After an error a beginning of these lines may have been added, and
-    /// some of them be kept in mind.
-    pub fn put_changes(
-        &mut self,
-        out: &mut Vec<u8>,
-        names: &Names,
-        kernel: &Kernel,
-    ) -> Result<(), AllocError>
-        ensures lists { OnOk result (out.new.items ≡ out.old.items ++ flat_map (spec.report_since names.now kernel.now) self.old) }
-        ensures seen { OnOk result (self.new ≡ map (spec.renewed names.now kernel.now) self.old) }
-        ensures model { (m : State) → Stands kernel.now m → OnOk result (out.new.items ≡ out.old.items ++ flat_map (spec.report_since names.now m) self.old) }
-        ensures seen_model { (m : State) → Stands kernel.now m → OnOk result (self.new ≡ map (spec.renewed names.now m) self.old) }
-    {
-        self.put_lists(out, names, kernel)
     }
 }

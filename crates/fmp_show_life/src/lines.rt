@@ -7,12 +7,12 @@ ghost use Rattle.fmp_show_life.specs.Lines as spec;
 use crate::things::Thing;
 use fmp_calls::ObjectKind;
 use fmp_codes::{Object, Proc, Runner, Task};
-use fmp_kernel::Kernel;
 use fmp_names::Names;
 use fmp_rules::TaskRecord;
 use fmp_show_state::{
     put_any_wait, put_flag, put_left, put_numbers, put_object, put_ticks, put_values,
 };
+use fmp_show_views::Views;
 use fmp_trace::{put_named, put_number, put_task};
 use std::alloc::AllocError;
 
@@ -28,10 +28,10 @@ fn left_by(ticks: bool, left: Option<u64>) -> Option<u64>
 }
 
 /// Whether the processor of a task runs it.
-fn runs(kernel: &Kernel, t: Task) -> bool
-    ensures { result ≡ spec.runs kernel.now t }
+fn runs<M: Views>(machine: &M, t: Task) -> bool
+    ensures { result ≡ spec.runs (M.world machine.now) t }
 {
-    match kernel.processor(kernel.task(t).assigned).running {
+    match machine.processor(machine.task(t).assigned).running {
         None => false,
         Some(other) => t.number == other.number,
     }
@@ -112,23 +112,28 @@ fn put_task_line(
 }
 
 /// Adds the values of a data queue, the oldest first, or that it has none.
-fn put_contents(out: &mut Vec<u8>, kernel: &Kernel, d: Object) -> Result<(), AllocError>
-    ensures { OnOk result (out.new.items ≡ out.old.items ++ spec.contents_text (values kernel.now d)) }
+fn put_contents<M: Views>(out: &mut Vec<u8>, machine: &M, d: Object) -> Result<(), AllocError>
+    ensures { OnOk result (out.new.items ≡ out.old.items ++ spec.contents_text (values (M.world machine.now) d)) }
 {
-    if kernel.value_count(d) == 0 {
+    if machine.value_count(d) == 0 {
         return out.extend_from_slice(b" empty");
     }
-    put_values(out, kernel, d)
+    put_values(out, machine, d)
 }
 
 /// Adds the line of a data queue.
 #[tactic(auto, unfolding(crate::specs::Lines::queue_reported))]
-fn put_queue(out: &mut Vec<u8>, names: &Names, kernel: &Kernel, d: Object) -> Result<(), AllocError>
-    ensures { OnOk result (out.new.items ≡ out.old.items ++ spec.queue_reported names.now d (values kernel.now d)) }
+fn put_queue<M: Views>(
+    out: &mut Vec<u8>,
+    names: &Names,
+    machine: &M,
+    d: Object,
+) -> Result<(), AllocError>
+    ensures { OnOk result (out.new.items ≡ out.old.items ++ spec.queue_reported names.now d (values (M.world machine.now) d)) }
 {
     out.extend_from_slice(b"  ")?;
     put_named(out, names, ObjectKind::DataQueue, usize::from(d.number))?;
-    put_contents(out, kernel, d)?;
+    put_contents(out, machine, d)?;
     out.push(b'\n')?;
     Ok(())
 }
@@ -192,63 +197,63 @@ fn is_handler(one: Runner, other: Runner) -> bool
 }
 
 /// Whether a handler is due on this processor.
-fn is_due_on(kernel: &Kernel, handler: Runner, p: Proc) -> bool
-    ensures { result ≡ spec.is_due_on kernel.now handler p }
+fn is_due_on<M: Views>(machine: &M, handler: Runner, p: Proc) -> bool
+    ensures { result ≡ spec.is_due_on (M.world machine.now) handler p }
 {
-    let due = kernel.due(p);
+    let due = machine.due(p);
     due.iter().any(|other| is_handler(handler, *other))
 }
 
 /// Whether a handler is due.
-fn is_due(kernel: &Kernel, handler: Runner) -> bool
-    ensures { result ≡ spec.is_due kernel.now handler }
+fn is_due<M: Views>(machine: &M, handler: Runner) -> bool
+    ensures { result ≡ spec.is_due (M.world machine.now) handler }
 {
     let mut due = false;
-    for index in 0..kernel.processors() {
-        due = due || is_due_on(kernel, handler, Proc::from_index(index));
+    for index in 0..machine.processor_count() {
+        due = due || is_due_on(machine, handler, Proc::from_index(index));
     }
     due
 }
 
 /// Adds the line of a thing, with the ticks that it has left, or with 0 in place of how many they are.
-pub(crate) fn put_line(
+pub(crate) fn put_line<M: Views>(
     out: &mut Vec<u8>,
     names: &Names,
-    kernel: &Kernel,
+    machine: &M,
     thing: Thing,
     ticks: bool,
 ) -> Result<(), AllocError>
-    ensures { OnOk result (out.new.items ≡ out.old.items ++ spec.thing_line names.now ticks kernel.now thing) }
+    ensures { OnOk result (out.new.items ≡ out.old.items ++ spec.thing_line names.now ticks (M.world machine.now) thing) }
 {
     match thing {
         Thing::Task(t) => {
-            let task = kernel.task(t);
-            let left = left_by(ticks, kernel.wait_left(t));
-            put_task_line(out, names, t, runs(kernel, t), &task, left)
+            let task = machine.task(t);
+            let left = left_by(ticks, machine.wait_left(t));
+            put_task_line(out, names, t, runs(machine, t), &task, left)
         }
         Thing::Semaphore(s) => {
-            let count = u64::from(kernel.semaphore(s).count);
+            let count = u64::from(machine.semaphore(s).count);
             put_object(out, names, ObjectKind::Semaphore, s, b" count=", count)
         }
         Thing::Eventflag(f) => {
-            let pattern = u64::from(kernel.eventflag(f).pattern);
+            let pattern = u64::from(machine.eventflag(f).pattern);
             put_object(out, names, ObjectKind::Eventflag, f, b" pattern=", pattern)
         }
-        Thing::DataQueue(d) => put_queue(out, names, kernel, d),
+        Thing::DataQueue(d) => put_queue(out, names, machine, d),
         Thing::Pool(m) => {
-            let free = kernel.pool(m).free_blocks();
+            let free = machine.pool(m).free_blocks();
             put_object(out, names, ObjectKind::Pool, m, b" free=", free)
         }
         Thing::Cyclic(c) => {
-            let left = left_by(ticks, kernel.cyclic_left(c));
-            let due = is_due(kernel, Runner::Cyclic(c));
+            let left = left_by(ticks, machine.cyclic_left(c));
+            let due = is_due(machine, Runner::Cyclic(c));
             put_handler(out, names, ObjectKind::Cyclic, c, left, due)
         }
         Thing::Alarm(a) => {
-            let left = left_by(ticks, kernel.alarm_left(a));
-            let due = is_due(kernel, Runner::Alarm(a));
+            let left = left_by(ticks, machine.alarm_left(a));
+            let due = is_due(machine, Runner::Alarm(a));
             put_handler(out, names, ObjectKind::Alarm, a, left, due)
         }
-        Thing::SpinLock(l) => put_lock(out, names, l, kernel.holder(l)),
+        Thing::SpinLock(l) => put_lock(out, names, l, machine.holder(l)),
     }
 }

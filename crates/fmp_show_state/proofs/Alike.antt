@@ -15,6 +15,7 @@ use Rattle.fmp_law_lists.specs.Stands.{Stands}
 use Rattle.fmp_law_lists.proofs.SafeLists.{tells_alike}
 use Rattle.fmp_show_state.specs.Changes.{changes_of}
 use Rattle.fmp_show_state.specs.States.{processor_text, processors_text, ready_to, state_lines, task_line, tasks_text, without_running}
+use Rattle.fmp_show_state.specs.Waits.{wait_line, waiting_lines, waits_text}
 
 module _ (k : World Queues) (m : State) (h : Stands k m) where
   processor_same : (p : Proc) → processor k p ≡ processor m p
@@ -61,3 +62,16 @@ module _ (k : World Queues) (m : State) (h : Stands k m) where
       (ap (λ (w : World Queues). processors_text listed lists k (length w.processors)) h.same ∙ processors_same lists (length m.processors))
       (ap (λ (w : World Queues). tasks_text lists k (length w.tasks)) h.same ∙ tasks_same lists (length m.tasks)))
       (ap (λ (w : World Queues). changes_of lists w) h.same)
+
+  -- and so are the lines of the tasks that wait
+  waits_same : (lists : NameLists) (n : ℕ) → waits_text lists k n ≡ waits_text lists m n
+  unfolding waits_text
+  waits_same lists zero = refl
+  waits_same lists (suc n) =
+      ap₂ ◌++◌ (waits_same lists n)
+      (ap₂ (λ (x : TaskRecord) (left : Option ℕ). wait_line lists (as_task (suc n)) x left)
+      (ap (λ (w : World Queues). task w (as_task (suc n))) h.same)
+      (ap (λ (w : World Queues). item None w.waits_left (as_task (suc n)).number) h.same))
+
+  pub waiting_alike : (lists : NameLists) → waiting_lines lists k ≡ waiting_lines lists m
+  waiting_alike lists = ap (λ (w : World Queues). waits_text lists k (length w.tasks)) h.same ∙ waits_same lists (length m.tasks)

@@ -1,5 +1,4 @@
--- The lines of the tasks that wait: one task more, that a state with lists has those of each state with numbers for which it stands, and
--- that there is none just where no task waits.
+-- The lines of the tasks that wait: one task more, and that there is none just where no task waits.
 use Rattle.std.proofs.Common.{◌≡◌, ◌≢◌, ℕ, zero, ◌+◌, ◌<◌, ◌↔◌, suc, List, [], ◌∷◌, ◌++◌, length, add-one, refl, sym, ap, ap₂, ◌∙◌, append_assoc, append-nil, arith, inl, inr}
 use Rattle.std.specs.Prelude.{Option, None, Some, codes, is_some, if◌then◌else◌}
 use Rattle.std.proofs.lemmas.Bool.{cases_lt}
@@ -7,11 +6,8 @@ use Rattle.fmp_codes.specs.Numbers.{as_task}
 use Rattle.fmp_codes.specs.declared.numbers.Task.{Task}
 use Rattle.fmp_rules.specs.declared.machine.TaskRecord.{TaskRecord}
 use Rattle.fmp_rules.specs.declared.machine.Wait.{Wait}
-use Rattle.fmp_rules.specs.Arrivals.{State}
 use Rattle.fmp_rules.specs.World.{World, item, task}
 use Rattle.fmp_names.specs.Names.{NameLists}
-use Rattle.fmp_kernel_order.specs.Queues.{Queues}
-use Rattle.fmp_law_lists.specs.Stands.{Stands}
 use Rattle.fmp_trace.specs.Lines.{task_text}
 use Rattle.fmp_show_state.specs.Changes.{numbers_text}
 use Rattle.fmp_show_state.specs.States.{flag_text, left_text, task_words, waiting_text}
@@ -42,19 +38,6 @@ module _ {Q : Type 0} (w : World Q) where
       let same : wait_line lists t x left ≡ wait_line lists (as_task (n + 1)) (task w (as_task (n + 1))) (item None w.waits_left (as_task (n + 1)).number) =
       rw (record_is, left_is, number) refl in
       line ∙ ap₂ ◌++◌ before same ∙ append_assoc old _ _ ∙ ap (λ xs. old ++ xs) (sym (waits_more lists n))
-
-module _ (k : World Queues) (m : State) (h : Stands k m) where
-  waits_same : (lists : NameLists) (n : ℕ) → waits_text lists k n ≡ waits_text lists m n
-  unfolding waits_text
-  waits_same lists zero = refl
-  waits_same lists (suc n) =
-      ap₂ ◌++◌ (waits_same lists n)
-      (ap₂ (λ (x : TaskRecord) (left : Option ℕ). wait_line lists (as_task (suc n)) x left)
-      (ap (λ (w : World Queues). task w (as_task (suc n))) h.same)
-      (ap (λ (w : World Queues). item None w.waits_left (as_task (suc n)).number) h.same))
-
-  pub waiting_alike : (lists : NameLists) → waiting_lines lists k ≡ waiting_lines lists m
-  waiting_alike lists = ap (λ (w : World Queues). waits_text lists k (length w.tasks)) h.same ∙ waits_same lists (length m.tasks)
 
 -- ---- no line, and no task that waits
 

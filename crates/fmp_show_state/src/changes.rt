@@ -6,9 +6,9 @@ ghost use Rattle.fmp_show_state.specs.Changes as spec;
 use crate::handlers::{put_alarms, put_cyclics};
 use fmp_calls::ObjectKind;
 use fmp_codes::{Object, Proc};
-use fmp_kernel::Kernel;
 use fmp_names::Names;
 use fmp_rules::{Eventflag, Pool, Semaphore};
+use fmp_show_views::Views;
 use fmp_trace::{put_named, put_number, put_signed};
 use std::alloc::AllocError;
 
@@ -87,26 +87,31 @@ fn put_value(out: &mut Vec<u8>, index: usize, value: Option<i64>) -> Result<(), 
 }
 
 /// Adds the values of a data queue, the oldest first.
-pub fn put_values(out: &mut Vec<u8>, kernel: &Kernel, d: Object) -> Result<(), AllocError>
-    ensures { OnOk result (out.new.items ≡ out.old.items ++ spec.values_from 0 (values kernel.now d)) }
+pub fn put_values<M: Views>(out: &mut Vec<u8>, machine: &M, d: Object) -> Result<(), AllocError>
+    ensures { OnOk result (out.new.items ≡ out.old.items ++ spec.values_from 0 (values (M.world machine.now) d)) }
 {
-    for index in 0..kernel.value_count(d) {
-        put_value(out, index, kernel.value(d, index))?;
+    for index in 0..machine.value_count(d) {
+        put_value(out, index, machine.value(d, index))?;
     }
     Ok(())
 }
 
 /// Adds the line of a data queue that has values.
 #[tactic(auto, unfolding(crate::specs::Changes::queue_text))]
-fn put_queue(out: &mut Vec<u8>, names: &Names, kernel: &Kernel, d: Object) -> Result<(), AllocError>
-    ensures { OnOk result (out.new.items ≡ out.old.items ++ spec.queue_line names.now d (values kernel.now d)) }
+fn put_queue<M: Views>(
+    out: &mut Vec<u8>,
+    names: &Names,
+    machine: &M,
+    d: Object,
+) -> Result<(), AllocError>
+    ensures { OnOk result (out.new.items ≡ out.old.items ++ spec.queue_line names.now d (values (M.world machine.now) d)) }
 {
-    if kernel.value_count(d) == 0 {
+    if machine.value_count(d) == 0 {
         return Ok(());
     }
     out.extend_from_slice(b"  ")?;
     put_named(out, names, ObjectKind::DataQueue, usize::from(d.number))?;
-    put_values(out, kernel, d)?;
+    put_values(out, machine, d)?;
     out.push(b'\n')?;
     Ok(())
 }
@@ -141,90 +146,94 @@ fn put_holder(
 }
 
 /// Adds the lines of all semaphores whose counts are not the initial ones.
-fn put_counts(out: &mut Vec<u8>, names: &Names, kernel: &Kernel) -> Result<(), AllocError>
-    ensures { OnOk result (out.new.items ≡ out.old.items ++ spec.lines_to (spec.count_at names.now kernel.now.semaphores) (length kernel.now.semaphores)) }
+fn put_counts<M: Views>(out: &mut Vec<u8>, names: &Names, machine: &M) -> Result<(), AllocError>
+    ensures { OnOk result (out.new.items ≡ out.old.items
+        ++ spec.lines_to (spec.count_at names.now (M.world machine.now).semaphores) (length (M.world machine.now).semaphores)) }
 {
-    for index in 0..kernel.semaphore_count() {
+    for index in 0..machine.semaphore_count() {
         let s = Object::from_index(index);
-        put_count(out, names, s, kernel.semaphore(s))?;
+        put_count(out, names, s, machine.semaphore(s))?;
     }
     Ok(())
 }
 
 /// Adds the lines of all eventflags whose patterns are not the initial ones.
-fn put_patterns(out: &mut Vec<u8>, names: &Names, kernel: &Kernel) -> Result<(), AllocError>
-    ensures { OnOk result (out.new.items ≡ out.old.items ++ spec.lines_to (spec.pattern_at names.now kernel.now.eventflags) (length kernel.now.eventflags)) }
+fn put_patterns<M: Views>(out: &mut Vec<u8>, names: &Names, machine: &M) -> Result<(), AllocError>
+    ensures { OnOk result (out.new.items ≡ out.old.items
+        ++ spec.lines_to (spec.pattern_at names.now (M.world machine.now).eventflags) (length (M.world machine.now).eventflags)) }
 {
-    for index in 0..kernel.eventflag_count() {
+    for index in 0..machine.eventflag_count() {
         let f = Object::from_index(index);
-        put_pattern(out, names, f, kernel.eventflag(f))?;
+        put_pattern(out, names, f, machine.eventflag(f))?;
     }
     Ok(())
 }
 
 /// Adds the lines of all data queues that have values.
-fn put_queues(out: &mut Vec<u8>, names: &Names, kernel: &Kernel) -> Result<(), AllocError>
-    ensures { OnOk result (out.new.items ≡ out.old.items ++ spec.lines_to (spec.queue_at names.now kernel.now.contents) (length kernel.now.data_queues)) }
+fn put_queues<M: Views>(out: &mut Vec<u8>, names: &Names, machine: &M) -> Result<(), AllocError>
+    ensures { OnOk result (out.new.items ≡ out.old.items
+        ++ spec.lines_to (spec.queue_at names.now (M.world machine.now).contents) (length (M.world machine.now).data_queues)) }
 {
-    for index in 0..kernel.data_queue_count() {
-        put_queue(out, names, kernel, Object::from_index(index))?;
+    for index in 0..machine.data_queue_count() {
+        put_queue(out, names, machine, Object::from_index(index))?;
     }
     Ok(())
 }
 
 /// Adds the lines of all pools of which some blocks are handed out.
-fn put_pools(out: &mut Vec<u8>, names: &Names, kernel: &Kernel) -> Result<(), AllocError>
-    ensures { OnOk result (out.new.items ≡ out.old.items ++ spec.lines_to (spec.free_at names.now kernel.now.pools) (length kernel.now.pools)) }
+fn put_pools<M: Views>(out: &mut Vec<u8>, names: &Names, machine: &M) -> Result<(), AllocError>
+    ensures { OnOk result (out.new.items ≡ out.old.items ++ spec.lines_to (spec.free_at names.now (M.world machine.now).pools) (length (M.world machine.now).pools)) }
 {
-    for index in 0..kernel.pool_count() {
+    for index in 0..machine.pool_count() {
         let m = Object::from_index(index);
-        put_free(out, names, m, &kernel.pool(m))?;
+        put_free(out, names, m, &machine.pool(m))?;
     }
     Ok(())
 }
 
 /// Adds the lines of all spin locks that processors hold.
-fn put_holders(out: &mut Vec<u8>, names: &Names, kernel: &Kernel) -> Result<(), AllocError>
-    ensures { OnOk result (out.new.items ≡ out.old.items ++ spec.lines_to (spec.holder_at names.now kernel.now.holders) (length kernel.now.holders)) }
+fn put_holders<M: Views>(out: &mut Vec<u8>, names: &Names, machine: &M) -> Result<(), AllocError>
+    ensures { OnOk result (out.new.items ≡ out.old.items
+        ++ spec.lines_to (spec.holder_at names.now (M.world machine.now).holders) (length (M.world machine.now).holders)) }
 {
-    for index in 0..kernel.spin_lock_count() {
+    for index in 0..machine.spin_lock_count() {
         let l = Object::from_index(index);
-        put_holder(out, names, l, kernel.holder(l))?;
+        put_holder(out, names, l, machine.holder(l))?;
     }
     Ok(())
 }
 
 /// Adds a line for each object that tasks wait for and that is not as it was at boot.
 #[tactic(auto, unfolding(crate::specs::Changes::objects_text))]
-fn put_objects(out: &mut Vec<u8>, names: &Names, kernel: &Kernel) -> Result<(), AllocError>
-    ensures { OnOk result (out.new.items ≡ out.old.items
-        ++ spec.objects_text names.now kernel.now.semaphores kernel.now.eventflags kernel.now.data_queues kernel.now.contents kernel.now.pools) }
+fn put_objects<M: Views>(out: &mut Vec<u8>, names: &Names, machine: &M) -> Result<(), AllocError>
+    ensures { let w = M.world machine.now in OnOk result (out.new.items ≡ out.old.items
+        ++ spec.objects_text names.now w.semaphores w.eventflags w.data_queues w.contents w.pools) }
 {
-    put_counts(out, names, kernel)?;
-    put_patterns(out, names, kernel)?;
-    put_queues(out, names, kernel)?;
-    put_pools(out, names, kernel)
+    put_counts(out, names, machine)?;
+    put_patterns(out, names, machine)?;
+    put_queues(out, names, machine)?;
+    put_pools(out, names, machine)
 }
 
 /// Adds a line for each time event handler and each spin lock that is not as it was at boot.
 #[tactic(auto, unfolding(crate::specs::Changes::handlers_text))]
-fn put_handlers(out: &mut Vec<u8>, names: &Names, kernel: &Kernel) -> Result<(), AllocError>
-    ensures { OnOk result (out.new.items ≡ out.old.items
-        ++ spec.handlers_text names.now kernel.now.cyclics kernel.now.cyclics_left kernel.now.alarms kernel.now.alarms_left kernel.now.holders) }
+fn put_handlers<M: Views>(out: &mut Vec<u8>, names: &Names, machine: &M) -> Result<(), AllocError>
+    ensures { let w = M.world machine.now in OnOk result (out.new.items ≡ out.old.items
+        ++ spec.handlers_text names.now w.cyclics w.cyclics_left w.alarms w.alarms_left w.holders) }
 {
-    put_cyclics(out, names, kernel)?;
-    put_alarms(out, names, kernel)?;
-    put_holders(out, names, kernel)
+    put_cyclics(out, names, machine)?;
+    put_alarms(out, names, machine)?;
+    put_holders(out, names, machine)
 }
 
 /// Adds a line for each object that is not as it was at boot.
-pub(crate) fn put_changes(
+pub(crate) fn put_changes<M: Views>(
     out: &mut Vec<u8>,
     names: &Names,
-    kernel: &Kernel,
+    machine: &M,
 ) -> Result<(), AllocError>
-    ensures { OnOk result (out.new.items ≡ out.old.items ++ spec.changes_of names.now kernel.now) }
+    ensures { OnOk result (out.new.items ≡ out.old.items ++ spec.changes_of names.now (M.world machine.now)) }
 {
-    put_objects(out, names, kernel)?;
-    put_handlers(out, names, kernel)
+    put_objects(out, names, machine)?;
+    put_handlers(out, names, machine)
 }

@@ -6,9 +6,9 @@ ghost use Rattle.fmp_show_state.specs.Changes as spec;
 
 use fmp_calls::ObjectKind;
 use fmp_codes::Object;
-use fmp_kernel::Kernel;
 use fmp_names::Names;
 use fmp_rules::CyclicSetup;
+use fmp_show_views::Views;
 use fmp_trace::{put_named, put_number};
 use std::alloc::AllocError;
 
@@ -83,40 +83,48 @@ fn put_line(
 }
 
 /// Adds the lines of all cyclic handlers whose ticks left are not those at boot.
-pub(crate) fn put_cyclics(
+pub(crate) fn put_cyclics<M: Views>(
     out: &mut Vec<u8>,
     names: &Names,
-    kernel: &Kernel,
+    machine: &M,
 ) -> Result<(), AllocError>
     ensures { OnOk result (out.new.items ≡ out.old.items
-        ++ spec.lines_to (spec.cyclic_at names.now kernel.now.cyclics kernel.now.cyclics_left) (length kernel.now.cyclics)) }
+        ++ spec.lines_to (spec.cyclic_at names.now (M.world machine.now).cyclics (M.world machine.now).cyclics_left) (length (M.world machine.now).cyclics)) }
 {
-    for index in 0..kernel.cyclic_count() {
+    for index in 0..machine.cyclic_count() {
         let c = Object::from_index(index);
-        let boot = phase_left(&kernel.cyclic(c).setup);
+        let boot = phase_left(&machine.cyclic(c).setup);
         put_line(
             out,
             names,
             ObjectKind::Cyclic,
             c,
             boot,
-            kernel.cyclic_left(c),
+            machine.cyclic_left(c),
         )?;
     }
     Ok(())
 }
 
 /// Adds the lines of all alarms that are started.
-pub(crate) fn put_alarms(
+pub(crate) fn put_alarms<M: Views>(
     out: &mut Vec<u8>,
     names: &Names,
-    kernel: &Kernel,
+    machine: &M,
 ) -> Result<(), AllocError>
-    ensures { OnOk result (out.new.items ≡ out.old.items ++ spec.lines_to (spec.alarm_at names.now kernel.now.alarms_left) (length kernel.now.alarms)) }
+    ensures { OnOk result (out.new.items ≡ out.old.items
+        ++ spec.lines_to (spec.alarm_at names.now (M.world machine.now).alarms_left) (length (M.world machine.now).alarms)) }
 {
-    for index in 0..kernel.alarm_count() {
+    for index in 0..machine.alarm_count() {
         let a = Object::from_index(index);
-        put_line(out, names, ObjectKind::Alarm, a, None, kernel.alarm_left(a))?;
+        put_line(
+            out,
+            names,
+            ObjectKind::Alarm,
+            a,
+            None,
+            machine.alarm_left(a),
+        )?;
     }
     Ok(())
 }

@@ -1,13 +1,12 @@
 //! The lines of the processors.
 ghost use Rattle.std.specs.Prelude.{◌≡◌, ◌++◌, length, OnOk, IfOk};
 ghost use Rattle.fmp_rules.specs.World.{processor};
-ghost use Rattle.fmp_kernel_order.specs.Queues.{listed};
 ghost use Rattle.fmp_show_state.specs.States as spec;
 
 use fmp_codes::{Pri, Proc, Runner, Task};
-use fmp_kernel::Kernel;
 use fmp_names::Names;
 use fmp_rules::Processor;
+use fmp_show_views::Views;
 use fmp_trace::{put_number, put_runner, put_task};
 use std::alloc::{AllocError, Global};
 
@@ -38,30 +37,31 @@ fn add_others(
 }
 
 /// Adds the ready tasks of a priority on a processor, without the running one.
-fn add_ready(
+fn add_ready<M: Views>(
     others: &mut Vec<Task>,
     running: Option<Task>,
-    kernel: &Kernel,
+    machine: &M,
     p: Proc,
     priority: Pri,
 ) -> Result<(), AllocError>
-    ensures { OnOk result (others.new.items ≡ others.old.items ++ spec.without_running running (listed.ready kernel.now.order kernel.now.tasks p priority)) }
+    ensures { OnOk result (others.new.items ≡ others.old.items
+        ++ spec.without_running running (M.ordering.ready (M.world machine.now).order (M.world machine.now).tasks p priority)) }
 {
     // most priorities have none, and a list is longer than a look
-    if kernel.first_ready(p, priority).is_none() {
+    if machine.first_ready(p, priority).is_none() {
         return Ok(());
     }
-    add_others(others, running, kernel.ready(p, priority).as_slice())
+    add_others(others, running, machine.ready(p, priority).as_slice())
 }
 
 /// The ready tasks of a processor in their precedence, without the running one.
-fn other_ready(alloc: Global, kernel: &Kernel, p: Proc) -> Result<Vec<Task>, AllocError>
-    ensures { IfOk result (λ v. v.items ≡ spec.ready_to listed kernel.now p 32) }
+fn other_ready<M: Views>(alloc: Global, machine: &M, p: Proc) -> Result<Vec<Task>, AllocError>
+    ensures { IfOk result (λ v. v.items ≡ spec.ready_to M.ordering (M.world machine.now) p 32) }
 {
-    let running = kernel.processor(p).running;
+    let running = machine.processor(p).running;
     let mut others = Vec::new(alloc);
     for index in 0..32u8 {
-        add_ready(&mut others, running, kernel, p, Pri::new(index + 1))?;
+        add_ready(&mut others, running, machine, p, Pri::new(index + 1))?;
     }
     Ok(others)
 }
@@ -163,22 +163,22 @@ fn put_line(
 }
 
 /// Adds the lines of all processors.
-pub(crate) fn put_processors(
+pub(crate) fn put_processors<M: Views>(
     out: &mut Vec<u8>,
     names: &Names,
-    kernel: &Kernel,
+    machine: &M,
 ) -> Result<(), AllocError>
-    ensures { OnOk result (out.new.items ≡ out.old.items ++ spec.processors_text listed names.now kernel.now (length kernel.now.processors)) }
+    ensures { OnOk result (out.new.items ≡ out.old.items ++ spec.processors_text M.ordering names.now (M.world machine.now) (length (M.world machine.now).processors)) }
 {
-    for index in 0..kernel.processors() {
+    for index in 0..machine.processor_count() {
         let p = Proc::from_index(index);
-        let ready = other_ready(*out.allocator(), kernel, p)?;
-        let due = kernel.due(p);
+        let ready = other_ready(*out.allocator(), machine, p)?;
+        let due = machine.due(p);
         put_line(
             out,
             names,
             p,
-            kernel.processor(p),
+            machine.processor(p),
             ready.as_slice(),
             due.as_slice(),
         )?;

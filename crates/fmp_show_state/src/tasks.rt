@@ -6,9 +6,9 @@ ghost use Rattle.fmp_show_state.specs.States as spec;
 use crate::processors::put_flag;
 use fmp_calls::ObjectKind;
 use fmp_codes::{Object, Task};
-use fmp_kernel::Kernel;
 use fmp_names::Names;
 use fmp_rules::{TaskRecord, Wait};
+use fmp_show_views::Views;
 use fmp_trace::{put_named, put_number, put_task};
 use std::alloc::AllocError;
 
@@ -162,12 +162,16 @@ fn put_line(
 }
 
 /// Adds the lines of all tasks of which there is something to be told.
-pub(crate) fn put_tasks(out: &mut Vec<u8>, names: &Names, kernel: &Kernel) -> Result<(), AllocError>
-    ensures { OnOk result (out.new.items ≡ out.old.items ++ spec.tasks_text names.now kernel.now (length kernel.now.tasks)) }
+pub(crate) fn put_tasks<M: Views>(
+    out: &mut Vec<u8>,
+    names: &Names,
+    machine: &M,
+) -> Result<(), AllocError>
+    ensures { OnOk result (out.new.items ≡ out.old.items ++ spec.tasks_text names.now (M.world machine.now) (length (M.world machine.now).tasks)) }
 {
-    for index in 0..kernel.task_count() {
+    for index in 0..machine.task_count() {
         let t = Task::from_index(index);
-        put_line(out, names, t, &kernel.task(t), kernel.wait_left(t))?;
+        put_line(out, names, t, &machine.task(t), machine.wait_left(t))?;
     }
     Ok(())
 }

@@ -1,14 +1,12 @@
 //! The lines of the tasks that wait.
 ghost use Rattle.std.specs.Prelude.{◌≡◌, ◌++◌, ◌↔◌, [], length, OnOk};
-ghost use Rattle.fmp_rules.specs.Arrivals.{State};
-ghost use Rattle.fmp_law_lists.specs.Stands.{Stands};
 ghost use Rattle.fmp_show_state.specs.Waits as spec;
 
 use crate::tasks::put_task_words;
 use fmp_codes::Task;
-use fmp_kernel::Kernel;
 use fmp_names::Names;
 use fmp_rules::TaskRecord;
+use fmp_show_views::Views;
 use std::alloc::AllocError;
 
 /// Adds the line of a task, if it waits.
@@ -28,12 +26,12 @@ fn put_line(
 }
 
 /// Adds the lines of all tasks that wait.
-fn put_lines(out: &mut Vec<u8>, names: &Names, kernel: &Kernel) -> Result<(), AllocError>
-    ensures { OnOk result (out.new.items ≡ out.old.items ++ spec.waits_text names.now kernel.now (length kernel.now.tasks)) }
+fn put_lines<M: Views>(out: &mut Vec<u8>, names: &Names, machine: &M) -> Result<(), AllocError>
+    ensures { OnOk result (out.new.items ≡ out.old.items ++ spec.waits_text names.now (M.world machine.now) (length (M.world machine.now).tasks)) }
 {
-    for index in 0..kernel.task_count() {
+    for index in 0..machine.task_count() {
         let t = Task::from_index(index);
-        put_line(out, names, t, &kernel.task(t), kernel.wait_left(t))?;
+        put_line(out, names, t, &machine.task(t), machine.wait_left(t))?;
     }
     Ok(())
 }
@@ -41,12 +39,15 @@ fn put_lines(out: &mut Vec<u8>, names: &Names, kernel: &Kernel) -> Result<(), Al
 /// Adds a line for each task that waits, in the order of the tasks: its name, what it waits for, and all else that is told of it, as in the
 /// line of the state that [`put_state`](crate::put_state) writes, without the blanks before it. After an error a beginning of these lines
 /// may have been added.
-pub fn put_waiting(out: &mut Vec<u8>, names: &Names, kernel: &Kernel) -> Result<(), AllocError>
-    ensures lists { OnOk result (out.new.items ≡ out.old.items ++ spec.waiting_lines names.now kernel.now) }
-    ensures model { (m : State) → Stands kernel.now m → OnOk result (out.new.items ≡ out.old.items ++ spec.waiting_lines names.now m) }
+pub fn put_waiting<M: Views>(
+    out: &mut Vec<u8>,
+    names: &Names,
+    machine: &M,
+) -> Result<(), AllocError>
+    ensures lines { OnOk result (out.new.items ≡ out.old.items ++ spec.waiting_lines names.now (M.world machine.now)) }
 
     // There is no line just where no task waits.
-    ensures none { (spec.waiting_lines names.now kernel.now ≡ []) ↔ spec.NoneWaits kernel.now }
+    ensures none { (spec.waiting_lines names.now (M.world machine.now) ≡ []) ↔ spec.NoneWaits (M.world machine.now) }
 {
-    put_lines(out, names, kernel)
+    put_lines(out, names, machine)
 }

@@ -1,7 +1,10 @@
-use Rattle.std.proofs.Common.{◌≡◌, ◌∙◌, ◌==◌, ◌++◌, inl, inr, ℕ, true, false, List, length, ap, sym, subst}
+use Rattle.std.proofs.Common.{◌≡◌, ◌∙◌, ◌==◌, ◌++◌, inl, inr, ℕ, true, false, List, length, ap, ap₂, sym, subst}
 use Rattle.fmp_names.specs.Names.{NameLists}
 use Rattle.fmp_setup.specs.Setup.{Setup}
+use Rattle.fmp_rules.specs.World.{World}
+use Rattle.fmp_kernel_order.specs.Queues.{Queues}
 use Rattle.fmp_law_lists.specs.Stands.{Stands}
+use Rattle.fmp_show_state.proofs.Alike.{waiting_alike}
 use Rattle.fmp_show_state.specs.Waits.{waiting_lines}
 use Rattle.fmp_smp_histories.specs.Histories.{events_of, state_after}
 use Rattle.fmp_run_seeds.specs.Found.{waiting_after}
@@ -22,7 +25,9 @@ returns-then-not-is_quiet c =
     let m = state_after c.in_ok-run.run'.history.config h in
     let stands : Stands c.last.result.now m = record { same = c.last.ensures.same; order = c.last.ensures.order } in
     let tells : waiting ≡ waiting_after a.config.now (events_of h) =
-    c.in_ok-put_waiting.ensures.model m stands ∙ ap (λ (x : List ℕ). x ++ waiting_lines c.names.result.now m) c.new-waiting.ensures.items
+    c.in_ok-put_waiting.ensures.lines
+    ∙ ap₂ ◌++◌ c.new-waiting.ensures.items
+    (ap (λ (k : World Queues). waiting_lines c.names.result.now k) c.machine.ensures ∙ waiting_alike c.last.result.now m stands c.names.result.now)
     ∙ ap (λ (l : NameLists). waiting_lines l m) c.names.ensures.value ∙ ap (λ (s : Setup). waiting_lines a.config.now.names (state_after s h)) e.configured in
     turn_passes a.runs a.config.now a.scripts.now a.seed c.requires.in_turn h c.in_ok-run.run'.ended run waiting tells
     (elim c.then-not-is_quiet.branch [
@@ -42,7 +47,9 @@ returns c =
     let m = state_after c.in_ok-run.run'.history.config h in
     let stands : Stands c.last.result.now m = record { same = c.last.ensures.same; order = c.last.ensures.order } in
     let tells : waiting ≡ waiting_after a.config.now (events_of h) =
-    c.in_ok-put_waiting.ensures.model m stands ∙ ap (λ (x : List ℕ). x ++ waiting_lines c.names.result.now m) c.new-waiting.ensures.items
+    c.in_ok-put_waiting.ensures.lines
+    ∙ ap₂ ◌++◌ c.new-waiting.ensures.items
+    (ap (λ (k : World Queues). waiting_lines c.names.result.now k) c.machine.ensures ∙ waiting_alike c.last.result.now m stands c.names.result.now)
     ∙ ap (λ (l : NameLists). waiting_lines l m) c.names.ensures.value ∙ ap (λ (s : Setup). waiting_lines a.config.now.names (state_after s h)) e.configured in
     turn_reaches a.runs a.config.now a.scripts.now a.seed c.requires.in_turn h c.in_ok-run.run'.ended run waiting tells c.in_ok-events_of.field-0 c.in_ok-events_of.ensures
     (stuck_so _ waiting (sym c.if-not-is_quiet.ensures) (subst (λ (l : List ℕ). (length l == 0) ≡ false) c.as_slice-lines.ensures.value (sym c.if-is_empty.ensures)))

@@ -1,4 +1,4 @@
-use Rattle.std.proofs.Common.{◌≡◌, ◌∙◌, ◌++◌, ◌∷◌, [], ◌+◌, ℕ, List, length, take, ap, sym, subst, arith}
+use Rattle.std.proofs.Common.{◌≡◌, ◌∙◌, ◌++◌, ◌∷◌, [], ◌+◌, ℕ, List, length, take, ap, ap₂, sym, subst, arith}
 use Rattle.std.proofs.lemmas.List.{take_all, take_more}
 use Rattle.fmp_codes.specs.declared.records.Event.{Event}
 use Rattle.fmp_names.specs.Names.{NameLists}
@@ -6,7 +6,10 @@ use Rattle.fmp_rules.specs.Arrivals.{State, numbered}
 use Rattle.fmp_rules.specs.Boot.{booted}
 use Rattle.fmp_rules.specs.Step.{replay}
 use Rattle.fmp_rules.proofs.Replays.{replay_more}
+use Rattle.fmp_rules.specs.World.{World}
+use Rattle.fmp_kernel_order.specs.Queues.{Queues}
 use Rattle.fmp_law_lists.specs.Stands.{Stands}
+use Rattle.fmp_show_state.proofs.Alike.{waiting_alike}
 use Rattle.fmp_show_state.specs.Waits.{waiting_lines}
 use Rattle.fmp_run_seeds.proofs.seeking.waiting_after.Goals as goal
 
@@ -34,6 +37,8 @@ returns c =
     let events = c.args.events.now in
     let all : take c.loop-event.event-index events ≡ events = take_all c.loop-event.event-index events (omega (arith, c.loop-event-test.false)) in
     let m = replay numbered (booted config) (take c.loop-event.event-index events) in
-    c.in_ok-put_waiting.ensures.model m c.loop-event.invariant.stands ∙ ap (λ (x : List ℕ). x ++ waiting_lines names m) c.new-waiting.ensures.items
+    c.in_ok-put_waiting.ensures.lines
+    ∙ ap₂ ◌++◌ c.new-waiting.ensures.items
+    (ap (λ (k : World Queues). waiting_lines names k) c.machine.ensures ∙ waiting_alike c.loop-event.kernel m c.loop-event.invariant.stands names)
     ∙ ap (λ (es : List Event). waiting_lines names (replay numbered (booted config) es)) all
     ∙ ap (λ (lists : NameLists). waiting_lines lists (replay numbered (booted config) events)) c.names.ensures.value

@@ -6,9 +6,9 @@ use Rattle.fmp_show_life.proofs.life.put_all.Given as goal
 
 -- those so far are told and kept in mind, and the others are as they were
 abbrev pub invariant-loop-watched : goal.invariant-loop-watched
-invariant-loop-watched l = record {
-  report : l.out.items ++ flat_map (report_since l.names l.kernel) (map seen_of (drop l.watched-index l.fn.all)) ≡ l.fn.out.items ++ flat_map (report_since l.names l.kernel) (map seen_of l.fn.all);
+invariant-loop-watched g l = let W = g.M.Words in record {
+  report : l.out.items ++ flat_map (report_since l.names (W.world l.machine)) (map seen_of (drop l.watched-index l.fn.all)) ≡ l.fn.out.items ++ flat_map (report_since l.names (W.world l.machine)) (map seen_of l.fn.all);
   count : length l.all ≡ length l.fn.all;
   rest : drop l.watched-index l.all ≡ drop l.watched-index l.fn.all;
-  front : map seen_of (take l.watched-index l.all) ≡ map (renewed l.names l.kernel) (map seen_of (take l.watched-index l.fn.all));
+  front : map seen_of (take l.watched-index l.all) ≡ map (renewed l.names (W.world l.machine)) (map seen_of (take l.watched-index l.fn.all));
 }

@@ -6,4 +6,4 @@ use Rattle.fmp_show_life.proofs.lines.is_due.Given as goal
 
 -- it is due on one of the processors so far
 abbrev pub invariant-loop-index : goal.invariant-loop-index
-invariant-loop-index l = l.due ≡ list_any (is_due_on l.kernel l.handler) (processors_to l.index)
+invariant-loop-index g l = let W = g.M.Words in l.due ≡ list_any (is_due_on (W.world l.machine) l.handler) (processors_to l.index)

@@ -4,4 +4,4 @@ use Rattle.fmp_show_state.proofs.changes.put_pools.Given as goal
 
 -- the lines so far
 abbrev pub invariant-loop-index : goal.invariant-loop-index
-invariant-loop-index l = l.out.items ≡ l.fn.out.items ++ lines_to (free_at l.names l.kernel.pools) l.index
+invariant-loop-index g l = let W = g.M.Words in l.out.items ≡ l.fn.out.items ++ lines_to (free_at l.names (W.world l.machine).pools) l.index

@@ -4,4 +4,4 @@ use Rattle.fmp_show_state.proofs.changes.put_queues.Given as goal
 
 -- the lines so far
 abbrev pub invariant-loop-index : goal.invariant-loop-index
-invariant-loop-index l = l.out.items ≡ l.fn.out.items ++ lines_to (queue_at l.names l.kernel.contents) l.index
+invariant-loop-index g l = let W = g.M.Words in l.out.items ≡ l.fn.out.items ++ lines_to (queue_at l.names (W.world l.machine).contents) l.index

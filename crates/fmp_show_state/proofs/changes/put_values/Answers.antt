@@ -4,7 +4,7 @@ use Rattle.fmp_show_state.proofs.Lines.{value_added}
 use Rattle.fmp_show_state.proofs.changes.put_values.Goals as goal
 
 pub loop-index-preserved : goal.loop-index-preserved
-loop-index-preserved c =
-    let vs = values c.args.kernel.now c.args.d in
-    let there : c.loop-index.index < length vs = omega (arith, c.loop-index-test.true, c.value_count-index-end.ensures.lists) in
-    value_added vs c.loop-index.index c.value.result c.loop-index.out.items c.put_value.new.out.items _ there c.value.ensures.lists c.loop-index.invariant c.in_ok-put_value.ensures
+loop-index-preserved g c = let W = g.M.Words in
+    let vs = values (W.world c.args.machine.now) c.args.d in
+    let there : c.loop-index.index < length vs = omega (arith, c.loop-index-test.true, c.value_count-index-end.ensures.value) in
+    value_added vs c.loop-index.index c.value.result c.loop-index.out.items c.put_value.new.out.items _ there c.value.ensures c.loop-index.invariant c.in_ok-put_value.ensures

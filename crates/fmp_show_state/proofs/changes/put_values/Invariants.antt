@@ -5,4 +5,6 @@ use Rattle.fmp_show_state.proofs.changes.put_values.Given as goal
 
 -- what is written, and what is to come
 abbrev pub invariant-loop-index : goal.invariant-loop-index
-invariant-loop-index l = l.out.items ++ values_from l.index (drop l.index (values l.kernel l.d)) ≡ l.fn.out.items ++ values_from 0 (values l.kernel l.d)
+invariant-loop-index g l =
+    let W = g.M.Words in
+    l.out.items ++ values_from l.index (drop l.index (values (W.world l.machine) l.d)) ≡ l.fn.out.items ++ values_from 0 (values (W.world l.machine) l.d)

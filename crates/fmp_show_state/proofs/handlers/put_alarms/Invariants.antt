@@ -4,4 +4,4 @@ use Rattle.fmp_show_state.proofs.handlers.put_alarms.Given as goal
 
 -- the lines so far
 abbrev pub invariant-loop-index : goal.invariant-loop-index
-invariant-loop-index l = l.out.items ≡ l.fn.out.items ++ lines_to (alarm_at l.names l.kernel.alarms_left) l.index
+invariant-loop-index g l = let W = g.M.Words in l.out.items ≡ l.fn.out.items ++ lines_to (alarm_at l.names (W.world l.machine).alarms_left) l.index

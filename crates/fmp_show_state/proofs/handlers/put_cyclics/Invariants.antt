@@ -4,4 +4,6 @@ use Rattle.fmp_show_state.proofs.handlers.put_cyclics.Given as goal
 
 -- the lines so far
 abbrev pub invariant-loop-index : goal.invariant-loop-index
-invariant-loop-index l = l.out.items ≡ l.fn.out.items ++ lines_to (cyclic_at l.names l.kernel.cyclics l.kernel.cyclics_left) l.index
+invariant-loop-index g l =
+    let W = g.M.Words in
+    l.out.items ≡ l.fn.out.items ++ lines_to (cyclic_at l.names (W.world l.machine).cyclics (W.world l.machine).cyclics_left) l.index

@@ -1,8 +1,7 @@
 use Rattle.std.proofs.Common.{◌≡◌, ◌++◌}
-use Rattle.fmp_kernel_order.specs.Queues.{listed}
 use Rattle.fmp_show_state.specs.States.{processors_text}
 use Rattle.fmp_show_state.proofs.processors.put_processors.Given as goal
 
 -- the lines so far
 abbrev pub invariant-loop-index : goal.invariant-loop-index
-invariant-loop-index l = l.out.items ≡ l.fn.out.items ++ processors_text listed l.names l.kernel l.index
+invariant-loop-index g l = let W = g.M.Words in l.out.items ≡ l.fn.out.items ++ processors_text W.ordering l.names (W.world l.machine) l.index

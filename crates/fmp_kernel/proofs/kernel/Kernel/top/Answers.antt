@@ -1,8 +1,0 @@
-use Rattle.std.proofs.Common.{◌∙◌}
-use Rattle.fmp_law_lists.proofs.SafeLists.{tells_alike}
-use Rattle.fmp_kernel.proofs.kernel.Kernel.top.Goals as goal
-
-pub returns-clause-model : goal.returns-clause-model
-returns-clause-model c =
-    let report = rw c.self.view_is at c.top.ensures in
-    λ m stands. report ∙ (tells_alike c.args.self.now m stands).top c.args.p
