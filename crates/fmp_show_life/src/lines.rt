@@ -111,6 +111,21 @@ fn put_task_line(
     Ok(())
 }
 
+/// Adds the line of a task as it is now.
+fn put_task_at<M: Views>(
+    out: &mut Vec<u8>,
+    names: &Names,
+    machine: &M,
+    t: Task,
+    ticks: bool,
+) -> Result<(), AllocError>
+    ensures { OnOk result (out.new.items ≡ out.old.items ++ spec.thing_line names.now ticks (M.world machine.now) (Thing.Task t)) }
+{
+    let task = machine.task(t);
+    let left = left_by(ticks, machine.wait_left(t));
+    put_task_line(out, names, t, runs(machine, t), &task, left)
+}
+
 /// Adds the values of a data queue, the oldest first, or that it has none.
 fn put_contents<M: Views>(out: &mut Vec<u8>, machine: &M, d: Object) -> Result<(), AllocError>
     ensures { OnOk result (out.new.items ≡ out.old.items ++ spec.contents_text (values (M.world machine.now) d)) }
@@ -226,11 +241,7 @@ pub(crate) fn put_line<M: Views>(
     ensures { OnOk result (out.new.items ≡ out.old.items ++ spec.thing_line names.now ticks (M.world machine.now) thing) }
 {
     match thing {
-        Thing::Task(t) => {
-            let task = machine.task(t);
-            let left = left_by(ticks, machine.wait_left(t));
-            put_task_line(out, names, t, runs(machine, t), &task, left)
-        }
+        Thing::Task(t) => put_task_at(out, names, machine, t, ticks),
         Thing::Semaphore(s) => {
             let count = u64::from(machine.semaphore(s).count);
             put_object(out, names, ObjectKind::Semaphore, s, b" count=", count)
