@@ -1,9 +1,12 @@
 //! The state of the kernel. Where there is none of a number, a read gives a blank record and a write does nothing.
-ghost use Rattle.std.specs.Prelude.{◌≡◌, ◌≤◌, ◌&&◌, true, [], None, is_none, length, slice_get, IfOk, IsTrue, ◌↔◌};
+ghost use Rattle.std.specs.Prelude.{◌≡◌, ◌≤◌, ◌-◌, ◌&&◌, true, [], None, is_none, length, slice_get, IfOk, IsTrue, ◌↔◌};
 ghost use Rattle.std.specs.List.{list_all};
+ghost use Rattle.std.specs.Int.{bit_at};
+ghost use Rattle.fmp_codes.specs.declared.numbers.Pri.{Pri as AnyPri};
 ghost use Rattle.fmp_codes.specs.declared.numbers.Task.{Task as AnyTask};
 ghost use Rattle.fmp_kernel_links.specs.Lists.{first_of};
 ghost use Rattle.fmp_kernel_links.specs.Tasks.{has_task};
+ghost use Rattle.fmp_ready.specs.Queues.{bit_of};
 ghost use Rattle.fmp_rules.specs.Boot.{blank};
 ghost use Rattle.fmp_rules.specs.Due.{IsNextDue};
 ghost use Rattle.fmp_kernel_machine.specs.Alike.{AreAlike};
@@ -107,6 +110,14 @@ impl KernelMachine {
         ensures { result ≡ first_of (listed.ready self.now.order self.now.tasks p priority) }
     {
         self.ready.first(p, priority)
+    }
+
+    /// A bit for each priority of a processor, the lowest for the highest, set where a task of it is ready.
+    #[tactic(auto, unfolding(fmp_kernel_order::specs::Queues::listed))]
+    pub fn ready_word(&self, p: Proc) -> u32
+        ensures { (priority : AnyPri) → bit_at result (priority.number - 1) ≡ bit_of (listed.ready self.now.order self.now.tasks p priority) }
+    {
+        self.ready.word(p)
     }
 
     /// The ticks left of a task's wait, where it is timed.

@@ -1,5 +1,6 @@
 -- Runs from a place by the numbers of steps.
 use Rattle.std.specs.Prelude.{◌≡◌, ℕ, Bool, true, false, Option, None, Some, List, [], ◌∷◌}
+use Rattle.std.specs.Int.{bit_at}
 use Rattle.std.specs.Option.{option_and_then}
 
 -- the place to which a list of steps leads, if each of them can be made
@@ -16,3 +17,11 @@ Goes (Some r) made q = (made ≡ true) × (q ≡ r)
 abbrev pub Watches : {P : Type 0} → Option P → ℕ → Option ℕ → P → Type 0
 Watches None passes report q = report ≡ None
 Watches (Some r) passes report q = (report ≡ Some passes) × (q ≡ r)
+
+-- the steps of these bits cannot be made from a place
+abbrev pub AreClosed : {P : Type 0} → (P → ℕ → Option P) → P → ℕ → Type 0
+AreClosed after q bits = (s : ℕ) → bit_at bits s ≡ 1 → after q s ≡ None
+
+-- nor those of the bits that were added to others
+abbrev pub Closes : {P : Type 0} → (P → ℕ → Option P) → P → ℕ → ℕ → Type 0
+Closes after q old new = (s : ℕ) → bit_at old s ≡ 0 → bit_at new s ≡ 1 → after q s ≡ None

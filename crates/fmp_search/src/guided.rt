@@ -100,11 +100,11 @@ impl<'a, W: Space + Drop> Space for Guided<'a, W> {
         Ok(made)
     }
 
-    fn watch(&mut self, step: u8) -> Result<Option<u64>, AllocError> {
+    fn watch(&mut self, step: u8, closed: &mut u64) -> Result<Option<u64>, AllocError> {
         if !self.may_choose(step) {
             return Ok(None);
         }
-        let report = self.walker.watch(step)?;
+        let report = self.walker.watch(step, closed)?;
         self.made = one_more(self.made, self.choices.len());
         Ok(report)
     }

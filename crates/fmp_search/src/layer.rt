@@ -1,6 +1,8 @@
 //! One layer of places: those that are found by so many steps and by no fewer.
-ghost use Rattle.std.specs.Prelude.{◌≡◌, ◌≤◌, ◌<◌, ◌+◌, ◌^◌, false, length, Some, IfOk};
+ghost use Rattle.std.specs.Prelude.{◌≡◌, ◌≤◌, ◌<◌, ◌+◌, ◌^◌, false, true, length, None, Some, IfOk};
+ghost use Rattle.std.specs.Int.{bit_at};
 ghost use Rattle.fmp_search.specs.Cache.{IsCache};
+ghost use Rattle.fmp_search.specs.Runs.{AreClosed};
 ghost use Rattle.fmp_search.specs.Trees.{found_at};
 ghost use Rattle.fmp_search.specs.Answers.{Explored};
 ghost use Rattle.fmp_search.specs.Charts.{Charting, Charts};
@@ -76,8 +78,23 @@ fn number_of<W: Space + Drop>(
     Ok(Some(store.nodes.len() as u32))
 }
 
+/// Whether a number has the bit of a step.
+fn is_closed(closed: u64, step: u8) -> bool
+    ensures { result ≡ true → bit_at closed step ≡ 1 }
+{
+    step < 64 && closed >> step & 1 == 1
+}
+
+/// Whether a step may be one that can be made from where `base` stands, if those of these bits cannot.
+fn may_try<W: Space + Drop>(base: &W, closed: u64, step: u8) -> bool
+    requires { AreClosed W.after (W.place base.now) closed }
+    ensures { result ≡ false → W.after (W.place base.now) step ≡ None }
+{
+    !is_closed(closed, step) && base.may_go(step)
+}
+
 /// Tries a step from the place where `base` stands, adds the place it leads to where that is new and not looked for, and the edge to there. It is done,
-/// too, where the step cannot be made. The error is want of memory.
+/// too, where the step cannot be made. Steps that it shows to be none from there are added to `closed`. The error is want of memory.
 fn try_step<W: Space + Drop>(
     alloc: Global,
     walker: &mut W,
@@ -89,6 +106,7 @@ fn try_step<W: Space + Drop>(
     front: Front,
     at: usize,
     step: u8,
+    closed: &mut u64,
 ) -> Result<Layer, AllocError>
     requires explored { Explored W.after W.wanted (W.origin walker.old) store.old.nodes.items front.depth front.end at }
     requires place { at < front.end }
@@ -99,6 +117,7 @@ fn try_step<W: Space + Drop>(
     requires cache { IsCache W.place W.room W.origin W.after (W.origin walker.old) store.old.nodes.items cache.now }
     requires before { AreBefore store.old.nodes.items at step }
     requires chart { Charting W.after W.passes (W.origin walker.old) store.old.nodes.items chart.old at step }
+    requires closed { AreClosed W.after (W.place base.now) closed.old }
     ensures fills { IfOk result (λ how. Fills W.after (W.origin walker.old) front.depth store.old.most at (step + 1) how store.new.nodes.items) }
     ensures room { store.new.most ≡ store.old.most }
     ensures cache { IfOk result (λ how. IsCache W.place W.room W.origin W.after (W.origin walker.old) store.new.nodes.items cache.now) }
@@ -107,14 +126,15 @@ fn try_step<W: Space + Drop>(
     ensures chart { IfOk result (λ how. Charts W.after W.passes (W.origin walker.old) how store.new.nodes.items chart.new at (step + 1)) }
     ensures kept { chart.new.kept ≡ chart.old.kept }
     ensures marks { length chart.new.marks.items ≡ length chart.old.marks.items }
+    ensures closed { AreClosed W.after (W.place base.now) closed.new }
     ensures walker_origin { W.origin walker.new ≡ W.origin walker.old }
     ensures other_origin { W.origin other.new ≡ W.origin other.old }
 {
-    if !base.may_go(step) {
+    if !may_try(base, *closed, step) {
         return Ok(Layer::Done);
     }
     walker.copy_from(base)?;
-    let Some(passes) = walker.watch(step)? else {
+    let Some(passes) = walker.watch(step, closed)? else {
         return Ok(Layer::Done);
     };
     if walker.is_wanted() {
@@ -171,9 +191,20 @@ fn open_place<W: Space + Drop>(
 {
     enter(alloc, base, cache, &store.nodes, at)?;
     let steps = base.steps();
+    let mut closed = 0;
     for step in 0..steps {
         match try_step(
-            alloc, walker, base, other, cache, store, chart, front, at, step,
+            alloc,
+            walker,
+            base,
+            other,
+            cache,
+            store,
+            chart,
+            front,
+            at,
+            step,
+            &mut closed,
         )? {
             Layer::Done => {}
             how => return Ok(how),

@@ -1,6 +1,6 @@
 //! What can be gone through.
 ghost use Rattle.std.specs.Prelude.{◌≡◌, ◌≤◌, ◌<◌, ◌+◌, ◌^◌, ℕ, Bool, true, false, Option, None, Some, IfOk, is_some};
-ghost use Rattle.fmp_search.specs.Runs.{Goes, Watches};
+ghost use Rattle.fmp_search.specs.Runs.{Closes, Goes, Watches};
 
 use std::alloc::AllocError;
 
@@ -48,10 +48,12 @@ pub trait Space {
         ensures goes { IfOk result (λ made. Goes (after (place self.old) step) made (place self.new)) }
         ensures origin { origin self.new ≡ origin self.old };
 
-    /// Makes the step of a number as `go` does, and tells which tests it passes: bit k for test k. None where it could not be made.
-    fn watch(&mut self, step: u8) -> Result<Option<u64>, AllocError>
+    /// Makes the step of a number as `go` does, and tells which tests it passes: bit k for test k. None where it could not be made. Where
+    /// that shows of other steps that they cannot be made from the same place, it may add their bits to `closed`.
+    fn watch(&mut self, step: u8, closed: &mut u64) -> Result<Option<u64>, AllocError>
         requires { 0 < room self.old }
         ensures goes { IfOk result (λ report. Watches (after (place self.old) step) (passes (place self.old) step) report (place self.new)) }
+        ensures closed { Closes after (place self.old) closed.old closed.new }
         ensures origin { origin self.new ≡ origin self.old };
 
     /// Makes the step of a number again, of which it is known that it can be made.

@@ -1,4 +1,5 @@
 pub mod Bounds  -- Positions and ticks taken grow by one a step at most.
+pub mod Closing  -- A step that makes the event of another with a mark.
 pub mod Each  -- A test of the processors one after the other.
 pub mod Going  -- What an event leads to.
 pub mod Sighted  -- The lines of an event, as they are written.

@@ -1,5 +1,6 @@
 -- What contracts see of a walker, and what its type keeps.
-use Rattle.std.specs.Prelude.{◌≡◌, ℕ, ◌+◌, ◌-◌, ◌<◌, ◌≤◌, ◌^◌, Bool, not, ◌&&◌, ◌||◌, nat_lt, is_none, List, length, slice_index}
+use Rattle.std.specs.Prelude.{◌≡◌, ℕ, ◌+◌, ◌-◌, ◌<◌, ◌≤◌, ◌^◌, Bool, true, false, not, ◌&&◌, ◌||◌, nat_lt, is_none, List, length, slice_index}
+use Rattle.std.specs.Int.{bit_at}
 use Rattle.fmp_codes.specs.declared.numbers.Proc.{Proc}
 use Rattle.fmp_setup.specs.Setup.{Setup, has_time}
 use Rattle.fmp_codes.specs.declared.records.Record.{Record}
@@ -8,7 +9,8 @@ use Rattle.fmp_kernel_order.specs.Queues.{Queues}
 use Rattle.fmp_text_scripts.specs.Ways.{most_steps}
 use Rattle.fmp_search_orders.specs.declared.rules.Rules.{Rules}
 use Rattle.fmp_search_orders.specs.Orders.{is_left}
-use Rattle.fmp_search_orders.specs.Places.{Place, origin}
+use Rattle.fmp_search_orders.specs.Places.{Place, is_marked, origin, sight_at}
+use Rattle.fmp_search_pattern.specs.Questions.{allows}
 use Rattle.fmp_search_orders.specs.Watched.{Watched}
 
 pub record Walked : Type 0 where
@@ -59,3 +61,9 @@ pub record IsRoomy (tasks handlers taken idled : List ℕ) (seen left : ℕ) : T
 -- where all its runs begin
 abbrev pub origin_of : Place → Place
 origin_of w = origin w.config w.scripts w.rules w.question
+
+-- a bit was added for no step but the one that gives a mark to the event of another, which led to a place and may have none there. So many
+-- steps of the question were seen before it
+abbrev pub ClosesMark : Place → Record → ℕ → ℕ → ℕ → ℕ → Type 0
+ClosesMark w r seen step old new = (s : ℕ) → bit_at old s ≡ 0 → bit_at new s ≡ 1 →
+    (s ≡ step + 3) × (is_marked step ≡ false) × (allows w.question seen true (sight_at w r) ≡ false)

@@ -76,7 +76,7 @@ impl<'a> Space for Caller<'a> {
         self.walker.go(step)
     }
 
-    fn watch(&mut self, step: u8) -> Result<Option<u64>, AllocError> {
+    fn watch(&mut self, step: u8, _closed: &mut u64) -> Result<Option<u64>, AllocError> {
         let number = self.walker.number_at(step);
         if self.walker.go(step)? {
             Ok(Some(u64::from(number)))

@@ -1,7 +1,10 @@
 //! The walker as one who goes through a graph: its places are those of all orders.
+ghost use Rattle.std.specs.Prelude.{◌≡◌, ◌<◌, ◌+◌, ℕ, IfOk};
+ghost use Rattle.std.specs.Int.{bit_at};
+ghost use Rattle.fmp_search.specs.Runs.{Closes, Goes};
 ghost use Rattle.fmp_search_orders.specs.Laws.{is_seen};
 ghost use Rattle.fmp_search_orders.specs.Places as places;
-ghost use Rattle.fmp_search_kernel.specs.Walked.{origin_of};
+ghost use Rattle.fmp_search_kernel.specs.Walked.{origin_of, ClosesMark};
 
 use crate::walker::{MOST, Walker, are_equal, is_marked};
 use fmp_kernel_parts::Digest;
@@ -12,6 +15,47 @@ use std::alloc::AllocError;
 fn add_numbers(digest: &mut Digest, numbers: &[u32], count: usize) {
     for number in numbers.get(..count).unwrap_or(numbers) {
         digest.add(u64::from(*number));
+    }
+}
+
+/// Adds the bit of the step that makes the event of another with a mark.
+fn close_marked(closed: &mut u64, step: u8)
+    ensures { (s : ℕ) → bit_at closed.old s ≡ 0 → bit_at closed.new s ≡ 1 → s ≡ step + 3 }
+{
+    if step < 48 {
+        *closed |= 1 << (step + 3);
+    }
+}
+
+impl<'a> Walker<'a> {
+    /// Where the last event was that of a step without a mark, and may not have one, the step that gives it one is closed: it need not be
+    /// played. So many steps of the question were seen before the event. The place stays as it is, and the error is want of memory.
+    fn close(&mut self, seen: u32, step: u8, closed: &mut u64) -> Result<(), AllocError>
+        ensures closed { ClosesMark self.old.place self.old.made seen step closed.old closed.new }
+        ensures same { self.new ≡ self.old }
+    {
+        if !is_marked(step) && !self.is_allowed(seen, true)? {
+            close_marked(closed, step);
+        }
+        Ok(())
+    }
+
+    /// Makes the step of a number as `go` does. After one without a mark it looks, too, whether the event may have one, and closes the step
+    /// that gives it one where it may not.
+    fn go_closing(&mut self, step: u8, closed: &mut u64) -> Result<bool, AllocError>
+        requires { 0 < self.old.left }
+        ensures goes { IfOk result (λ made. Goes (places.after self.old.place step) made self.new.place) }
+        ensures closed { Closes (places.after self.old.place) closed.old closed.new }
+        ensures origin { origin_of self.new.place ≡ origin_of self.old.place }
+    {
+        let Some(event) = self.event_of(step) else {
+            return Ok(false);
+        };
+        let seen = self.seen;
+        let marked = is_marked(step);
+        self.play(event, marked);
+        self.close(seen, step, closed)?;
+        self.is_allowed(seen, marked)
     }
 }
 
@@ -65,8 +109,8 @@ impl<'a> Space for Walker<'a> {
         self.is_allowed(seen, marked)
     }
 
-    fn watch(&mut self, step: u8) -> Result<Option<u64>, AllocError> {
-        if self.go(step)? {
+    fn watch(&mut self, step: u8, closed: &mut u64) -> Result<Option<u64>, AllocError> {
+        if self.go_closing(step, closed)? {
             Ok(Some(0))
         } else {
             Ok(None)

@@ -87,7 +87,7 @@ impl<'a> Space for Watcher<'a> {
         self.walker.go(step)
     }
 
-    fn watch(&mut self, step: u8) -> Result<Option<u64>, AllocError> {
+    fn watch(&mut self, step: u8, _closed: &mut u64) -> Result<Option<u64>, AllocError> {
         self.walker.watch_for(step, self.lasting)
     }
 

@@ -1,7 +1,8 @@
 -- One processor, one priority or one task more.
-use Rattle.std.proofs.Common.{◌≡◌, ℕ, ◌+◌, suc, List, [], ◌++◌, add-one, refl, sym, ap, ap₂, ◌∙◌, append_assoc, append-nil}
+use Rattle.std.proofs.Common.{◌≡◌, ◌≤◌, ℕ, zero, ◌+◌, suc, List, [], ◌++◌, add-one, arith, refl, sym, ap, ap₂, ◌∙◌, append_assoc, append-nil}
 use Rattle.std.specs.Prelude.{Option, None}
 use Rattle.fmp_codes.specs.Numbers.{as_pri, as_proc, as_task}
+use Rattle.fmp_codes.specs.declared.numbers.Pri.{Pri}
 use Rattle.fmp_codes.specs.declared.numbers.Proc.{Proc}
 use Rattle.fmp_codes.specs.declared.numbers.Task.{Task}
 use Rattle.fmp_codes.specs.declared.records.Runner.{Runner}
@@ -19,6 +20,15 @@ module _ {Q : Type 0} (k : Ordering Q) (w : World Q) where
 
   pub ready_more : (p : Proc) (n : ℕ) → ready_to k w p (n + 1) ≡ ready_to k w p n ++ without_running (processor w p).running (k.ready w.order w.tasks p (as_pri (n + 1)))
   ready_more p n = rw (add-one) (ready_suc p n)
+
+  -- nor do the priorities after the last one with a task
+  pub ready_over : (p : Proc) (n d : ℕ) → ((x : Pri) → n + 1 ≤ x.number → k.ready w.order w.tasks p x ≡ []) → n + d ≤ 32 → ready_to k w p (n + d) ≡ ready_to k w p n
+  ready_over p n zero none few = ap (ready_to k w p) (omega arith)
+  ready_over p n (suc d) none few =
+      let longer : n + suc d ≡ n + d + 1 = omega arith in
+      let empty = none (as_pri (n + d + 1)) (omega (arith, few)) in
+      ap (ready_to k w p) longer ∙ ready_more p (n + d)
+      ∙ ap (λ (ts : List Task). ready_to k w p (n + d) ++ without_running (processor w p).running ts) empty ∙ append-nil _ ∙ ready_over p n d none (omega (arith, few))
 
   processors_suc : (lists : NameLists) (n : ℕ) → processors_text k lists w (suc n)
       ≡ processors_text k lists w n ++ processor_text lists (as_proc (suc n)) (processor w (as_proc (suc n))) (ready_to k w (as_proc (suc n)) 32) (item [] w.due (as_proc (suc n)).number)

@@ -1,6 +1,6 @@
 //! The lines of the processors.
-ghost use Rattle.std.specs.Prelude.{◌≡◌, ◌++◌, length, OnOk, IfOk};
-ghost use Rattle.fmp_rules.specs.World.{processor};
+ghost use Rattle.std.specs.Prelude.{◌≡◌, ◌++◌, [], length, OnOk, IfOk};
+ghost use Rattle.fmp_rules.specs.World.{item, processor};
 ghost use Rattle.fmp_show_state.specs.States as spec;
 
 use fmp_codes::{Pri, Proc, Runner, Task};
@@ -48,7 +48,7 @@ fn add_ready<M: Views>(
         ++ spec.without_running running (M.ordering.ready (M.world machine.now).order (M.world machine.now).tasks p priority)) }
 {
     // most priorities have none, and a list is longer than a look
-    if machine.first_ready(p, priority).is_none() {
+    if !machine.may_have_ready(p, priority) {
         return Ok(());
     }
     add_others(others, running, machine.ready(p, priority).as_slice())
@@ -61,7 +61,11 @@ fn other_ready<M: Views>(alloc: Global, machine: &M, p: Proc) -> Result<Vec<Task
     let running = machine.processor(p).running;
     let mut others = Vec::new(alloc);
     for index in 0..32u8 {
-        add_ready(&mut others, running, machine, p, Pri::new(index + 1))?;
+        let priority = Pri::new(index + 1);
+        if !machine.may_have_ready_from(p, priority) {
+            return Ok(others);
+        }
+        add_ready(&mut others, running, machine, p, priority)?;
     }
     Ok(others)
 }
@@ -94,6 +98,22 @@ fn put_due(out: &mut Vec<u8>, names: &Names, due: &[Runner]) -> Result<(), Alloc
         put_runner(out, names, Some(*handler))?;
     }
     Ok(())
+}
+
+/// Adds the same for the handlers that are due on a processor.
+fn put_handlers<M: Views>(
+    out: &mut Vec<u8>,
+    names: &Names,
+    machine: &M,
+    p: Proc,
+) -> Result<(), AllocError>
+    ensures { OnOk result (out.new.items ≡ out.old.items ++ spec.due_from names.now 0 (item [] (M.world machine.now).due p.number)) }
+{
+    // mostly there is none, and a list is longer than a look
+    if machine.handler(p).is_none() {
+        return Ok(());
+    }
+    put_due(out, names, machine.due(p).as_slice())
 }
 
 /// Adds a word where it holds.
@@ -142,22 +162,23 @@ fn put_head(
     put_running(out, names, running)
 }
 
-/// Adds the line of a processor that has this record, these other tasks that are ready, and these due handlers.
+/// Adds the line of a processor, on which these other tasks are ready.
 #[tactic(auto, unfolding(crate::specs::States::processor_text))]
-fn put_line(
+fn put_line<M: Views>(
     out: &mut Vec<u8>,
     names: &Names,
+    machine: &M,
     p: Proc,
-    processor: Processor,
     ready: &[Task],
-    due: &[Runner],
 ) -> Result<(), AllocError>
-    ensures { OnOk result (out.new.items ≡ out.old.items ++ spec.processor_text names.now p processor ready.now due.now) }
+    ensures { let w = M.world machine.now in
+        OnOk result (out.new.items ≡ out.old.items ++ spec.processor_text names.now p (processor w p) ready.now (item [] w.due p.number)) }
 {
+    let processor = machine.processor(p);
     put_head(out, names, p, processor.running)?;
     put_ready(out, names, ready)?;
     put_flags(out, processor)?;
-    put_due(out, names, due)?;
+    put_handlers(out, names, machine, p)?;
     out.push(b'\n')?;
     Ok(())
 }
@@ -173,15 +194,7 @@ pub(crate) fn put_processors<M: Views>(
     for index in 0..machine.processor_count() {
         let p = Proc::from_index(index);
         let ready = other_ready(*out.allocator(), machine, p)?;
-        let due = machine.due(p);
-        put_line(
-            out,
-            names,
-            p,
-            machine.processor(p),
-            ready.as_slice(),
-            due.as_slice(),
-        )?;
+        put_line(out, names, machine, p, ready.as_slice())?;
     }
     Ok(())
 }

@@ -10,6 +10,14 @@ impl Views for KernelMachine {
         KernelMachine::ready(self, p, priority)
     }
 
+    fn may_have_ready(&self, p: Proc, priority: Pri) -> bool {
+        self.ready_word(p) >> priority.index() & 1 == 1
+    }
+
+    fn may_have_ready_from(&self, p: Proc, priority: Pri) -> bool {
+        self.ready_word(p) >> priority.index() != 0
+    }
+
     fn due(&self, p: Proc) -> ArrayVec<Runner, 64> {
         KernelMachine::due(self, p)
     }

@@ -1,5 +1,6 @@
 //! What is told of a machine between two events, besides what the calls look up.
-ghost use Rattle.std.specs.Prelude.{◌≡◌, [], None, slice_get};
+ghost use Rattle.std.specs.Prelude.{◌≡◌, ◌≤◌, [], None, false, slice_get};
+ghost use Rattle.fmp_codes.specs.declared.numbers.Pri.{Pri as AnyPri};
 ghost use Rattle.fmp_rules.specs.World.{item};
 ghost use Rattle.fmp_rules.specs.Objects.{values, pool};
 
@@ -13,6 +14,14 @@ pub trait Views: Objects {
     /// The ready tasks of a priority on a processor, in their precedence.
     fn ready(&self, p: Proc, priority: Pri) -> ArrayVec<Task, 64>
         ensures { let w = Self.world self.now in result.items ≡ Self.ordering.ready w.order w.tasks p priority };
+
+    /// Whether tasks of a priority are ready on a processor. It may say so where none is; it does not say no where one is.
+    fn may_have_ready(&self, p: Proc, priority: Pri) -> bool
+        ensures { let w = Self.world self.now in result ≡ false → Self.ordering.ready w.order w.tasks p priority ≡ [] };
+
+    /// Whether tasks of a priority or of one after it are ready on a processor, likewise.
+    fn may_have_ready_from(&self, p: Proc, priority: Pri) -> bool
+        ensures { let w = Self.world self.now in result ≡ false → (x : AnyPri) → priority.number ≤ x.number → Self.ordering.ready w.order w.tasks p x ≡ [] };
 
     /// The handlers that are due on a processor, the running one first.
     fn due(&self, p: Proc) -> ArrayVec<Runner, 64>

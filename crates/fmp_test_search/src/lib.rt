@@ -59,7 +59,7 @@ impl Space for Board {
         }
     }
 
-    fn watch(&mut self, step: u8) -> Result<Option<u64>, AllocError> {
+    fn watch(&mut self, step: u8, _closed: &mut u64) -> Result<Option<u64>, AllocError> {
         if self.go(step)? {
             Ok(Some(0))
         } else {
@@ -175,7 +175,7 @@ impl Space for Ring {
         }
     }
 
-    fn watch(&mut self, step: u8) -> Result<Option<u64>, AllocError> {
+    fn watch(&mut self, step: u8, _closed: &mut u64) -> Result<Option<u64>, AllocError> {
         if self.go(step)? {
             Ok(Some(passes_into(self.at)))
         } else {

@@ -47,6 +47,7 @@ loop-step-preserved g c =
       subst (λ x. Charting after passes x more chart at (s + 1)) inv.3 charts,
       c.try_step.ensures.kept ∙ inv.10,
       c.try_step.ensures.marks ∙ inv.11,
+      c.try_step.ensures.closed,
     )
 
 pub returns-clause-chart : goal.returns-clause-chart

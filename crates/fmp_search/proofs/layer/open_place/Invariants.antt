@@ -3,6 +3,7 @@ use Rattle.fmp_search.specs.Answers.{Explored}
 use Rattle.fmp_search.specs.Charts.{Charting}
 use Rattle.fmp_search.specs.Growth.{Extends, AreTried, AreBefore}
 use Rattle.fmp_search.specs.Cache.{IsCache}
+use Rattle.fmp_search.specs.Runs.{AreClosed}
 use Rattle.fmp_search.proofs.layer.open_place.Given as goal
 
 abbrev pub invariant-loop-step : goal.invariant-loop-step
@@ -22,3 +23,4 @@ invariant-loop-step g l =
     × Charting after g.W.Space.passes q nodes l.chart l.fn.at l.step
     × (l.chart.kept ≡ l.fn.chart.kept)
     × (length l.chart.marks.items ≡ length l.fn.chart.marks.items)
+    × AreClosed after (g.W.Space.place l.base) l.closed

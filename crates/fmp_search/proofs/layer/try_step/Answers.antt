@@ -1,12 +1,12 @@
 use Rattle.std.proofs.Common.{ℕ, ◌+◌, ◌≤◌, ◌≡◌, ◌∙◌, true, List, [], ◌∷◌, ◌++◌, Option, Some, length, ap, arith, subst, sym}
 use Rattle.std.proofs.lemmas.Grind.{common_steps}
 use Rattle.fmp_search.specs.Runs.{Watches}
-use Rattle.fmp_search.specs.Trees.{Found}
+use Rattle.fmp_search.specs.Trees.{Found, found_at}
 use Rattle.fmp_search.specs.declared.nodes.Node.{Node}
 use Rattle.fmp_search.specs.Growth.{AreFound, LeavesRoom, Numbers}
-use Rattle.fmp_search.proofs.Charted.{charting_more, edge_is_true, joined_by, step_there}
+use Rattle.fmp_search.proofs.Charted.{charting_more, charting_same, edge_is_true, joined_by, not_there, step_there}
 use Rattle.fmp_search.proofs.Layers.{is-shortest}
-use Rattle.fmp_search.proofs.Noted.{noted_more}
+use Rattle.fmp_search.proofs.Noted.{noted_more, not_marked}
 use Rattle.fmp_search.proofs.Growth.{leads_there, depth_there, found_here, none_of}
 use Rattle.fmp_search.proofs.layer.try_step.Goals as goal
 
@@ -82,3 +82,19 @@ returns-in_default-2-clause-fills g c =
     let number = subst (λ (o : Option ℕ). Numbers after wanted (g.W.Space.origin c.watch.new.self) nodes front.depth front.end c.args.at r o more) none c.in_ok-to.ensures.number in
     let room = subst (λ (o : Option ℕ). LeavesRoom c.args.store.now.most c.args.at c.args.step o more) none c.in_ok-to.ensures.leaves in
     (subst (λ (ns : List Node). AreFound after q front.depth ns) (sym number) (found_here after q wanted nodes front.depth front.end c.args.at c.args.at c.args.step c.requires.explored c.requires.before), room)
+
+pub returns-in_default-clause-chart : goal.returns-in_default-clause-chart
+returns-in_default-clause-chart g c =
+    let after = g.W.Space.after in
+    let passes = g.W.Space.passes in
+    let q = g.W.Space.origin c.args.walker.now in
+    let nodes = c.args.store.now.nodes.items in
+    let at = c.args.at in
+    let s = c.args.step in
+    let p = g.W.Space.place c.copy_from.new.self in
+    let r = g.W.Space.place c.watch.new.self in
+    let none = none_of c.in_ok-passes.field-0 c.in_default.not-Some in
+    let report = subst (λ (o : Option ℕ). Watches (after p s) (passes p s) o r) none c.in_ok-passes.ensures.goes in
+    let there = c.in_ok-copy_from.ensures.there ∙ c.requires.base in
+    charting_same after passes q nodes c.args.chart.now at s (not_there after passes q nodes c.args.chart.now.edges at s p r there report)
+    (not_marked after passes p (found_at after q nodes at).place r c.args.chart.now.marks.items s there report) c.requires.chart

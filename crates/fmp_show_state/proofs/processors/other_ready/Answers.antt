@@ -1,8 +1,8 @@
-use Rattle.std.proofs.Common.{◌++◌, sym, ap, ap₂, ◌∙◌}
+use Rattle.std.proofs.Common.{◌≡◌, ◌≤◌, ◌+◌, ◌-◌, ◌++◌, [], arith, sym, ap, ap₂, subst, ◌∙◌}
 use Rattle.fmp_codes.specs.declared.numbers.Pri.{Pri}
 use Rattle.fmp_rules.specs.declared.machine.Processor.{Processor}
-use Rattle.fmp_show_state.specs.States.{without_running}
-use Rattle.fmp_show_state.proofs.More.{ready_more, ready_none}
+use Rattle.fmp_show_state.specs.States.{ready_to, without_running}
+use Rattle.fmp_show_state.proofs.More.{ready_more, ready_none, ready_over}
 use Rattle.fmp_show_state.proofs.processors.other_ready.Goals as goal
 
 pub loop-index-init : goal.loop-index-init
@@ -11,7 +11,10 @@ loop-index-init g c = let W = g.M.Words in c.new-others.ensures.items ∙ sym (r
 pub loop-index-preserved : goal.loop-index-preserved
 loop-index-preserved g c = let W = g.M.Words in
     let k = W.world c.args.machine.now in
-    let tasks = ap (λ (n : Pri). W.ordering.ready k.order k.tasks c.args.p n) c.new.ensures.value in
+    let tasks = ap (λ (n : Pri). W.ordering.ready k.order k.tasks c.args.p n) c.new-priority.ensures.value in
     c.in_ok-add_ready.ensures
     ∙ ap₂ ◌++◌ c.loop-index.invariant (ap₂ without_running (ap (λ (x : Processor). x.running) c.processor-running.ensures) tasks)
     ∙ sym (ready_more W.ordering k c.args.p c.loop-index.index)
+
+pub loop-index-returns-then-not-may_have_ready_from : goal.loop-index-returns-then-not-may_have_ready_from
+loop-index-returns-then-not-may_have_ready_from g c = ?

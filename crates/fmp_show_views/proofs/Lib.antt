@@ -1,0 +1,1 @@
+pub mod Words  -- What the bits of a word say of the ready tasks.
