@@ -59,7 +59,7 @@ all_calls() {
 
 # block_is_told LINE: what is told of a call of rel_mpf.
 block_is_told() {
-    echo "x.log:$1: told: a block is an address on the target and a number from 0 in fmpsim: write the number here by hand"
+    echo "x.log:$1: note: a block is an address on the target and a number from 0 in fmpsim: write the number here by hand"
 }
 
 # answered BETWEEN LINES WAIT: each call that task 1 enters and leaves, with so many LINES of this text in between, is a line of a trace with
@@ -94,7 +94,7 @@ reads_calls() {
     while IFS=$'\1' read -r enter _ _ answer _; do
         [ "$answer" = untold ] || continue
         printf '[1]:[2]: %s.\n' 'enter to slp_tsk' 'leave to slp_tsk ercd=0' "enter to $enter" "leave to ${enter%% *} ercd=0, blk=0x2000" > x.log
-        echo "x.log:3: told: the log does not say what ${enter%% *} of this line answered, so the trace ends before it" > to_tell
+        echo "x.log:3: note: the log does not say what ${enter%% *} of this line answered, so the trace ends before it" > to_tell
         reads 0 "$(as_file echo 'P2 slp_tsk() E_OK')" to_tell --trace
     done < "$(log_rows "$logs/calls.txt")"
 }
@@ -232,9 +232,9 @@ log_command_lines() {
 	x.cfg x.log --tick 1 --ipi 1
 	x.cfg x.log --all
 	END
-    refuses 3 'nowhere: from-log: cannot be read: No such file or directory' nowhere x.log
-    refuses 3 'nowhere: from-log: cannot be read: No such file or directory' "$logs/machine.cfg" nowhere
-    refuses 3 '.: from-log: cannot be read: Is a directory' "$logs/machine.cfg" .
+    refuses 3 'nowhere: cannot be read: No such file or directory' nowhere x.log
+    refuses 3 'nowhere: cannot be read: No such file or directory' "$logs/machine.cfg" nowhere
+    refuses 3 '.: cannot be read: Is a directory' "$logs/machine.cfg" .
     refuses 1 'x.log: refused: it has no PROCESSORS(n); with n from 1 to 8: expected is a configuration, as tools/from-toppers makes it' x.log x.log
     well=no
     "$tool" "$logs/machine.cfg" x.log > /dev/full 2> told
