@@ -1,10 +1,8 @@
 -- A step that makes the event of another with a mark.
-use Rattle.std.proofs.Common.{◌≡◌, ◌≤◌, ◌<◌, ◌/◌, ◌%◌, ◌*◌, ◌^◌, ℕ, ◌+◌, true, false, Some, ap, ap₂, sym, ◌∙◌, refl, arith, bit_or, w64, absurd, ⊎_elim}
+use Rattle.std.proofs.Common.{◌≡◌, ◌≤◌, ◌<◌, ◌/◌, ◌%◌, ◌*◌, ◌^◌, ℕ, ◌+◌, Bool, true, false, None, Some, ap, subst, ◌∙◌, refl, arith, bit_or, w64, ⊎_elim}
 use Rattle.std.specs.Int.{bit_at}
-use Rattle.std.specs.Prelude.{nat_le}
 use Rattle.std.proofs.lemmas.Bool.{cases_eq}
 use Rattle.std.proofs.lemmas.Nat.Bits.{bit_at_set_other}
-use Rattle.fmp_codes.specs.Numbers.{as_proc}
 use Rattle.fmp_codes.specs.declared.records.Event.{Event}
 use Rattle.fmp_codes.specs.declared.records.Record.{Record}
 use Rattle.fmp_rules.specs.Step.{step}
@@ -31,22 +29,23 @@ same_event w s plain =
 with_mark : (s : ℕ) → is_marked s ≡ false → is_marked (s + 3) ≡ true
 with_mark s plain =
     let low = no_mark s plain in
-    let rest : (s + 3) % 6 ≡ s % 6 + 3 = omega (arith, low) in
-    rw rest refl
+    let rest : 3 ≤ (s + 3) % 6 = omega (arith, low) in
+    search (arith, rest)
 
 -- where an event may not have a mark, the step that gives it one leads nowhere
 cannot : (w : Place) (s : ℕ) (e : Event) → event_of w s ≡ Some e → is_marked s ≡ false →
     allows w.question w.seen true (sight_at (went w false (step listed w.machine e)) (step listed w.machine e).1) ≡ false → after w (s + 3) ≡ None
 unfolding after
-cannot w s e is plain no = rw (same_event w s plain ∙ is, with_mark s plain) (rw no refl)
+cannot w s e is plain refused = rw (same_event w s plain ∙ is, with_mark s plain) (rw refused refl)
 
 -- what is closed after an event that was made without a mark
 pub closes : (w : Place) (v : Walked) (s : ℕ) (e : Event) (seen old new : ℕ) (mark : Bool) → event_of w s ≡ Some e → seen ≡ w.seen → mark ≡ is_marked s →
-    v.place ≡ went w mark (step listed w.machine e) → v.made ≡ (step listed w.machine e).1 → ClosesMark v.place v.made seen s old new → Closes (after w) old new
+    v.place ≡ went w mark (step listed w.machine e) → v.made ≡ (step listed w.machine e).1 → ClosesMark v.place v.made seen s old new → Closes after w old new
 closes w v s e seen old new mark is seen_is mark_is there report closed k none has =
     let got = closed k none has in
     let plain = mark_is ∙ got.1 in
     let there' : v.place ≡ went w false (step listed w.machine e) = there ∙ ap (λ (b : Bool). went w b (step listed w.machine e)) plain in
-    let no : allows w.question w.seen true (sight_at (went w false (step listed w.machine e)) (step listed w.machine e).1) ≡ false =
-        rw (← there', ← report, ← seen_is) got.2 in
-    rw got.0 (cannot w s e is got.1 no)
+    let by_seen = subst (λ (n : ℕ). allows v.place.question n true (sight_at v.place v.made) ≡ false) seen_is got.2 in
+    let by_place = subst (λ (x : Place). allows x.question w.seen true (sight_at x v.made) ≡ false) there' by_seen in
+    let refused = subst (λ (r : Record). allows w.question w.seen true (sight_at (went w false (step listed w.machine e)) r) ≡ false) report by_place in
+    rw got.0 (cannot w s e is got.1 refused)

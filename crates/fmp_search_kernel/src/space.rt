@@ -45,7 +45,7 @@ impl<'a> Walker<'a> {
     fn go_closing(&mut self, step: u8, closed: &mut u64) -> Result<bool, AllocError>
         requires { 0 < self.old.left }
         ensures goes { IfOk result (λ made. Goes (places.after self.old.place step) made self.new.place) }
-        ensures closed { Closes (places.after self.old.place) closed.old closed.new }
+        ensures closed { Closes places.after self.old.place closed.old closed.new }
         ensures origin { origin_of self.new.place ≡ origin_of self.old.place }
     {
         let Some(event) = self.event_of(step) else {

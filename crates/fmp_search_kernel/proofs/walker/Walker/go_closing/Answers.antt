@@ -2,7 +2,7 @@ use Rattle.std.proofs.Common.{ap, sym, ◌∙◌}
 use Rattle.fmp_search_kernel.specs.Walked.{Walked, origin_of}
 use Rattle.fmp_search_kernel.proofs.Closing.{closes}
 use Rattle.fmp_search_kernel.proofs.Going.{goes_where, not_gone}
-use Rattle.fmp_search_kernel.proofs.space.Walker.go_closing.Goals as goal
+use Rattle.fmp_search_kernel.proofs.walker.Walker.go_closing.Goals as goal
 
 pub returns-in_default-clause-goes : goal.returns-in_default-clause-goes
 returns-in_default-clause-goes c = not_gone _ _ c.args.step (sym c.event_of.ensures.is ∙ c.in_default.is)
@@ -21,3 +21,11 @@ returns-clause-closed c =
 
 pub returns-clause-origin : goal.returns-clause-origin
 returns-clause-origin c = ap (λ (x : Walked). origin_of x.place) c.is_allowed.ensures.same ∙ ap (λ (x : Walked). origin_of x.place) c.close.ensures.same ∙ ap origin_of c.play.ensures.place
+
+pub returns-in_err-close-clause-closed : goal.returns-in_err-close-clause-closed
+returns-in_err-close-clause-closed c =
+    closes c.args.self.now.place c.play.new.self c.args.step c.in-Some.event _ _ _ c.is_marked-marked.result (sym c.in-Some.ensures.is)
+    (ap (λ (x : Walked). x.place.seen) c.self.view_is) c.is_marked-marked.ensures c.play.ensures.place c.play.ensures.made c.close.ensures.closed
+
+pub returns-in_err-close-clause-origin : goal.returns-in_err-close-clause-origin
+returns-in_err-close-clause-origin c = ap (λ (x : Walked). origin_of x.place) c.close.ensures.same ∙ ap origin_of c.play.ensures.place
