@@ -52,8 +52,22 @@ pub enum Detail {
     Life(Life),
 }
 
+/// Adds the lines of those things of which something else is told than was told last, and keeps in mind what is.
+#[tactic(auto, using(fmp_show_life::proofs::Alike::report_alike, fmp_show_life::proofs::Alike::renewed_alike))]
+fn put_news(
+    life: &mut Life,
+    names: &Names,
+    kernel: &Kernel,
+    line: &mut Vec<u8>,
+) -> Result<(), AllocError>
+    ensures ok { (m : State) → Stands kernel.now m → OnOk result (line.new.items ≡ line.old.items ++ flat_map (report_since names.now m) life.old) }
+    ensures report { (m : State) → Stands kernel.now m → OnOk result (life.new ≡ map (renewed names.now m) life.old) }
+{
+    life.put_changes(line, names, kernel.machine())
+}
+
 /// Adds what is told at boot, and keeps in mind what is.
-#[tactic(auto, using(fmp_show_state::proofs::Alike::states_alike, fmp_show_life::proofs::Alike::report_alike, fmp_show_life::proofs::Alike::renewed_alike))]
+#[tactic(auto, using(fmp_show_state::proofs::Alike::states_alike))]
 fn put_boot(
     detail: &mut Detail,
     names: &Names,
@@ -68,12 +82,11 @@ fn put_boot(
         Detail::Line => Ok(()),
         Detail::State => put_state(line, names, kernel.machine()),
         Detail::Changes(changes) => changes.put_state(line, names, kernel),
-        Detail::Life(life) => life.put_changes(line, names, kernel.machine()),
+        Detail::Life(life) => put_news(life, names, kernel, line),
     }
 }
 
 /// Adds the lines of things of which something changed, or takes the line away where there are none.
-#[tactic(auto, using(fmp_show_life::proofs::Alike::report_alike, fmp_show_life::proofs::Alike::renewed_alike))]
 fn put_life(
     life: &mut Life,
     names: &Names,
@@ -84,7 +97,7 @@ fn put_life(
     ensures report { (m : State) → Stands kernel.now m → OnOk result (life.new ≡ map (renewed names.now m) life.old) }
 {
     let bytes = line.len();
-    life.put_changes(line, names, kernel.machine())?;
+    put_news(life, names, kernel, line)?;
     if line.len() == bytes {
         line.clear();
     }

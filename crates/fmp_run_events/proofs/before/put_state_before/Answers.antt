@@ -28,4 +28,4 @@ returns c = λ records prints.
     let names = c.names-names.result.now in
     let lines : state_lines listed names c.machine.result.now ≡ state_lines numbered config.names m =
     ap (λ (w : World Queues). state_lines listed names w) c.machine.ensures ∙ states_alike k m stands names ∙ ap (λ (l : NameLists). state_lines numbered l m) c.names-names.ensures.value in
-    on_ok_weaker c.put_state.result (λ is. is ∙ ap (λ (xs : List ℕ). c.args.out.now.items ++ xs ++ state_end) lines) c.put_state.ensures
+    on_ok_weaker c.put_state.result (λ is. is ∙ ap (λ (xs : List ℕ). c.args.out.now.items ++ (xs ++ state_end)) lines) c.put_state.ensures

@@ -1,4 +1,4 @@
-use Rattle.std.proofs.Common.{◌≡◌, ◌∙◌, ◌++◌, ap, ap₂}
+use Rattle.std.proofs.Common.{◌∙◌, ◌++◌, ap, ap₂}
 use Rattle.fmp_rules.specs.World.{World}
 use Rattle.fmp_kernel_order.specs.Queues.{Queues}
 use Rattle.fmp_law_lists.specs.Stands.{Stands}
