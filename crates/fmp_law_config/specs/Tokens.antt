@@ -9,7 +9,7 @@ use Rattle.fmp_config_tokens.specs.declared.tokens.TokenKind.{TokenKind}
 use Rattle.fmp_config_tokens.specs.declared.tokens.TokenKind.TheVariants as kinds
 use Rattle.fmp_config_tokens.specs.Steps.{following}
 use Rattle.fmp_config_tokens.specs.Lexing.{Lexeme}
-use Rattle.fmp_law_tokens.specs.Parts.{Part, Blank, Identifier, Digits, Symbol, Quoted, Hash, LineEnd, TextEnd, written, is_directive, may_stand}
+use Rattle.fmp_law_config.specs.Parts.{Part, Blank, Identifier, Digits, Symbol, Quoted, Hash, LineEnd, TextEnd, written, is_directive, may_stand}
 
 -- a token apart from its line
 pub record Glyph : Type 0 where

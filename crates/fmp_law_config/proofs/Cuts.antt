@@ -18,8 +18,8 @@ use Rattle.fmp_config_tokens.specs.declared.modes.Step.{Step}
 use Rattle.fmp_config_tokens.specs.declared.modes.Step.TheVariants.{Pass, Give, Stop}
 use Rattle.fmp_config_tokens.specs.Steps.{is_next, goes_on, at_line_end, single_in_code, single, begun, in_gap, in_line_comment, step_of, line_after}
 use Rattle.fmp_config_tokens.specs.Lexing.{Lexeme, Lexed, text_of, ended_at, ended_in, stepped, lexed, lexed_text}
-use Rattle.fmp_law_tokens.specs.Cuts.{AreTokens, IsCutAfter}
-use Rattle.fmp_law_tokens.proofs.Gaps.{prefix_more}
+use Rattle.fmp_law_config.specs.Cuts.{AreTokens, IsCutAfter}
+use Rattle.fmp_law_config.proofs.Gaps.{prefix_more}
 
 -- ---- what a step asks of the bytes after its own
 

@@ -12,8 +12,8 @@ use Rattle.fmp_config_tokens.specs.declared.modes.Mode.{Mode}
 use Rattle.fmp_config_tokens.specs.declared.modes.Mode.TheVariants as modes
 use Rattle.fmp_config_tokens.specs.Steps.{is_next}
 use Rattle.fmp_config_tokens.specs.Lexing.{ended_in, lexed}
-use Rattle.fmp_law_tokens.specs.Parts.{Part, TextEnd, written, has_pair, ends_after, is_inner, may_stand}
-use Rattle.fmp_law_tokens.specs.Tokens.{Glyph, glyph_of, glyphs_of, place_after, SpellsParts}
+use Rattle.fmp_law_config.specs.Parts.{Part, TextEnd, written, has_pair, ends_after, is_inner, may_stand}
+use Rattle.fmp_law_config.specs.Tokens.{Glyph, glyph_of, glyphs_of, place_after, SpellsParts}
 
 -- the tokens that are read, apart from their lines
 abbrev pub glyphs_in : Mode → ℕ → List ℕ → List Glyph

@@ -16,8 +16,8 @@ use Rattle.fmp_config_tokens.specs.declared.modes.Mode.TheVariants as modes
 use Rattle.fmp_config_tokens.specs.declared.modes.Step.TheVariants.{Pass, Give, Stop}
 use Rattle.fmp_config_tokens.specs.Steps.{is_next, following, at_line_end, single_in_code, single, begun, in_gap, step_of, line_after}
 use Rattle.fmp_config_tokens.specs.Lexing.{with_lexeme, ended, text_of, lexed}
-use Rattle.fmp_law_tokens.specs.Parts.{Blank, Symbol, is_directive, opens_comment, stands_alone, may_stand}
-use Rattle.fmp_law_tokens.specs.Tokens.{place_after}
+use Rattle.fmp_law_config.specs.Parts.{Blank, Symbol, is_directive, opens_comment, stands_alone, may_stand}
+use Rattle.fmp_law_config.specs.Tokens.{place_after}
 
 -- ---- a step, and what is read
 

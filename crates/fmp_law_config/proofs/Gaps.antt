@@ -18,10 +18,10 @@ use Rattle.fmp_config_tokens.specs.declared.modes.Mode.TheVariants as modes
 use Rattle.fmp_config_tokens.specs.declared.modes.Step.TheVariants.{Pass, Give, Stop}
 use Rattle.fmp_config_tokens.specs.Steps.{is_next, at_line_end, single_in_code, single, begun, in_gap, step_of, line_after}
 use Rattle.fmp_config_tokens.specs.Lexing.{text_of, lexed}
-use Rattle.fmp_law_tokens.specs.Parts.{Blank, BlockComment, LineComment, JoinedLine, Identifier, Digits, Symbol, Quoted, Hash, LineEnd, is_directive, begins_with, ends_comment, ends_after, opens_comment, stands_alone, may_stand}
-use Rattle.fmp_law_tokens.specs.Tokens.{Glyph}
-use Rattle.fmp_law_tokens.proofs.Bytes.{passes, gives, stops, word_no_letter, word_no_digit, word_is_digit, digit_is_word, begun_in_gap, blank_in_gap, identifier_in_gap, digits_in_gap, symbol_in_gap}
-use Rattle.fmp_law_tokens.proofs.Left.{glyphs_in, GapLeft, IsLeft, part_before}
+use Rattle.fmp_law_config.specs.Parts.{Blank, BlockComment, LineComment, JoinedLine, Identifier, Digits, Symbol, Quoted, Hash, LineEnd, is_directive, begins_with, ends_comment, ends_after, opens_comment, stands_alone, may_stand}
+use Rattle.fmp_law_config.specs.Tokens.{Glyph}
+use Rattle.fmp_law_config.proofs.Bytes.{passes, gives, stops, word_no_letter, word_no_digit, word_is_digit, digit_is_word, begun_in_gap, blank_in_gap, identifier_in_gap, digits_in_gap, symbol_in_gap}
+use Rattle.fmp_law_config.proofs.Left.{glyphs_in, GapLeft, IsLeft, part_before}
 
 -- ---- words
 

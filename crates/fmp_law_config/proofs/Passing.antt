@@ -12,8 +12,8 @@ use Rattle.fmp_config_tokens.specs.declared.modes.Mode.{Mode}
 use Rattle.fmp_config_tokens.specs.declared.modes.Mode.TheVariants as modes
 use Rattle.fmp_config_tokens.specs.Steps.{is_next, goes_on, single, begun, in_gap, in_line_comment, step_of, line_after}
 use Rattle.fmp_config_tokens.specs.Lexing.{Lexeme, Lexed, with_lexeme, text_of, ended_in, lexed}
-use Rattle.fmp_law_tokens.specs.Parts.{is_directive, begins_with, has_pair, ends_comment, ends_after, is_inner}
-use Rattle.fmp_law_tokens.specs.Tokens.{Glyph, glyph_of}
+use Rattle.fmp_law_config.specs.Parts.{is_directive, begins_with, has_pair, ends_comment, ends_after, is_inner}
+use Rattle.fmp_law_config.specs.Tokens.{Glyph, glyph_of}
 
 -- a text was read to its end as these tokens
 pub record ReadsTo (read : Lexed) (glyphs : List Glyph) : Type 0 where

@@ -1,4 +1,4 @@
--- What is read is spelled.
+-- The tokens that are read are spelled.
 use Rattle.std.proofs.Common.{◌≡◌, ℕ, Bool, true, false, ◌&&◌, not, eqb, inl, inr, List, [], ◌∷◌, ◌++◌, map, refl, sym, ap, subst, ◌∙◌}
 use Rattle.std.proofs.lemmas.Bool.{cases_Bool, and_from, or_parts, not_from_false, eqb-true}
 use Rattle.std.proofs.Math.Numerals.{one-add}
@@ -11,12 +11,12 @@ use Rattle.fmp_config_tokens.specs.declared.modes.Place.TheVariants as places
 use Rattle.fmp_config_tokens.specs.declared.modes.Mode.TheVariants as modes
 use Rattle.fmp_config_tokens.specs.Steps.{is_next, in_line_comment, step_of, line_after}
 use Rattle.fmp_config_tokens.specs.Lexing.{text_of, lexed, lexed_text}
-use Rattle.fmp_law_tokens.specs.Parts.{ends_comment}
-use Rattle.fmp_law_tokens.specs.Tokens.{Glyph, glyph_of, SpellsTokens}
-use Rattle.fmp_law_tokens.proofs.Bytes.{passes, gives}
-use Rattle.fmp_law_tokens.proofs.Passing.{comment_as_gap, word_as_gap, goes_on_is}
-use Rattle.fmp_law_tokens.proofs.Left.{glyphs_in, GapLeft, StringLeft, LineLeft, BlockLeft, OpeningLeft, JoinedLeft, IsLeft, ends_left}
-use Rattle.fmp_law_tokens.proofs.Gaps.{gap_left}
+use Rattle.fmp_law_config.specs.Parts.{ends_comment}
+use Rattle.fmp_law_config.specs.Tokens.{Glyph, glyph_of, SpellsTokens}
+use Rattle.fmp_law_config.proofs.Bytes.{passes, gives}
+use Rattle.fmp_law_config.proofs.Passing.{comment_as_gap, word_as_gap, goes_on_is}
+use Rattle.fmp_law_config.proofs.Left.{glyphs_in, GapLeft, StringLeft, LineLeft, BlockLeft, OpeningLeft, JoinedLeft, IsLeft, ends_left}
+use Rattle.fmp_law_config.proofs.Gaps.{gap_left}
 
 -- ---- one more byte of a string or a comment
 

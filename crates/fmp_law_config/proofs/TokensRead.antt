@@ -1,4 +1,4 @@
--- What is spelled is read.
+-- The tokens that are spelled are read.
 use Rattle.std.proofs.Common.{◌≡◌, ℕ, ◌+◌, true, false, List, [], ◌∷◌, ◌++◌, map, refl, sym, ap, ◌∙◌}
 use Rattle.std.specs.List.{list_all, flat_map, prefix_len}
 use Rattle.std.proofs.lemmas.Bool.{and_parts, and_from, not-true, false≢true}
@@ -16,10 +16,10 @@ use Rattle.fmp_config_tokens.specs.declared.modes.Mode.TheVariants as modes
 use Rattle.fmp_config_tokens.specs.declared.modes.Step.TheVariants.{Give}
 use Rattle.fmp_config_tokens.specs.Steps.{following, at_line_end, single_in_code, single, begun, in_gap, step_of, line_after}
 use Rattle.fmp_config_tokens.specs.Lexing.{text_of, ended_in, lexed, lexed_text}
-use Rattle.fmp_law_tokens.specs.Parts.{Part, Blank, BlockComment, LineComment, JoinedLine, Identifier, Digits, Symbol, Quoted, Hash, LineEnd, TextEnd, written, is_directive, begins_with, is_number, may_stand}
-use Rattle.fmp_law_tokens.specs.Tokens.{Glyph, glyph_of, glyphs_of, place_after, SpellsParts, SpellsTokens}
-use Rattle.fmp_law_tokens.proofs.Bytes.{passes, gives, digit_is_word, blank_in_gap, identifier_in_gap, digits_in_gap, symbol_in_gap}
-use Rattle.fmp_law_tokens.proofs.Passing.{ReadsTo, Follows, one_read, block_passes, line_comment_passes, slash_first, string_passes, word_passes}
+use Rattle.fmp_law_config.specs.Parts.{Part, Blank, BlockComment, LineComment, JoinedLine, Identifier, Digits, Symbol, Quoted, Hash, LineEnd, TextEnd, written, is_directive, begins_with, is_number, may_stand}
+use Rattle.fmp_law_config.specs.Tokens.{Glyph, glyph_of, glyphs_of, place_after, SpellsParts, SpellsTokens}
+use Rattle.fmp_law_config.proofs.Bytes.{passes, gives, digit_is_word, blank_in_gap, identifier_in_gap, digits_in_gap, symbol_in_gap}
+use Rattle.fmp_law_config.proofs.Passing.{ReadsTo, Follows, one_read, block_passes, line_comment_passes, slash_first, string_passes, word_passes}
 
 no_word_first : (rest : List ℕ) → begins_with Word rest ≡ false → prefix_len (is_of Word) rest ≡ 0
 no_word_first [] ends = refl
