@@ -6,7 +6,8 @@ use Rattle.fmp_names.specs.Names.{NameLists}
 use Rattle.fmp_search_question.specs.declared.fault.QuestionFault.{QuestionFault}
 use Rattle.fmp_search_question.specs.declared.fault.QuestionFault.TheVariants.{TooLong}
 use Rattle.fmp_search_pattern.specs.declared.question.Step.{Step}
-use Rattle.fmp_search_question.specs.Reading.{Draft, after_words, at_place, ended, limited, most_steps, nothing_read, or_form, question_in, result_then, with_step}
+use Rattle.fmp_search_question.specs.Reading.{Draft, after_word, ended, limited, most_steps, nothing_read, or_form, question_in, with_step}
+use Rattle.fmp_search_question.specs.WordByWord.{after_words, at_place, result_then}
 
 module _ (bytes : ℕ) (q : List Step) where
   -- what was limited has few steps
@@ -23,7 +24,7 @@ module _ (bytes : ℕ) (q : List Step) where
 
 pub question_short : (names : NameLists) (text : List ℕ) (q : List Step) → question_in names text ≡ Ok q → length q ≤ most_steps
 unfolding question_in
-question_short names text q is = go (after_words names (length text) nothing_read _) is
+question_short names text q is = go (after_words (after_word names) (length text) nothing_read _) is
   where
     go : (r : Result Draft (QuestionFault × ℕ)) → result_then (ended (length text)) r ≡ Ok q → length q ≤ most_steps
     go (Ok d) on = step_short (length text) q (with_step d) on
