@@ -17,9 +17,9 @@ use Rattle.fmp_config.specs.Limits.{most_bytes}
 use Rattle.fmp_config.specs.Reading.{State, at_start, take_token, closed, finished, setup_in, config_in}
 use Rattle.fmp_names.specs.Names.{number_defined}
 use Rattle.fmp_setup.specs.Setup.{Setup}
-use Rattle.fmp_law_tokens.specs.Tokens.{Glyph, glyph_of}
-use Rattle.fmp_law_tokens.proofs.Reading.{tokens_are_read}
-use Rattle.fmp_law_tokens.proofs.Spelled.{tokens_are_spelled}
+use Rattle.fmp_law_config.specs.Tokens.{Glyph, glyph_of}
+use Rattle.fmp_law_config.proofs.TokensRead.{tokens_are_read}
+use Rattle.fmp_law_config.proofs.TokensSpelled.{tokens_are_spelled}
 use Rattle.fmp_law_config.specs.Elements.{SpellsElements}
 use Rattle.fmp_law_config.specs.Grammar.{Configures}
 use Rattle.fmp_law_config.specs.Stages.{Stage}

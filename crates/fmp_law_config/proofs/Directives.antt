@@ -21,7 +21,7 @@ use Rattle.fmp_config_statements.specs.Faults.{Fault, fault_of_line, unknown_dir
 use Rattle.fmp_config_statements.specs.Folds.{each}
 use Rattle.fmp_config_statements.specs.Numbers.{numeral}
 use Rattle.fmp_config_statements.specs.Words.{Word, word_of, is_identifier_kind}
-use Rattle.fmp_law_tokens.specs.Tokens.{Glyph, glyph_of}
+use Rattle.fmp_law_config.specs.Tokens.{Glyph, glyph_of}
 use Rattle.fmp_law_config.specs.Elements.{identifier, Defines, Skips, Included, Undefined}
 use Rattle.fmp_law_config.proofs.Results.{ok_is, each-cons, each_parts, each-none}
 use Rattle.fmp_law_config.proofs.Numerals.{numeral-spelled, numeral_is_spelled}

@@ -16,7 +16,7 @@ use Rattle.fmp_config_statements.specs.Words.{Word}
 use Rattle.fmp_config.specs.Drafts.{Draft}
 use Rattle.fmp_config.specs.Judging.{define, ended}
 use Rattle.fmp_config.specs.Reading.{State, code_token, take_token}
-use Rattle.fmp_law_tokens.specs.Tokens.{Glyph, glyph_of}
+use Rattle.fmp_law_config.specs.Tokens.{Glyph, glyph_of}
 use Rattle.fmp_law_config.specs.Elements.{Element, Plain, Defined, Skipped, is_plain, directive_of, Defines, SpellsElements}
 use Rattle.fmp_law_config.proofs.Results.{ok_is, each-cons, each_parts, each-none}
 use Rattle.fmp_law_config.proofs.Glyphs.{is_glyph}

@@ -16,7 +16,7 @@ use Rattle.fmp_config_statements.specs.declared.fault.ConfigKind.TheVariants as 
 use Rattle.fmp_config_tokens.specs.Lexing.{Lexeme, lexed_text}
 use Rattle.fmp_config_tokens.specs.declared.tokens.End.{End}
 use Rattle.fmp_config_tokens.specs.declared.tokens.End.TheVariants.{Bad, CutShort, Done}
-use Rattle.fmp_law_tokens.proofs.Cuts.{cut_before}
+use Rattle.fmp_law_config.proofs.Cuts.{cut_before}
 use Rattle.fmp_law_config.specs.FirstFaults.{IsOfEnd, HaveNoFault, FaultAtToken, FirstFault}
 use Rattle.fmp_law_config.proofs.Configured.{setup_read}
 use Rattle.fmp_law_config.proofs.Results.{each-append, each-cons, each-none}

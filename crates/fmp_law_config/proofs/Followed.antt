@@ -11,7 +11,7 @@ use Rattle.fmp_config_statements.specs.Words.{Word, is_mark}
 use Rattle.fmp_config.specs.declared.draft.OpenClass.{OpenClass}
 use Rattle.fmp_config.specs.Drafts.{Draft}
 use Rattle.fmp_config.specs.Reading.{ends_class}
-use Rattle.fmp_law_tokens.specs.Tokens.{Glyph, glyph_of}
+use Rattle.fmp_law_config.specs.Tokens.{Glyph, glyph_of}
 use Rattle.fmp_law_config.specs.Elements.{Element, Plain, Defined, Skipped, is_plain, identifier, symbol, plain_of, Definition, definitions_of}
 use Rattle.fmp_law_config.specs.Phrases.{Phrase}
 use Rattle.fmp_law_config.specs.Clauses.{Clause, Statement, EndOfClass, Defining, Skipping, SpellsClause, SpellsClauses}

@@ -18,7 +18,7 @@ use Rattle.fmp_config_statements.specs.Parts.{is_item, is_barred, is_stop, next_
 use Rattle.fmp_config_statements.specs.Pieces.{Pieces, kept_from}
 use Rattle.fmp_config_statements.specs.Table.{parts_of}
 use Rattle.fmp_config_statements.specs.Words.{word_of, is_mark}
-use Rattle.fmp_law_tokens.specs.Tokens.{Glyph, glyph_of}
+use Rattle.fmp_law_config.specs.Tokens.{Glyph, glyph_of}
 use Rattle.fmp_law_config.specs.Elements.{symbol}
 use Rattle.fmp_law_config.specs.Phrases.{Phrase, with_word, with_words, may_be, separated, SpellsParts}
 use Rattle.fmp_law_config.proofs.Stages.{phrase_of}

@@ -14,7 +14,7 @@ use Rattle.fmp_config_statements.specs.Forms.{Form}
 use Rattle.fmp_config.specs.Drafts.{Draft}
 use Rattle.fmp_config.specs.Judging.{define}
 use Rattle.fmp_config.specs.Reading.{State, take_token}
-use Rattle.fmp_law_tokens.specs.Tokens.{Glyph, glyph_of}
+use Rattle.fmp_law_config.specs.Tokens.{Glyph, glyph_of}
 use Rattle.fmp_law_config.specs.Elements.{Element, Plain, Defined, Skipped, is_plain, identifier, directive_of, Defines, Skips, SpellsElements}
 use Rattle.fmp_law_config.proofs.Results.{ok_is, each-cons, each_parts, each-none}
 use Rattle.fmp_law_config.proofs.Numerals.{no_bytes, name_some}

@@ -13,9 +13,9 @@ use Rattle.fmp_config_tokens.specs.declared.tokens.TokenKind.TheVariants.{Identi
 use Rattle.fmp_config_tokens.specs.Lexing.{Lexeme}
 use Rattle.fmp_config_statements.specs.Parts.{is_barred}
 use Rattle.fmp_config_statements.specs.Words.{is_one, is_mark, is_symbol_kind}
-use Rattle.fmp_law_tokens.specs.Parts.{is_empty, is_number}
-use Rattle.fmp_law_tokens.specs.Tokens.{Glyph, glyph_of}
-use Rattle.fmp_law_tokens.proofs.Bytes.{word_no_letter}
+use Rattle.fmp_law_config.specs.Parts.{is_empty, is_number}
+use Rattle.fmp_law_config.specs.Tokens.{Glyph, glyph_of}
+use Rattle.fmp_law_config.proofs.Bytes.{word_no_letter}
 use Rattle.fmp_law_config.specs.Elements.{symbol}
 use Rattle.fmp_law_config.specs.Phrases.{may_be_free}
 use Rattle.fmp_law_config.proofs.Numerals.{is_signed}

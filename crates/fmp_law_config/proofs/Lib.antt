@@ -1,3 +1,10 @@
+pub mod Bytes  -- What one byte does to the reader of tokens.
+pub mod Passing  -- What is spelled is read: comments, strings and words, whose bytes the reader passes one by one.
+pub mod TokensRead  -- The tokens that are spelled are read.
+pub mod Left  -- What a text is made of, that is left after what was read: in gaps, words, strings and comments.
+pub mod Gaps  -- What is read from a gap on is spelled.
+pub mod TokensSpelled  -- The tokens that are read are spelled.
+pub mod Cuts  -- A text can be cut before each of its tokens.
 pub mod Results  -- The parts of what was read.
 pub mod Numerals  -- Numbers: what is read is spelled, and what is spelled is read.
 pub mod Attributed  -- Attributes: what is read is spelled, and what is spelled is read.

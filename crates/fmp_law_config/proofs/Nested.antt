@@ -13,7 +13,7 @@ use Rattle.fmp_config_statements.specs.declared.parts.Scan.{Scan}
 use Rattle.fmp_config_statements.specs.declared.parts.Scan.TheVariants.{Free}
 use Rattle.fmp_config_statements.specs.Parts.{is_barred, is_stop, next_free}
 use Rattle.fmp_config_statements.specs.Words.{is_one, is_mark, is_symbol_kind}
-use Rattle.fmp_law_tokens.specs.Tokens.{Glyph}
+use Rattle.fmp_law_config.specs.Tokens.{Glyph}
 use Rattle.fmp_law_config.specs.Elements.{symbol}
 use Rattle.fmp_law_config.specs.Phrases.{texts, may_be_free, IsFree}
 use Rattle.fmp_law_config.proofs.Results.{none_is}

@@ -10,8 +10,8 @@ use Rattle.fmp_config_tokens.specs.declared.tokens.TokenKind.{TokenKind}
 use Rattle.fmp_config_tokens.specs.declared.tokens.TokenKind.TheVariants as kinds
 use Rattle.fmp_config_tokens.specs.Lexing.{Lexeme}
 use Rattle.fmp_config_tokens.specs.Steps.{following}
-use Rattle.fmp_law_tokens.specs.Parts.{Part, Blank, BlockComment, LineComment, JoinedLine, Identifier, Digits, Symbol, Quoted, Hash, LineEnd, TextEnd, is_directive, is_line_start, is_empty, is_number, stands_alone, opens_comment, may_stand}
-use Rattle.fmp_law_tokens.specs.Tokens.{Glyph, glyph_of, glyphs_of, place_after, SpellsParts, SpellsTokens}
+use Rattle.fmp_law_config.specs.Parts.{Part, Blank, BlockComment, LineComment, JoinedLine, Identifier, Digits, Symbol, Quoted, Hash, LineEnd, TextEnd, is_directive, is_line_start, is_empty, is_number, stands_alone, opens_comment, may_stand}
+use Rattle.fmp_law_config.specs.Tokens.{Glyph, glyph_of, glyphs_of, place_after, SpellsParts, SpellsTokens}
 use Rattle.fmp_law_config.specs.Elements.{is_plain}
 use Rattle.fmp_law_config.proofs.Glyphs.{is_glyph}
 

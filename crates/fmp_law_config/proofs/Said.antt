@@ -14,7 +14,7 @@ use Rattle.fmp_config.specs.Drafts.{Draft}
 use Rattle.fmp_config.specs.Places.{place_fault}
 use Rattle.fmp_config.specs.Judging.{define}
 use Rattle.fmp_config.specs.Reading.{State, ends_class}
-use Rattle.fmp_law_tokens.specs.Tokens.{Glyph, glyph_of}
+use Rattle.fmp_law_config.specs.Tokens.{Glyph, glyph_of}
 use Rattle.fmp_law_config.specs.Elements.{Element, Plain, Defined, Skipped, is_plain, identifier, plain_of, definitions_of, symbol}
 use Rattle.fmp_law_config.specs.Phrases.{Phrase}
 use Rattle.fmp_law_config.specs.Clauses.{Clause, Statement, EndOfClass, Defining, Skipping, SpellsStatement, SpellsClause, SpellsClauses}

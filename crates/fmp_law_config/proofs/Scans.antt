@@ -19,7 +19,7 @@ use Rattle.fmp_config_statements.specs.Forms.{Form, advanced, misfit, next_part,
 use Rattle.fmp_config_statements.specs.Parts.{is_item, next_free, next_method, scan_of, next_of, may_end}
 use Rattle.fmp_config_statements.specs.Pieces.{Pieces, with_item, kept_from}
 use Rattle.fmp_config_statements.specs.Words.{Word, word_of, is_mark}
-use Rattle.fmp_law_tokens.specs.Tokens.{Glyph, glyph_of}
+use Rattle.fmp_law_config.specs.Tokens.{Glyph, glyph_of}
 use Rattle.fmp_law_config.specs.Elements.{symbol}
 use Rattle.fmp_law_config.specs.Phrases.{Phrase, with_word, with_words, may_be, separated, SpellsMethod, SpellsParts}
 use Rattle.fmp_law_config.proofs.Results.{none_is, ok_is, err_is}

@@ -24,7 +24,7 @@ use Rattle.fmp_config.specs.Drafts.{Draft}
 use Rattle.fmp_config.specs.Places.{place_fault}
 use Rattle.fmp_config.specs.Judging.{judged}
 use Rattle.fmp_config.specs.Reading.{State, statement_at, placed, ends_class, first_token, form_read, form_token, code_token}
-use Rattle.fmp_law_tokens.specs.Tokens.{Glyph, glyph_of}
+use Rattle.fmp_law_config.specs.Tokens.{Glyph, glyph_of}
 use Rattle.fmp_law_config.specs.Elements.{identifier, is_plain}
 use Rattle.fmp_law_config.proofs.Results.{ok_is, err_is}
 use Rattle.fmp_law_config.proofs.Directives.{identifier_is}

@@ -13,7 +13,7 @@ use Rattle.fmp_config_statements.specs.Forms.{Form, advanced, misfit, next_part,
 use Rattle.fmp_config_statements.specs.Parts.{scan_of, next_of, may_end, is_nothing}
 use Rattle.fmp_config_statements.specs.Pieces.{Pieces, kept_from}
 use Rattle.fmp_config_statements.specs.Words.{word_of}
-use Rattle.fmp_law_tokens.specs.Tokens.{Glyph, glyph_of}
+use Rattle.fmp_law_config.specs.Tokens.{Glyph, glyph_of}
 use Rattle.fmp_law_config.specs.Phrases.{Phrase, with_words, separated, SpellsParts}
 use Rattle.fmp_law_config.proofs.Results.{ok_is, err_is}
 use Rattle.fmp_law_config.proofs.Stages.{phrase_of}

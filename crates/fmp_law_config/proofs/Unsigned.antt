@@ -9,7 +9,7 @@ use Rattle.fmp_config_statements.specs.declared.parts.Scan.TheVariants.{Mark, On
 use Rattle.fmp_config_statements.specs.Forms.{Form, form_step}
 use Rattle.fmp_config_statements.specs.Pieces.{Pieces, with_item, kept_from, no_pieces}
 use Rattle.fmp_config_statements.specs.Words.{Word, word_of}
-use Rattle.fmp_law_tokens.specs.Tokens.{glyph_of}
+use Rattle.fmp_law_config.specs.Tokens.{glyph_of}
 use Rattle.fmp_law_config.proofs.Numerals.{is_signed}
 use Rattle.fmp_law_config.proofs.Stages.{phrase_of, AreUnsigned}
 use Rattle.fmp_law_config.proofs.Glyphs.{is_glyph, glyph_unsigned}

@@ -18,7 +18,7 @@ use Rattle.fmp_config_statements.specs.Words.{Word, word_of, is_directive_kind, 
 use Rattle.fmp_config.specs.Drafts.{Draft}
 use Rattle.fmp_config.specs.Judging.{define, ended}
 use Rattle.fmp_config.specs.Reading.{State, code_token, directive_token, take_token}
-use Rattle.fmp_law_tokens.specs.Tokens.{Glyph, glyph_of}
+use Rattle.fmp_law_config.specs.Tokens.{Glyph, glyph_of}
 use Rattle.fmp_law_config.specs.Elements.{is_plain}
 use Rattle.fmp_law_config.proofs.Results.{ok_is, err_is, each-cons, each_parts, each-none, each-append}
 use Rattle.fmp_law_config.proofs.Nesting.{IsWhole}

@@ -4,7 +4,7 @@ use Rattle.std.specs.Prelude.{◌≡◌, List, [], ◌∷◌, ◌++◌}
 use Rattle.fmp_bytes.specs.Bytes.{close_brace}
 use Rattle.fmp_config_statements.specs.declared.table.StatementName.{StatementName}
 use Rattle.fmp_config_statements.specs.Table.{text_of, parts_of}
-use Rattle.fmp_law_tokens.specs.Tokens.{Glyph}
+use Rattle.fmp_law_config.specs.Tokens.{Glyph}
 use Rattle.fmp_law_config.specs.Elements.{Element, Plain, Defined, Skipped, Definition, identifier, symbol, plain_of, definitions_of}
 use Rattle.fmp_law_config.specs.Phrases.{Phrase, no_words, SpellsParts}
 

@@ -6,7 +6,7 @@ use Rattle.fmp_bytes.specs.Spelling.{SpellsUnsigned}
 use Rattle.fmp_names.specs.Names.{is_name}
 use Rattle.fmp_config_tokens.specs.declared.tokens.TokenKind.TheVariants as kinds
 use Rattle.fmp_config_statements.specs.Words.{is_directive_kind, is_end_kind}
-use Rattle.fmp_law_tokens.specs.Tokens.{Glyph}
+use Rattle.fmp_law_config.specs.Tokens.{Glyph}
 
 -- a token of a statement, a name with the number for which it stands from here on, or a directive without effect
 pub data Element : Type 0 where

@@ -8,7 +8,7 @@ use Rattle.fmp_config_statements.specs.declared.fault.ConfigKind.TheVariants as 
 use Rattle.fmp_config_tokens.specs.Lexing.{Lexeme, lexed_text}
 use Rattle.fmp_config_tokens.specs.declared.tokens.End.{End}
 use Rattle.fmp_config_tokens.specs.declared.tokens.End.TheVariants.{Bad, CutShort, Done}
-use Rattle.fmp_law_tokens.specs.Cuts.{IsCutAfter}
+use Rattle.fmp_law_config.specs.Cuts.{IsCutAfter}
 use Rattle.fmp_law_config.specs.Grammar.{Configures}
 
 -- a fault of the end of the tokens: a byte that may not stand there, a string or a comment that is open, or else a statement or a class that is open, or no

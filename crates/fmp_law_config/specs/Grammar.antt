@@ -3,7 +3,7 @@
 use Rattle.std.specs.Prelude.{◌≡◌, ℕ, false, List, None}
 use Rattle.fmp_config.specs.Drafts.{is_start}
 use Rattle.fmp_setup.specs.Setup.{Setup}
-use Rattle.fmp_law_tokens.specs.Tokens.{Glyph, SpellsTokens}
+use Rattle.fmp_law_config.specs.Tokens.{Glyph, SpellsTokens}
 use Rattle.fmp_law_config.specs.Elements.{Element, SpellsElements}
 use Rattle.fmp_law_config.specs.Clauses.{Clause, SpellsClauses}
 use Rattle.fmp_law_config.specs.Stages.{Stage, no_stage}

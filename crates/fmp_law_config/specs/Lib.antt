@@ -1,3 +1,6 @@
+pub mod Parts  -- The parts of a text, apart from how they are read: how each is written, and where it may stand.
+pub mod Tokens  -- The grammar of tokens, apart from how they are read: which texts are spelled by which tokens.
+pub mod Cuts  -- Texts that are cut before a token.
 pub mod Elements  -- Directives, apart from how they are read
 pub mod Phrases  -- The parts of statements, apart from how they are read: which tokens may stand in them.
 pub mod Clauses  -- What a text says, one after the other, apart from how it is read.

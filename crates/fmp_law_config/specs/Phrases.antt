@@ -10,7 +10,7 @@ use Rattle.fmp_config_statements.specs.declared.parts.Item.TheVariants as items
 use Rattle.fmp_config_statements.specs.declared.parts.Part.{Part}
 use Rattle.fmp_config_statements.specs.declared.parts.Part.TheVariants as parts
 use Rattle.fmp_config_statements.specs.Words.{is_digits_kind, is_text_kind}
-use Rattle.fmp_law_tokens.specs.Tokens.{Glyph}
+use Rattle.fmp_law_config.specs.Tokens.{Glyph}
 use Rattle.fmp_law_config.specs.Elements.{symbol}
 
 -- what the words of a statement are: its name, its function, its two numbers, and its attributes or listed numbers; none where it has no such word

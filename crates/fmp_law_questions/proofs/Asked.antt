@@ -13,7 +13,8 @@ use Rattle.fmp_search_question.specs.Reading.{Draft, after_word, nothing_read, w
 use Rattle.fmp_search_words.specs.Spots.{is_number}
 use Rattle.fmp_law_questions.specs.Rows.{SpellsRow}
 use Rattle.fmp_law_questions.specs.Grammar.{Negated, SpellsItem, SpellsMoment, SpellsPart, SpellsPattern, SpellsWanted, is_pattern_word, placed, spaced}
-use Rattle.fmp_law_questions.proofs.Steps.{Leads, fresh, led, led_first, led_on}
+use Rattle.fmp_law_questions.proofs.Led.{led_first, led_on}
+use Rattle.fmp_law_questions.proofs.Steps.{Leads, fresh, led}
 use Rattle.fmp_law_questions.proofs.Patterns.{longer_by-first, one_parts, other_wanted, some_length, words_taken}
 
 -- ---- an item
@@ -78,7 +79,7 @@ module _ (names : NameLists) (steps : List Step) (times : Option ℕ) (moment : 
   negated_led false words wanted s = wanted_led false words wanted s
   negated_led true words wanted s =
       let read = wanted_led true s.0 wanted s.2 in
-      (read.0, ap (led names (begun false)) s.1 ∙ led_first names (begun false) (begun true) (codes "not") s.0 not_taken ∙ read.1, read.2)
+      (read.0, ap (led names (begun false)) s.1 ∙ led_first (after_word names) (begun false) (begun true) (codes "not") s.0 not_taken ∙ read.1, read.2)
 
   pub item_led : (words : List (List ℕ)) (item : Item) → SpellsItem names words item
       → Leads names (fresh steps times moment parts items) words with_pattern (with_item item)
@@ -98,8 +99,8 @@ module _ {A : Type 0} (names : NameLists) (Spells : List (List ℕ) → A → Ty
       let first = one_led before s.0 one s.3 in
       let others = row_led (before ++ one ∷ []) s.1 (next ∷ more) s.4 in (
         others.0,
-        ap (led names (added before)) s.2 ∙ led_on names (added before) first.0 s.0 (between ∷ s.1) first.1
-            ∙ led_first names first.0 (added (before ++ one ∷ [])) between s.1 (closed first.0 _ first.2) ∙ others.1,
+        ap (led names (added before)) s.2 ∙ led_on (after_word names) (added before) first.0 s.0 (between ∷ s.1) first.1
+            ∙ led_first (after_word names) first.0 (added (before ++ one ∷ [])) between s.1 (closed first.0 _ first.2) ∙ others.1,
         others.2 ∙ ap (λ (row : List A). Some (added row)) (append_assoc before (one ∷ []) (next ∷ more)),
       )
 

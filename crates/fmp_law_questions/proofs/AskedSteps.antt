@@ -12,7 +12,8 @@ use Rattle.fmp_search_pattern.specs.Items.{Item}
 use Rattle.fmp_search_question.specs.Reading.{Draft, after_word, ended, nothing_read, question_in, step_of, with_moment, with_part, with_pattern, with_step}
 use Rattle.fmp_law_questions.specs.Rows.{SpellsRow}
 use Rattle.fmp_law_questions.specs.Grammar.{Asks, SpellsMoment, SpellsStep, SpellsTimes, SpellsWithout, repeated}
-use Rattle.fmp_law_questions.proofs.Steps.{Leads, fresh, led, led_first, led_on, words_led}
+use Rattle.fmp_law_questions.proofs.Led.{led_first, led_on, words_led}
+use Rattle.fmp_law_questions.proofs.Steps.{Leads, fresh, led}
 use Rattle.fmp_law_questions.proofs.Counts.{count_led}
 use Rattle.fmp_law_questions.proofs.Asked.{moment_led}
 
@@ -46,13 +47,13 @@ module _ (names : NameLists) (steps : List Step) where
         → Leads names (fresh steps times None [] []) (words ++ rest) with_step (after_steps (replicate (unwrap_or times 1) (step_with moment without)))
     moments_led None none =
         let first = moment_led names steps times None [] words moment is_moment in
-        (first.0, led_on names (fresh steps times None [] []) first.0 words rest first.1 ∙ ap (led names first.0) none, step_ends first.0 times None moment first.2)
+        (first.0, led_on (after_word names) (fresh steps times None [] []) first.0 words rest first.1 ∙ ap (led names first.0) none, step_ends first.0 times None moment first.2)
     moments_led (Some unwanted) s =
         let first = moment_led names steps times None [] words moment is_moment in
         let second = moment_led names steps times (Some moment) [] s.0 unwanted s.2 in (
           second.0,
-          led_on names (fresh steps times None [] []) first.0 words rest first.1 ∙ ap (led names first.0) s.1
-              ∙ led_first names first.0 (fresh steps times (Some moment) [] []) (codes "without") s.0 (without_taken first.0 times moment first.2) ∙ second.1,
+          led_on (after_word names) (fresh steps times None [] []) first.0 words rest first.1 ∙ ap (led names first.0) s.1
+              ∙ led_first (after_word names) first.0 (fresh steps times (Some moment) [] []) (codes "without") s.0 (without_taken first.0 times moment first.2) ∙ second.1,
           step_ends second.0 times (Some moment) unwanted second.2,
         )
 
@@ -63,7 +64,7 @@ module _ (names : NameLists) (steps : List Step) where
       let read = moments_led times.0 s.middle s.rest step.moment s.moment step.without s.without in (
         read.0,
         ap (led names (fresh steps None None [] [])) s.parts
-            ∙ led_on names (fresh steps None None [] []) (fresh steps times.0 None [] []) s.front (s.middle ++ s.rest) times.1 ∙ read.1,
+            ∙ led_on (after_word names) (fresh steps None None [] []) (fresh steps times.0 None [] []) s.front (s.middle ++ s.rest) times.1 ∙ read.1,
         read.2 ∙ ap (λ (k : ℕ). Some (after_steps (replicate k step))) times.2,
       )
 
@@ -90,8 +91,8 @@ steps_led names steps words (one ∷ next ∷ more) s few =
     let closed = then_taken names first.0 (after_steps names steps (replicate one.0 one.1)) first.2 fewer in
     let others = steps_led names (steps ++ replicate one.0 one.1) s.1 (next ∷ more) s.4 (subst (λ (all : List Step). length all ≤ 255) (sym whole) few) in (
       others.0,
-      ap (led names (fresh steps None None [] [])) s.2 ∙ led_on names (fresh steps None None [] []) first.0 s.0 (codes "then" ∷ s.1) first.1
-          ∙ led_first names first.0 (after_steps names steps (replicate one.0 one.1)) (codes "then") s.1 closed ∙ others.1,
+      ap (led names (fresh steps None None [] [])) s.2 ∙ led_on (after_word names) (fresh steps None None [] []) first.0 s.0 (codes "then" ∷ s.1) first.1
+          ∙ led_first (after_word names) first.0 (after_steps names steps (replicate one.0 one.1)) (codes "then") s.1 closed ∙ others.1,
       others.2 ∙ ap (λ (all : List Step). Some (fresh all None None [] [])) whole,
     )
 
@@ -118,7 +119,7 @@ asked_is_read names text question s =
     let few : length (repeated row.0) ≤ 255 = subst (λ (q : List Step). length q ≤ 255) row.2 s.few in
     let read = steps_led names [] s.words row.0 row.1 few in
     let pieces : pieces_of space text ≡ s.words = ap (pieces_of space) s.parts ∙ pieces_of-join space s.words (some_words names s.words _ read) s.cut in
-    let all = words_led names (length text) nothing_read read.0 s.words read.1 in
+    let all = words_led (after_word names) (length text) nothing_read read.0 s.words read.1 in
     let ends = ended_so (length text) read.0 _ read.2 few in
     let same = row.2 in
     rw (pieces, all, ends, same) refl

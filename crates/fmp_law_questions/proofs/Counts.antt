@@ -26,7 +26,8 @@ use Rattle.fmp_search_question.specs.Reading.{Draft, after_word, nothing_read, n
 use Rattle.fmp_search_words.specs.Spots.{may_follow}
 use Rattle.fmp_search_words.specs.Words.{is_fine, is_outside, runs_of}
 use Rattle.fmp_law_questions.specs.Grammar.{SpellsCount, is_pattern_word, own_words, spaced}
-use Rattle.fmp_law_questions.proofs.Steps.{fresh, led, led_first}
+use Rattle.fmp_law_questions.proofs.Led.{led_first}
+use Rattle.fmp_law_questions.proofs.Steps.{fresh, led}
 use Rattle.fmp_law_questions.proofs.Patterns.{next_place, some_length, word_taken}
 
 -- ---- digits are a word of a pattern
@@ -139,6 +140,6 @@ pub count_led : (names : NameLists) (steps : List Step) (digits : List ℕ) (n :
     → led names (fresh steps None None [] []) (digits ∷ codes "times" ∷ []) ≡ Some (fresh steps (Some n) None [] [])
 count_led names steps digits n s =
     let place = number_place names digits s.decimal in
-    led_first names (fresh steps None None [] []) (numbered steps digits place.0) digits (codes "times" ∷ [])
+    led_first (after_word names) (fresh steps None None [] []) (numbered steps digits place.0) digits (codes "times" ∷ [])
     (word_taken names (fresh steps None None [] []) digits place.0 (digits_word names digits s.decimal) s.short place.1)
-    ∙ led_first names (numbered steps digits place.0) (fresh steps (Some n) None [] []) (codes "times") [] (times_taken names steps digits n place.0 s)
+    ∙ led_first (after_word names) (numbered steps digits place.0) (fresh steps (Some n) None [] []) (codes "times") [] (times_taken names steps digits n place.0 s)

@@ -22,9 +22,10 @@ use Rattle.fmp_law_questions.specs.Rows.{SpellsRow}
 use Rattle.fmp_law_questions.specs.Grammar.{Negated, SpellsItem, SpellsPart, SpellsWanted, is_pattern_word}
 use Rattle.fmp_law_questions.specs.ForEver.{AsksForEver, AsksForEverWords, SpellsLasting, SpellsPlain, is_end}
 use Rattle.fmp_law_questions.proofs.Patterns.{or_parts, one_parts, some_length}
-use Rattle.fmp_law_questions.proofs.Steps.{fresh, led, led_parts}
+use Rattle.fmp_law_questions.proofs.Led.{led_first, led_on, led_parts, words_led}
+use Rattle.fmp_law_questions.proofs.Steps.{fresh, led}
 use Rattle.fmp_law_questions.proofs.Taken.{Taken, and, count, negation, next, or, plain, refusal, taken, when_false, when_true, without}
-use Rattle.fmp_law_questions.proofs.LastingSteps.{led_to, led_to_first, led_to_on, parts_so, words_led_to}
+use Rattle.fmp_law_questions.proofs.LastingSteps.{led_to, parts_so}
 use Rattle.fmp_law_questions.proofs.Asked.{part_led}
 
 -- ---- words of a moment
@@ -147,9 +148,9 @@ pub lifted : (names : NameLists) (lasting : List Lasting) (negated : Bool) (word
     → led names d words ≡ Some e → led_to names (parts_so lasting negated d stage.Words) words ≡ Some (parts_so lasting negated e stage.Words)
 lifted names lasting negated [] d e inner joined free is = let same : d ≡ e = cc in ap (λ (x : Draft). Some (parts_so lasting negated x stage.Words)) same
 lifted names lasting negated (word ∷ words) d e inner joined free is =
-    let p = led_parts names d e word words is in
+    let p = led_parts (reading.after_word names) d e word words is in
     let some = some_read names d p.0 word inner.0 p.1 in
-    led_to_first names (parts_so lasting negated d stage.Words) (parts_so lasting negated p.0 stage.Words) word words (goes_on names lasting negated d p.0 word inner.0 joined.0 free p.1)
+    led_first (after_word names) (parts_so lasting negated d stage.Words) (parts_so lasting negated p.0 stage.Words) word words (goes_on names lasting negated d p.0 word inner.0 joined.0 free p.1)
     ∙ lifted names lasting negated words p.0 e inner.1 joined.1 (free_after lasting negated p.0 words some) p.2
 
 -- ---- the words of a moment
@@ -267,10 +268,10 @@ module _ (names : NameLists) (lasting : List Lasting) where
       let read = part_led names [] None None [] [] front part s.spelled in
       let inner = part_inner names front part s.spelled s.there s.inner in
       let all = lifted names lasting negated front nothing_read read.0 inner joined free read.1 in
-      led_to_on names (parts_so lasting negated nothing_read stage.Words) (parts_so lasting negated read.0 stage.Words) front (codes "for" ∷ codes "ever" ∷ []) all
-      ∙ led_to_first names (parts_so lasting negated read.0 stage.Words) (parts_so lasting negated (fresh [] None None [] part) stage.For) (codes "for") (codes "ever" ∷ [])
+      led_on (after_word names) (parts_so lasting negated nothing_read stage.Words) (parts_so lasting negated read.0 stage.Words) front (codes "for" ∷ codes "ever" ∷ []) all
+      ∙ led_first (after_word names) (parts_so lasting negated read.0 stage.Words) (parts_so lasting negated (fresh [] None None [] part) stage.For) (codes "for") (codes "ever" ∷ [])
       (for_taken negated read.0 part read.2)
-      ∙ led_to_first names (parts_so lasting negated (fresh [] None None [] part) stage.For) (ever_at (lasting ++ lasting_so negated part ∷ [])) (codes "ever") [] (ever_taken negated part)
+      ∙ led_first (after_word names) (parts_so lasting negated (fresh [] None None [] part) stage.For) (ever_at (lasting ++ lasting_so negated part ∷ [])) (codes "ever") [] (ever_taken negated part)
 
 -- no `deadlock` stands where it would stand for itself
 abbrev pub IsOpen : List Lasting → List (List ℕ) → Type 0
@@ -310,7 +311,7 @@ lasting_led names lasting words l s is_open =
         (free_open lasting nothing_read s.front (open_front lasting words s.front (codes "for" ∷ codes "ever" ∷ []) s.parts is_open))
     go true m one =
         ap (λ (ws : List (List ℕ)). led_to names (words_at lasting) (ws ++ (codes "for" ∷ codes "ever" ∷ []))) m.1
-        ∙ led_to_first names (words_at lasting) (parts_so lasting true nothing_read stage.Words) (codes "not") (m.0 ++ (codes "for" ∷ codes "ever" ∷ [])) (not_begins names lasting)
+        ∙ led_first (after_word names) (words_at lasting) (parts_so lasting true nothing_read stage.Words) (codes "not") (m.0 ++ (codes "for" ∷ codes "ever" ∷ [])) (not_begins names lasting)
         ∙ moment_led names lasting true m.0 s.part m.2 (item_joined names m.0 s.part m.2.spelled m.2.there (one refl)) (free_negated lasting nothing_read m.0)
 
 some_more : (lasting : List Lasting) (l : Lasting) → eqb (length (lasting ++ l ∷ [])) 0 ≡ false
@@ -324,8 +325,8 @@ row_led_to names lasting words (one ∷ []) s is_open = lasting_led names lastin
 row_led_to names lasting words (one ∷ second ∷ more) s is_open =
     let following = lasting ++ one ∷ [] in
     ap (led_to names (words_at lasting)) s.2
-    ∙ led_to_on names (words_at lasting) (ever_at following) s.0 (codes "or" ∷ s.1) (lasting_led names lasting s.0 one s.3 (open_front lasting words s.0 (codes "or" ∷ s.1) s.2 is_open))
-    ∙ led_to_first names (ever_at following) (words_at following) (codes "or") s.1 (or_taken names following)
+    ∙ led_on (after_word names) (words_at lasting) (ever_at following) s.0 (codes "or" ∷ s.1) (lasting_led names lasting s.0 one s.3 (open_front lasting words s.0 (codes "or" ∷ s.1) s.2 is_open))
+    ∙ led_first (after_word names) (ever_at following) (words_at following) (codes "or") s.1 (or_taken names following)
     ∙ row_led_to names following s.1 (second ∷ more) s.4 (inl (some_more lasting one))
     ∙ ap (λ (ls : List Lasting). Some (ever_at ls)) (append_assoc lasting (one ∷ []) (second ∷ more))
 
@@ -367,8 +368,8 @@ words_lead names words lasting (inl (inr s)) =
     let before = parts_so (waits_but names []) false nothing_read stage.But in
     let end = parts_so (waits_but names (pieces_of comma s.0)) false nothing_read stage.Named in
     let there : led_to names no_parts words ≡ Some end =
-    ap (led_to names no_parts) s.1 ∙ led_to_on names no_parts before (codes "deadlock" ∷ codes "but" ∷ []) (s.0 ∷ []) (but_led names)
-    ∙ led_to_first names before end s.0 [] (list_taken names s.0 s.2 s.3) in
+    ap (led_to names no_parts) s.1 ∙ led_on (after_word names) no_parts before (codes "deadlock" ∷ codes "but" ∷ []) (s.0 ∷ []) (but_led names)
+    ∙ led_first (after_word names) before end s.0 [] (list_taken names s.0 s.2 s.3) in
     record { end = end; led_there = there; may = refl; is = sym s.4; some = first_word names words end there refl }
 words_lead names words lasting (inr s) =
     let there = row_led_to names [] words lasting s.1 (inr s.0) in
@@ -382,7 +383,7 @@ unfolding lasting_in
 lasting_is_read names text lasting s =
     let leads = words_lead names s.words lasting s.asked in
     let pieces : pieces_of space text ≡ s.words = ap (pieces_of space) s.parts ∙ pieces_of-join space s.words leads.some s.cut in
-    let all = words_led_to names (length text) no_parts leads.end s.words leads.led_there in
+    let all = words_led (after_word names) (length text) no_parts leads.end s.words leads.led_there in
     let ends = ended_so (length text) leads.end leads.may (subst (λ (ls : List Lasting). length ls ≤ 64) (sym leads.is) s.few) in
     let same = leads.is in
     rw (pieces, all, ends, same) refl

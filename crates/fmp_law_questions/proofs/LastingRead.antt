@@ -14,15 +14,16 @@ use Rattle.fmp_search_question.specs.declared.fault.QuestionFault.{QuestionFault
 use Rattle.fmp_search_question.specs.declared.fault.QuestionFault.TheVariants.{TooLong, BadForm}
 use Rattle.fmp_search_question.specs.declared.stage.Stage.{Stage}
 use Rattle.fmp_search_question.specs.declared.stage.Stage.TheVariants as stage
-use Rattle.fmp_search_question.specs.Reading.{Draft, nothing_read, result_then, with_pattern}
+use Rattle.fmp_search_question.specs.Reading.{Draft, nothing_read, with_pattern}
 use Rattle.fmp_search_question.specs.Waiting.{comma, waits_but}
-use Rattle.fmp_search_question.specs.Lasting.{Parts, after_word, after_words, are_tasks, begins_so, ended, in_stage, is_fresh, lasting_in, may_end, no_parts, with_part}
+use Rattle.fmp_search_question.specs.Lasting.{Parts, after_word, are_tasks, begins_so, ended, in_stage, is_fresh, lasting_in, may_end, no_parts, with_part}
+use Rattle.fmp_search_question.specs.WordByWord.{after_words, result_then}
 use Rattle.fmp_law_questions.specs.Rows.{SpellsRow}
 use Rattle.fmp_law_questions.specs.Grammar.{Negated, SpellsItem, SpellsPart}
 use Rattle.fmp_law_questions.specs.ForEver.{AsksForEver, AsksForEverWords, SpellsLasting, SpellsPlain}
 use Rattle.fmp_law_questions.proofs.Begun.{after_item, empty_begun, item_of, item_spelled, negated_spelled, not_words}
 use Rattle.fmp_law_questions.proofs.Closed.{Closed, closed_more, closed_row}
-use Rattle.fmp_law_questions.proofs.LastingSteps.{led_to, led_to_parts, led_to_words}
+use Rattle.fmp_law_questions.proofs.Led.{led_keeps, led_words}
 use Rattle.fmp_law_questions.proofs.LastingTaken.{IsMomentRead, TakenIn, all_more, all_wait, before_end, choose_parts, moment_moves, none_of, nothing_of_moment, of_moment, same_items, staged, taken_in}
 use Rattle.fmp_law_questions.proofs.Patterns.{not_parts, some_length}
 
@@ -227,15 +228,6 @@ module _ (names : NameLists) (words : List (List ℕ)) (d e : Parts) (word : Lis
 
 -- ---- all words
 
-all_so_far : (names : NameLists) (before words : List (List ℕ)) (d e : Parts) → IsSoFar names before d → led_to names d words ≡ Some e → IsSoFar names (before ++ words) e
-all_so_far names before [] d e so is =
-    let same : d ≡ e = cc in
-    subst (λ (f : Parts). IsSoFar names (before ++ []) f) same (subst (λ (ws : List (List ℕ)). IsSoFar names ws d) (sym (append-nil before)) so)
-all_so_far names before (word ∷ words) d e so is =
-    let p = led_to_parts names d e word words is in
-    subst (λ (ws : List (List ℕ)). IsSoFar names ws e) (append_assoc before (word ∷ []) words)
-    (all_so_far names (before ++ word ∷ []) words p.0 e (moves names before d p.0 word so p.1) p.2)
-
 not_there : (s t : Stage) → s ≡ t → may_end t ≡ false → may_end s ≡ true → ⊥
 not_there s t is no_end may = let bad = sym no_end ∙ ap may_end (sym is) ∙ may in absurd cc
 
@@ -280,10 +272,10 @@ module _ (bytes : ℕ) (lasting : List Lasting) where
 pub lasting_is_asked : (names : NameLists) (text : List ℕ) (lasting : List Lasting) → lasting_in names text ≡ Ok lasting → AsksForEver names text lasting
 unfolding lasting_in
 lasting_is_asked names text lasting is =
-    let p = read_end (length text) lasting (after_words names (length text) no_parts (pieces_of space text)) is in
+    let p = read_end (length text) lasting (after_words (after_word names) (length text) no_parts (pieces_of space text)) is in
     let end = p.2 in
-    let led_so = led_to_words names (length text) no_parts p.0 (pieces_of space text) p.1 in
-    let all = all_so_far names [] (pieces_of space text) no_parts p.0 (at_start refl refl) led_so in
+    let led_so = led_words (after_word names) (length text) no_parts p.0 (pieces_of space text) p.1 in
+    let all = led_keeps (after_word names) (IsSoFar names) (moves names) [] (pieces_of space text) no_parts p.0 (at_start refl refl) led_so in
     record {
       words = pieces_of space text;
       parts = sym (join-pieces_of space text);

@@ -15,7 +15,8 @@ use Rattle.fmp_search_question.specs.Reading.{Draft, after_word, longer, with_wo
 use Rattle.fmp_search_words.specs.Spots.{stepped}
 use Rattle.fmp_search_words.specs.Words.{is_fine, is_printed, runs_of, star}
 use Rattle.fmp_law_questions.specs.Grammar.{is_pattern_word, own_words, placed, spaced}
-use Rattle.fmp_law_questions.proofs.Steps.{led, led_first}
+use Rattle.fmp_law_questions.proofs.Led.{led_first}
+use Rattle.fmp_law_questions.proofs.Steps.{led}
 
 abbrev pub next_place : NameLists → Spot → List ℕ → Option Spot
 next_place names place word = stepped place (spot_of names word)
@@ -139,7 +140,7 @@ words_taken names d (word ∷ words) place each short stand =
     let e = and_parts (is_pattern_word names word) (list_all (is_pattern_word names) words) each in
     let p = placed_parts names d.spot place word words stand in
     let room : length (longer d.pattern word) ≤ 1024 = omega (arith, short, longer_by-grows (longer d.pattern word) words) in
-    led_first names d (record d { pattern = longer d.pattern word; spot = p.0 }) word words (word_taken names d word p.0 e.0 room p.1)
+    led_first (after_word names) d (record d { pattern = longer d.pattern word; spot = p.0 }) word words (word_taken names d word p.0 e.0 room p.1)
     ∙ words_taken names (record d { pattern = longer d.pattern word; spot = p.0 }) words place e.1 short p.2
 
 -- ---- what the words ask for

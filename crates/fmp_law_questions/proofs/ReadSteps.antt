@@ -1,6 +1,6 @@
 -- What is read is asked.
 use Rattle.std.proofs.Common.{◌≡◌, ℕ, ◌≤◌, Bool, true, false, cond, leb, List, [], ◌∷◌, ◌++◌, length, Option}
-use Rattle.std.proofs.Common.{Some, None, Result, Ok, Err, refl, sym, subst, append_assoc, append-nil}
+use Rattle.std.proofs.Common.{Some, None, Result, Ok, Err, refl, sym, subst}
 use Rattle.std.specs.Prelude.{codes}
 use Rattle.std.proofs.lemmas.Bool.{leb-true}
 use Rattle.fmp_bytes.specs.Bytes.{pieces_of, space}
@@ -9,10 +9,11 @@ use Rattle.fmp_names.specs.Names.{NameLists}
 use Rattle.fmp_search_question.specs.declared.fault.QuestionFault.{QuestionFault}
 use Rattle.fmp_search_question.specs.declared.fault.QuestionFault.TheVariants.{TooLong}
 use Rattle.fmp_search_pattern.specs.declared.question.Step.{Step}
-use Rattle.fmp_search_question.specs.Reading.{Draft, after_words, at_place, ended, limited, nothing_read, or_form, question_in, result_then, with_step}
+use Rattle.fmp_search_question.specs.Reading.{Draft, after_word, ended, limited, nothing_read, or_form, question_in, with_step}
+use Rattle.fmp_search_question.specs.WordByWord.{after_words, at_place, result_then}
 use Rattle.fmp_law_questions.specs.Rows.{SpellsRow}
 use Rattle.fmp_law_questions.specs.Grammar.{Asks, AsksWords}
-use Rattle.fmp_law_questions.proofs.Steps.{led, led_parts, led_words}
+use Rattle.fmp_law_questions.proofs.Led.{led_keeps, led_words}
 use Rattle.fmp_law_questions.proofs.Closed.{closed_row}
 use Rattle.fmp_law_questions.proofs.Begun.{no_item}
 use Rattle.fmp_law_questions.proofs.ReadSoFar.{IsRead, SpellsCounted, step_is_read, step_read, steps_are_read}
@@ -37,15 +38,6 @@ nothing_is_read names =
       are_items = refl;
       has_item = no_item names nothing_read refl refl refl;
     }
-
-all_read : (names : NameLists) (before words : List (List ℕ)) (d e : Draft) → IsRead names before d → led names d words ≡ Some e → IsRead names (before ++ words) e
-all_read names before [] d e s is =
-    let same : d ≡ e = cc in
-    subst (λ (f : Draft). IsRead names (before ++ []) f) same (subst (λ (ws : List (List ℕ)). IsRead names ws d) (sym (append-nil before)) s)
-all_read names before (word ∷ words) d e s is =
-    let p = led_parts names d e word words is in
-    subst (λ (ws : List (List ℕ)). IsRead names ws e) (append_assoc before (word ∷ []) words)
-    (all_read names (before ++ word ∷ []) words p.0 e (moves names before d p.0 s word p.1) p.2)
 
 -- after the last word a step is complete
 pub words_asked : (names : NameLists) (words : List (List ℕ)) (d e : Draft) → IsRead names words d → with_step d ≡ Some e → AsksWords names words e.steps
@@ -78,10 +70,10 @@ module _ (bytes : ℕ) (question : List Step) where
 pub read_is_asked : (names : NameLists) (text : List ℕ) (question : List Step) → question_in names text ≡ Ok question → Asks names text question
 unfolding question_in
 read_is_asked names text question is =
-    let p = read_parts (length text) question (after_words names (length text) nothing_read (pieces_of space text)) is in
+    let p = read_parts (length text) question (after_words (after_word names) (length text) nothing_read (pieces_of space text)) is in
     let ends = p.2 in
-    let led_so = led_words names (length text) nothing_read p.0 (pieces_of space text) p.1 in
-    let all = all_read names [] (pieces_of space text) nothing_read p.0 (nothing_is_read names) led_so in
+    let led_so = led_words (after_word names) (length text) nothing_read p.0 (pieces_of space text) p.1 in
+    let all = led_keeps (after_word names) (IsRead names) (λ before d e word kept is. moves names before d e kept word is) [] (pieces_of space text) nothing_read p.0 (nothing_is_read names) led_so in
     record {
       words = pieces_of space text;
       parts = sym (join-pieces_of space text);

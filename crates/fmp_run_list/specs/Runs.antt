@@ -6,7 +6,7 @@ use Rattle.fmp_run_devices.specs.Ends.{Ends, SinkEnd, SourceEnd}
 use Rattle.fmp_run_texts.specs.declared.fault.RunFault.{RunFault}
 use Rattle.fmp_run_texts.specs.declared.fault.RunFault.TheVariants as run
 use Rattle.fmp_run_texts.specs.Texts.{SaysConfig}
-use Rattle.fmp_config_fields.specs.Fields.{lines_in}
+use Rattle.fmp_run_list.specs.Fields.{lines_in}
 use Rattle.fmp_config_listing.specs.Listing.{listing_of}
 
 -- the listing of a configuration that a text says, followed by the fields without effect as they stand in it

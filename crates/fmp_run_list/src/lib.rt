@@ -1,9 +1,15 @@
 //! The run that tells what was read of a configuration, from bytes to bytes.
 //!
-//! [`run_list`] reads a configuration and writes its listing, which `specs/Listing` of `fmp_config_listing` says, and `specs/Fields` of
-//! `fmp_config_fields` of the fields without effect. What the run reads and writes is stated in `specs/Runs`.
+//! [`run_list`] reads a configuration and writes its listing, which `specs/Listing` of `fmp_config_listing` says, and then a line for each field that has
+//! no effect on the kernel, as it stands in the text: extended information, stack sizes, and the sizes of blocks (`specs/Fields`). What the run reads and
+//! writes is stated in `specs/Runs`.
+//!
+//! The configuration that was read does not have these fields. Which bytes are comments, strings and directives is said by the tokens of the reader, so a
+//! text is taken apart here as it was read (`specs/Standing`).
 #![tactic(auto)]
 
+mod fields;
 mod run;
+mod standing;
 
 pub use run::run_list;

@@ -7,8 +7,8 @@ ghost use Rattle.fmp_run_texts.specs.Owed.{OwesConfig};
 ghost use Rattle.fmp_run_texts.specs.Texts.{FirstConfigFault};
 ghost use Rattle.fmp_run_list.specs.Runs.{ListsText, WritesListing, listing_in};
 
+use crate::fields::put_field_lines;
 use fmp_config::{Config, MOST_BYTES, read_config};
-use fmp_config_fields::put_field_lines;
 use fmp_config_listing::listing_text;
 use fmp_run_devices::{Sink, Source, read_up_to, write_out};
 use fmp_run_texts::RunFault;

@@ -13,7 +13,7 @@ use Rattle.fmp_setup.specs.Setup.{Setup}
 use Rattle.fmp_text.specs.Events.{IsMemory}
 use Rattle.fmp_text.specs.Limits.{most_bytes}
 use Rattle.fmp_text.specs.declared.fault.TextFault.{TextFault}
-use Rattle.fmp_trace_check_partial.specs.Verdicts.{PartlyPrintsAnswers}
+use Rattle.fmp_run_partial.specs.Verdicts.{PartlyPrintsAnswers}
 use Rattle.fmp_trace_partial.specs.Partly.{FaultAfter, FirstFault}
 use Rattle.fmp_run_partial.specs.Partials.{FirstPartialFault, IsFirstOfPartial, IsPartlyOwn}
 

@@ -8,7 +8,7 @@ use Rattle.fmp_run_texts.specs.declared.fault.RunFault.TheVariants as run
 use Rattle.fmp_names.specs.Names.{NameLists}
 use Rattle.fmp_setup.specs.Setup.{Setup}
 use Rattle.fmp_text.specs.Events.{IsMemory}
-use Rattle.fmp_trace_check_partial.specs.Verdicts.{JudgesPartly, PartlyPrintsAnswers}
+use Rattle.fmp_run_partial.specs.Verdicts.{JudgesPartly, PartlyPrintsAnswers}
 use Rattle.fmp_trace_partial.specs.Partly.{FirstFault}
 
 -- the verdict on a partial trace, by the answers of the one text's machine to the events of the other

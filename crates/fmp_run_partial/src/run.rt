@@ -9,14 +9,14 @@ ghost use Rattle.fmp_run_texts.specs.Faults.{failed_read, failed_write, is_confi
 ghost use Rattle.fmp_run_texts.specs.Owed.{OwesTrace};
 ghost use Rattle.fmp_run_texts.specs.Texts.{CountsReads};
 ghost use Rattle.fmp_run_texts.specs.Traces.{IsYes, JudgesTexts};
-ghost use Rattle.fmp_trace_check_partial.specs.Verdicts.{JudgesPartly, PartlyPrintsAnswers};
+ghost use Rattle.fmp_run_partial.specs.Verdicts.{JudgesPartly, PartlyPrintsAnswers};
 ghost use Rattle.fmp_run_partial.specs.Partials.{CheckedPartly, FirstPartialFault, IsFirstOfPartial, IsPartlyOwn};
 
+use crate::following::check_partial;
 use fmp_rules::Config;
 use fmp_run_devices::{Sink, Source, read_up_to, write_out};
 use fmp_run_texts::{RunFault, config_from, verdict_text};
 use fmp_trace_check::Verdict;
-use fmp_trace_check_partial::check_partial;
 use std::alloc::Global;
 
 /// Reads a partial trace to its end, and judges it.

@@ -23,7 +23,7 @@ use Rattle.fmp_trace_check.specs.Checking.{PrintsAnswers}
 use Rattle.fmp_search_pattern.specs.declared.question.Step.{Step}
 use Rattle.fmp_search_orders.proofs.Bits.{order_fits}
 use Rattle.fmp_search_random.specs.Drawn as drawn
-use Rattle.fmp_search_showing.proofs.Short.{question_short}
+use Rattle.fmp_search_question.proofs.Short.{question_short}
 use Rattle.fmp_smp_histories.specs.Histories.{events_of}
 use Rattle.fmp_world.specs.declared.finishing.Ended.{Ended}
 use Rattle.fmp_run_texts.proofs.Yes.{own_trace}

@@ -14,7 +14,7 @@ use Rattle.fmp_trace_check.specs.Checking.{PrintsAnswers}
 use Rattle.fmp_run_devices.specs.Devices.{BeginsWith}
 use Rattle.fmp_search_pattern.specs.declared.question.Step.{Step}
 use Rattle.fmp_search_question.specs.Reading.{question_in}
-use Rattle.fmp_search_showing.specs.Seen.{IsShownAt}
+use Rattle.fmp_search_shrink.specs.Seen.{IsShownAt}
 use Rattle.fmp_show_state.specs.Waits.{waiting_lines}
 use Rattle.fmp_run_texts.specs.declared.status.Status.{Status}
 use Rattle.fmp_run_texts.specs.declared.status.Status.TheVariants.{Done, Different, Limit, Waiting}

@@ -17,7 +17,7 @@ use fmp_kernel::Kernel;
 use fmp_rules::Config;
 use fmp_run_texts::Status;
 use fmp_search_pattern::Question;
-use fmp_search_showing::shown_at;
+use fmp_search_shrink::shown_at;
 use fmp_show_state::put_waiting;
 use fmp_smp::run_seeded;
 use fmp_text_scripts::Scripts;

@@ -7,8 +7,8 @@ use Rattle.fmp_codes.specs.declared.records.Event.{Event}
 use Rattle.fmp_names.specs.Names.{NameLists}
 use Rattle.fmp_text.specs.Limits.{most_events}
 use Rattle.fmp_trace_events.specs.Telling.{IsReadBack, event_lines}
-use Rattle.fmp_search_runners.specs.Runners.{IsPartOf}
-use Rattle.fmp_search_runners.proofs.Parts.{part_all, part_length}
+use Rattle.fmp_search_shrink.specs.Runners.{IsPartOf}
+use Rattle.fmp_search_shrink.proofs.Parts.{part_all, part_length}
 
 module _ (whole es : List Event) (part : IsPartOf es whole) where
   pub left_on : (n : ℕ) → AreOn n whole → AreOn n es

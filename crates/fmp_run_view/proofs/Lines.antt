@@ -31,7 +31,7 @@ module _ (names : NameLists) (valid : AreValid names) (n : ℕ) (rest : List ℕ
         let small : n < 2 ^ 64 = omega (arith, few) in
         ap (event_of names) (core_is r rs text) ∙ guess-event names (core_text names n r) r (line_guessed names r valid fit.0 n small)
 
-    -- the others are left after it
+    -- what follows it prints the others
     pub after_is : (r : Record) (rs : List Record) → rest ≡ lines_from names n (r ∷ rs) → after ≡ lines_from names (n + 1) rs
     after_is r rs text =
         let same : Some after ≡ Some (lines_from names (n + 1) rs) = sym cut ∙ ap (λ (p : List ℕ × Option (List ℕ)). p.1) (first_line names n rest r rs valid text) in

@@ -1,3 +1,3 @@
-mod EachWord  -- One word of a question after the other.
-mod EachPart  -- One word of a question of what stays after the other.
+mod EachWord  -- One word after the other, whatever is kept of the words so far.
 mod Waiting  -- That tasks wait, one task after the other.
+pub mod Short  -- A question that was read has no more steps than there may be.

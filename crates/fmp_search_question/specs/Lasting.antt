@@ -1,7 +1,7 @@
 -- How a question of what stays for ever is read: moments with `for ever` after each and `or` between them, or `deadlock`.
 use Rattle.std.specs.Prelude.{ℕ, ◌-◌, ◌==◌, Bool, true, false, not, ◌&&◌, ◌||◌, nat_le, is_some, List, [], ◌∷◌, ◌++◌, length, Option, None, Some, Result, Ok, Err}
 use Rattle.std.specs.Prelude.{if◌then◌else◌, codes}
-use Rattle.std.specs.List.{list_all, join_with_byte}
+use Rattle.std.specs.List.{list_all}
 use Rattle.std.specs.Str.{bytes_eq}
 use Rattle.fmp_bytes.specs.Bytes.{space, pieces_of}
 use Rattle.fmp_calls.specs.declared.kinds.ObjectKind.TheVariants.{Task}
@@ -15,6 +15,7 @@ use Rattle.fmp_search_pattern.specs.Lasting.{Lasting}
 use Rattle.fmp_search_words.specs.Words.{is_printed}
 use Rattle.fmp_search_question.specs.Waiting.{comma, waits_but}
 use Rattle.fmp_search_question.specs.Reading as reading
+use Rattle.fmp_search_question.specs.WordByWord.{after_words, result_then}
 
 -- what was read so far: the complete parts, whether `not` begins the one that is being read, its patterns, and what the words so far end with
 pub record Parts : Type 0 where
@@ -91,20 +92,6 @@ in_stage names d word stage.Named = Err BadForm
 unfoldable pub after_word : NameLists → Parts → List ℕ → Result Parts QuestionFault
 after_word names d word = if is_printed word then in_stage names d word d.stage else Err BadWord
 
-abbrev pub fault_of : Result Parts QuestionFault → Option QuestionFault
-fault_of (Ok d) = None
-fault_of (Err fault) = Some fault
-
-abbrev pub at_place : ℕ → Result Parts QuestionFault → Result Parts (QuestionFault × ℕ)
-at_place place (Ok d) = Ok d
-at_place place (Err fault) = Err (fault, place)
-
--- the last words of a text of so many bytes
-abbrev pub after_words : NameLists → ℕ → Parts → List (List ℕ) → Result Parts (QuestionFault × ℕ)
-after_words names bytes d [] = Ok d
-after_words names bytes d (word ∷ words) =
-    reading.result_then (λ e. after_words names bytes e words) (at_place (bytes - length (join_with_byte space (word ∷ words))) (after_word names d word))
-
 -- the greatest number of parts
 abbrev pub most_parts : ℕ
 most_parts = 64
@@ -124,7 +111,7 @@ ended bytes d =
 
 -- the parts of a question, or its first fault
 unfoldable pub lasting_in : NameLists → List ℕ → Result (List Lasting) (QuestionFault × ℕ)
-lasting_in names text = reading.result_then (ended (length text)) (after_words names (length text) no_parts (pieces_of space text))
+lasting_in names text = result_then (ended (length text)) (after_words (after_word names) (length text) no_parts (pieces_of space text))
 
 -- ---- which questions are read so
 

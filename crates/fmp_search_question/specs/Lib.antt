@@ -1,3 +1,4 @@
+pub mod WordByWord  -- Reading word by word: the first fault with its place, or what the words make of what was read.
 pub mod Reading  -- How a question is read: word by word.
 pub mod Waiting  -- That tasks wait for ever.
 pub mod Lasting  -- How a question of what stays for ever is read.

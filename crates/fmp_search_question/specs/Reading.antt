@@ -3,7 +3,7 @@
 -- must not come, `then` before the next step, `times` after a number at the front of a step.
 use Rattle.std.specs.Prelude.{ℕ, Bool, true, false, ◌-◌, ◌==◌, not, ◌&&◌, ◌||◌, nat_le, is_none, is_some, List, [], ◌∷◌, ◌++◌, length, take, drop, Option, None, Some}
 use Rattle.std.specs.Prelude.{option_map, unwrap_or, replicate, Result, Ok, Err, if◌then◌else◌, codes}
-use Rattle.std.specs.List.{list_all, join_with_byte}
+use Rattle.std.specs.List.{list_all}
 use Rattle.std.specs.Option.{option_and_then}
 use Rattle.std.specs.Str.{bytes_eq}
 use Rattle.fmp_bytes.specs.Bytes.{space, pieces_of}
@@ -20,6 +20,7 @@ use Rattle.fmp_search_words.specs.Forms.{spot_of}
 use Rattle.fmp_search_pattern.specs.Items.{Item}
 use Rattle.fmp_search_words.specs.Spots.{is_number, stepped}
 use Rattle.fmp_search_words.specs.Words.{is_printed, is_fine, runs_of, star}
+use Rattle.fmp_search_question.specs.WordByWord.{after_words, at_place, result_then}
 
 -- the greatest number of steps, and of bytes of a pattern with the blanks around it
 abbrev pub most_steps : ℕ
@@ -131,11 +132,6 @@ with_word names d word =
     (if nat_le (length (longer d.pattern word)) most_pattern then at_spot d word (stepped d.spot (spot_of names word)) else Err TooLong)
     else Err UnknownName
 
--- the fault, where there is one
-abbrev pub fault_of : Result Draft QuestionFault → Option QuestionFault
-fault_of (Ok d) = None
-fault_of (Err fault) = Some fault
-
 -- one word more
 unfoldable pub after_word : NameLists → Draft → List ℕ → Result Draft QuestionFault
 after_word names d word =
@@ -149,25 +145,10 @@ after_word names d word =
     else if bytes_eq word (codes "times") then or_form (with_times d)
     else with_word names d word
 
--- a fault, and the number of the byte from 0 at which the word at fault begins
-abbrev pub at_place : ℕ → Result Draft QuestionFault → Result Draft (QuestionFault × ℕ)
-at_place place (Ok d) = Ok d
-at_place place (Err fault) = Err (fault, place)
-
-abbrev pub result_then : {A B E : Type 0} → (A → Result B E) → Result A E → Result B E
-result_then f (Ok a) = f a
-result_then f (Err e) = Err e
-
 -- what a fault of reading tells, where it is one of the text
 abbrev pub report : ReadFault → QuestionFault × ℕ
 report Memory = (BadWord, 0)
 report (Text fault place) = (fault, place)
-
--- the last words of a text of so many bytes
-abbrev pub after_words : NameLists → ℕ → Draft → List (List ℕ) → Result Draft (QuestionFault × ℕ)
-after_words names bytes d [] = Ok d
-after_words names bytes d (word ∷ words) =
-    result_then (λ e. after_words names bytes e words) (at_place (bytes - length (join_with_byte space (word ∷ words))) (after_word names d word))
 
 -- after the last word a step is complete
 abbrev pub ended : ℕ → Draft → Result (List Step) (QuestionFault × ℕ)
@@ -175,4 +156,4 @@ ended bytes d = result_then (λ e. Ok e.steps) (at_place bytes (limited (or_form
 
 -- the steps of a question, or its first fault
 unfoldable pub question_in : NameLists → List ℕ → Result (List Step) (QuestionFault × ℕ)
-question_in names text = result_then (ended (length text)) (after_words names (length text) nothing_read (pieces_of space text))
+question_in names text = result_then (ended (length text)) (after_words (after_word names) (length text) nothing_read (pieces_of space text))

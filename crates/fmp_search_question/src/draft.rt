@@ -5,6 +5,7 @@ ghost use Rattle.fmp_bytes.specs.Bytes.{pieces_of};
 ghost use Rattle.std.specs.List.{list_all};
 ghost use Rattle.fmp_search_words.specs.Words.{star, is_fine};
 ghost use Rattle.fmp_search_question.specs.Reading as spec;
+ghost use Rattle.fmp_search_question.specs.WordByWord.{fault_of};
 
 use crate::fault::{QuestionFault, ReadFault};
 use fmp_bytes::{are_digits, cut, magnitude};
@@ -316,7 +317,7 @@ impl Draft {
     /// have more than 1,024 bytes, else `NoLine` where it can stand after those before it in no line. The error is want of memory.
     #[tactic(auto, unfolding(crate::specs::Reading::with_word))]
     fn add_word(&mut self, names: &Names, word: &[u8]) -> Result<Option<QuestionFault>, AllocError>
-        ensures report { IfOk result (λ fault. fault ≡ spec.fault_of (spec.with_word names.now self.old word.now)) }
+        ensures report { IfOk result (λ fault. fault ≡ fault_of (spec.with_word names.now self.old word.now)) }
         ensures added { (d : spec.Draft) → spec.with_word names.now self.old word.now ≡ Ok d → OnOk result (self.new ≡ d) }
     {
         if !are_fine(names, word) {
@@ -339,7 +340,7 @@ impl Draft {
     /// Ends the step. The fault is `BadForm` where its last pattern has no word yet, and `TooLong` where there are more than 255 steps then.
     /// The error is want of memory.
     fn end_limited(&mut self) -> Result<Option<QuestionFault>, AllocError>
-        ensures report { IfOk result (λ fault. fault ≡ spec.fault_of (spec.limited (spec.or_form (spec.with_step self.old)))) }
+        ensures report { IfOk result (λ fault. fault ≡ fault_of (spec.limited (spec.or_form (spec.with_step self.old)))) }
         ensures ended { (d : spec.Draft) → spec.limited (spec.or_form (spec.with_step self.old)) ≡ Ok d → OnOk result (self.new ≡ d) }
     {
         if !self.end_step()? {
@@ -359,7 +360,7 @@ impl Draft {
         names: &Names,
         word: &[u8],
     ) -> Result<Option<QuestionFault>, AllocError>
-        ensures report { IfOk result (λ fault. fault ≡ spec.fault_of (spec.after_word names.now self.old word.now)) }
+        ensures report { IfOk result (λ fault. fault ≡ fault_of (spec.after_word names.now self.old word.now)) }
         ensures added { (d : spec.Draft) → spec.after_word names.now self.old word.now ≡ Ok d → OnOk result (self.new ≡ d) }
     {
         if !is_printed(word) {

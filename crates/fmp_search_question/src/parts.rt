@@ -7,6 +7,7 @@ ghost use Rattle.fmp_names.specs.Names.{has_name};
 ghost use Rattle.fmp_search_question.specs.Lasting as spec;
 ghost use Rattle.fmp_search_question.specs.Reading as reading;
 ghost use Rattle.fmp_search_question.specs.Waiting as waiting;
+ghost use Rattle.fmp_search_question.specs.WordByWord.{fault_of};
 
 use crate::draft::Draft;
 use crate::fault::{QuestionFault, ReadFault};
@@ -205,7 +206,7 @@ impl Parts {
 
     /// `for` after the last word of a pattern.
     fn add_for(&mut self) -> Result<Option<QuestionFault>, AllocError>
-        ensures report { IfOk result (λ fault. fault ≡ spec.fault_of (spec.before_ever self.old (reading.with_pattern self.old.draft))) }
+        ensures report { IfOk result (λ fault. fault ≡ fault_of (spec.before_ever self.old (reading.with_pattern self.old.draft))) }
         ensures added { (d : spec.Parts) → spec.before_ever self.old (reading.with_pattern self.old.draft) ≡ Ok d → OnOk result (self.new ≡ d) }
     {
         if self.draft.end_pattern()? {
@@ -249,7 +250,7 @@ impl Parts {
         names: &Names,
         word: &[u8],
     ) -> Result<Option<QuestionFault>, AllocError>
-        ensures report { IfOk result (λ fault. fault ≡ spec.fault_of (spec.in_part names.now self.old word.now)) }
+        ensures report { IfOk result (λ fault. fault ≡ fault_of (spec.in_part names.now self.old word.now)) }
         ensures added { (d : spec.Parts) → spec.in_part names.now self.old word.now ≡ Ok d → OnOk result (self.new ≡ d) }
     {
         if word == b"for".as_slice() {
@@ -279,7 +280,7 @@ impl Parts {
         names: &Names,
         word: &[u8],
     ) -> Result<Option<QuestionFault>, AllocError>
-        ensures report { IfOk result (λ fault. fault ≡ spec.fault_of (spec.with_draft self.old (reading.after_word names.now self.old.draft word.now))) }
+        ensures report { IfOk result (λ fault. fault ≡ fault_of (spec.with_draft self.old (reading.after_word names.now self.old.draft word.now))) }
         ensures added { (d : spec.Parts) → spec.with_draft self.old (reading.after_word names.now self.old.draft word.now) ≡ Ok d → OnOk result (self.new ≡ d) }
     {
         self.draft.add(names, word)
@@ -287,7 +288,7 @@ impl Parts {
 
     /// The names of those that may wait.
     fn add_names(&mut self, names: &Names, word: &[u8]) -> Result<Option<QuestionFault>, AllocError>
-        ensures report { IfOk result (λ fault. fault ≡ spec.fault_of (spec.in_stage names.now self.old word.now Stage.But)) }
+        ensures report { IfOk result (λ fault. fault ≡ fault_of (spec.in_stage names.now self.old word.now Stage.But)) }
         ensures added { (d : spec.Parts) → spec.in_stage names.now self.old word.now Stage.But ≡ Ok d → OnOk result (self.new ≡ d) }
     {
         if !are_tasks(names, word) {
@@ -299,7 +300,7 @@ impl Parts {
 
     /// Goes on to a stage where a word is the one that has to stand there.
     fn expect(&mut self, is: bool, stage: Stage) -> Option<QuestionFault>
-        ensures report { result ≡ spec.fault_of (spec.expected self.old is stage) }
+        ensures report { result ≡ fault_of (spec.expected self.old is stage) }
         ensures added { (d : spec.Parts) → spec.expected self.old is stage ≡ Ok d → self.new ≡ d }
     {
         if !is {
@@ -311,7 +312,7 @@ impl Parts {
 
     /// The word `ever` after `for`.
     fn add_ever(&mut self, word: &[u8]) -> Result<Option<QuestionFault>, AllocError>
-        ensures report { IfOk result (λ fault. fault ≡ spec.fault_of (spec.ever_in self.old word.now)) }
+        ensures report { IfOk result (λ fault. fault ≡ fault_of (spec.ever_in self.old word.now)) }
         ensures added { (d : spec.Parts) → spec.ever_in self.old word.now ≡ Ok d → OnOk result (self.new ≡ d) }
     {
         if word != b"ever".as_slice() {
@@ -324,7 +325,7 @@ impl Parts {
     /// Adds a word, and tells its fault, if it has one.
     #[tactic(auto, unfolding(crate::specs::Lasting::after_word))]
     fn add(&mut self, names: &Names, word: &[u8]) -> Result<Option<QuestionFault>, AllocError>
-        ensures report { IfOk result (λ fault. fault ≡ spec.fault_of (spec.after_word names.now self.old word.now)) }
+        ensures report { IfOk result (λ fault. fault ≡ fault_of (spec.after_word names.now self.old word.now)) }
         ensures added { (d : spec.Parts) → spec.after_word names.now self.old word.now ≡ Ok d → OnOk result (self.new ≡ d) }
     {
         if !is_printed(word) {

@@ -5,9 +5,9 @@ use Rattle.fmp_rules.specs.Arrivals.{numbered}
 use Rattle.fmp_rules.specs.Boot.{booted}
 use Rattle.fmp_rules.specs.Step.{answers}
 use Rattle.fmp_setup.specs.Setup.{Setup}
-use Rattle.fmp_search_runners.specs.Runners.{AreKept, calls_by, made_in}
-use Rattle.fmp_search_runners.specs.declared.made.Made.{Made}
-use Rattle.fmp_search_runners.proofs.Parts.{part_of_itself}
+use Rattle.fmp_search_shrink.specs.Runners.{AreKept, calls_by, made_in}
+use Rattle.fmp_search_shrink.specs.declared.made.Made.{Made}
+use Rattle.fmp_search_shrink.proofs.Parts.{part_of_itself}
 use Rattle.fmp_search_shrink.specs.Shrinking.{IsKeeping, Keeps, KeepsTo}
 use Rattle.fmp_search_shrink.specs.declared.keeping.Keeping.{Keeping}
 use Rattle.fmp_search_shrink.specs.declared.keeping.Keeping.TheVariants as keeping

@@ -10,7 +10,7 @@ use Rattle.fmp_rules.specs.Step.{answers}
 use Rattle.fmp_search_pattern.specs.declared.question.Step.{Step}
 use Rattle.fmp_search_orders.specs.declared.rules.Rules.{Rules}
 use Rattle.fmp_search_orders.specs.Shown.{Shows}
-use Rattle.fmp_search_runners.specs.Runners.{AreKept, IsPartOf, KeepsRuns, made_in}
+use Rattle.fmp_search_shrink.specs.Runners.{AreKept, IsPartOf, KeepsRuns, made_in}
 use Rattle.fmp_search_shrink.specs.declared.keeping.Keeping.{Keeping}
 use Rattle.fmp_search_shrink.specs.declared.keeping.Keeping.TheVariants as keeping
 

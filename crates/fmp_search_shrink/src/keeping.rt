@@ -3,9 +3,10 @@ ghost use Rattle.std.specs.Prelude.{◌↔◌, IfOk, IsTrue};
 ghost use Rattle.fmp_codes.specs.Records.{AreOn};
 ghost use Rattle.fmp_search_shrink.specs.Shrinking.{IsKeeping, KeepsTo};
 
+use crate::made::{Made, made_calls};
+use crate::runners::are_kept;
 use fmp_codes::Event;
 use fmp_rules::Config;
-use fmp_search_runners::{Made, are_kept, made_calls};
 use std::alloc::{AllocError, Global};
 
 /// What has to stay as it was.

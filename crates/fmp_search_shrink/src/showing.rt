@@ -1,32 +1,243 @@
-//! Whether events that come as they are given show what a question asks.
-ghost use Rattle.std.specs.Prelude.{◌≤◌, ◌↔◌, length, IfOk, IsTrue};
-ghost use Rattle.fmp_codes.specs.Records.{AreOn};
-ghost use Rattle.fmp_search_shrink.specs.Shrinking.{AnswersShow};
+//! Whether what a machine answers to events shows what a question asks. At each event a step of the question may be marked or not, so all
+//! numbers of steps are kept that may have been seen.
+ghost use Rattle.std.specs.Prelude.{◌≡◌, ◌≤◌, ◌<◌, ◌+◌, ◌^◌, ◌↔◌, ◌∷◌, ◌++◌, [], ℕ, List, false, true, drop, length, replicate, slice_index, IfOk, OnOk, IsTrue};
+ghost use Rattle.fmp_codes.specs.Records.{AreOn, processor_of};
+ghost use Rattle.fmp_rules.specs.Arrivals.{State, numbered};
+ghost use Rattle.fmp_rules.specs.Boot.{booted};
+ghost use Rattle.fmp_rules.specs.Step.{answers, step};
+ghost use Rattle.fmp_kernel_order.specs.Queues.{listed};
+ghost use Rattle.fmp_law_lists.specs.Stands.{Stands};
+ghost use Rattle.fmp_search_orders.specs.Orders as orders;
+ghost use Rattle.fmp_search_orders.specs.Places.{moved_taken};
+ghost use Rattle.fmp_search_orders.specs.Shown.{Shows};
+ghost use Rattle.fmp_search_orders.specs.Sights.{sight};
+ghost use Rattle.fmp_search_kernel.specs.Walked.{count_in};
+ghost use Rattle.fmp_search_shrink.specs.Seen as spec;
+ghost use Rattle.fmp_search_shrink.specs.Seen.{AreNext, IsSettled, IsShownAt, Watches};
+ghost use Rattle.fmp_codes.specs.declared.records.Event.{Event as AnyEvent};
 
-use fmp_codes::Event;
+use fmp_codes::{Answer, Event, Proc, Record};
+use fmp_kernel::Kernel;
 use fmp_rules::Config;
+use fmp_search_kernel::{advance_taken, has_to_look, is_over, look, put_sight};
 use fmp_search_orders::Rules;
 use fmp_search_pattern::Question;
 use std::alloc::AllocError;
 
-/// Events come as they are given: ticks may be of any number.
-const AS_GIVEN: Rules = Rules {
-    ticks: None,
-    prompt: false,
-    drift: None,
-    pace: None,
-    spurious: false,
-};
+/// Whether so many steps may have been seen before an event with these lines, and it may be marked so. A number of one digit and a blank
+/// stand before the lines.
+fn goes_on(
+    line: &mut Vec<u8>,
+    text: &[u8],
+    question: &Question,
+    numbers: &[bool; 256],
+    at: u8,
+    marked: bool,
+) -> Result<bool, AllocError>
+    requires { 2 ≤ length text.now }
+    ensures { IfOk result (λ r. r ≡ spec.goes_on question.now (drop 2 text.now) numbers.now at marked) }
+{
+    if !numbers[usize::from(at)] {
+        return Ok(false);
+    }
+    let seen = u32::from(at);
+    if !has_to_look(question, seen, marked) {
+        return Ok(!marked);
+    }
+    look(line, text, question, seen, marked)
+}
 
-/// Whether what the machine answers to these events shows what a question asks.
-pub(crate) fn shows(
+/// Whether so many steps may have been seen after an event with these lines.
+fn is_seen(
+    line: &mut Vec<u8>,
+    text: &[u8],
+    question: &Question,
+    numbers: &[bool; 256],
+    at: u8,
+) -> Result<bool, AllocError>
+    requires { 2 ≤ length text.now }
+    ensures { IfOk result (λ r. r ≡ spec.is_seen question.now (drop 2 text.now) numbers.now at) }
+{
+    if goes_on(line, text, question, numbers, at, false)? {
+        return Ok(true);
+    }
+    if at == 0 {
+        return Ok(false);
+    }
+    goes_on(line, text, question, numbers, at - 1, true)
+}
+
+/// The numbers of steps that may have been seen after an event with these lines, where these may have been seen before.
+fn all_seen(
+    line: &mut Vec<u8>,
+    text: &[u8],
+    question: &Question,
+    numbers: &[bool; 256],
+) -> Result<[bool; 256], AllocError>
+    requires short { length question.now ≤ 255 }
+    requires long { 2 ≤ length text.now }
+    ensures { IfOk result (λ r. AreNext question.now (drop 2 text.now) numbers.now r) }
+{
+    let mut next = [false; 256];
+    for at in 0..question.steps().len() + 1 {
+        next[at] = is_seen(line, text, question, numbers, at as u8)?;
+    }
+    Ok(next)
+}
+
+/// Whether no event changes any more how many steps may have been seen.
+fn is_settled(question: &Question, numbers: &[bool; 256]) -> bool
+    requires { length question.now ≤ 255 }
+    ensures { IsTrue result → IsSettled question.now numbers.now }
+{
+    for at in 0..question.steps().len() {
+        if numbers[at] {
+            return false;
+        }
+    }
+    true
+}
+
+/// A machine that answers events, and the numbers of steps of a question that may have been seen in its answers.
+#[derive(Drop)]
+struct Watch {
+    kernel: Kernel,
+    made: Record,
+    /// The ticks that each processor has taken, where they are counted.
+    taken: [u32; 8],
+    numbers: [bool; 256],
+    /// Room for the lines of an event, and for one of them.
+    text: Vec<u8>,
+    line: Vec<u8>,
+}
+
+impl Watch {
+    /// A machine at boot, which answered nothing yet.
+    fn new(config: &Config) -> Result<Watch, AllocError>
+        ensures stands { IfOk result (λ w. Stands w.kernel (booted config.now)) }
+        ensures processors { IfOk result (λ w. length w.kernel.processors ≡ config.now.processors) }
+        ensures taken { IfOk result (λ w. w.taken ≡ replicate 8 0) }
+        ensures numbers { IfOk result (λ w. w.numbers ≡ true ∷ replicate 255 false) }
+    {
+        let mut numbers = [false; 256];
+        numbers[0] = true;
+        Ok(Watch {
+            kernel: Kernel::boot(config)?,
+            made: Record::answer(Event::Tick(Proc::new(1)), None, Answer::Nothing),
+            taken: [0; 8],
+            numbers,
+            text: Vec::new(config.allocator()),
+            line: Vec::new(config.allocator()),
+        })
+    }
+
+    /// Puts the lines of the last answer in the place of the text.
+    fn print(&mut self, config: &Config, rules: Rules) -> Result<(), AllocError>
+        ensures sight { OnOk result (drop 2 self.new.text.items ≡ sight listed config.now rules (count_in self.old.taken) self.old.kernel self.old.made) }
+        ensures long { OnOk result (2 ≤ length self.new.text.items) }
+        ensures same { (self.new.kernel ≡ self.old.kernel) × (self.new.made ≡ self.old.made) × (self.new.taken ≡ self.old.taken) × (self.new.numbers ≡ self.old.numbers) }
+    {
+        let over = is_over(config, rules, &self.taken, &self.kernel);
+        let names = config.names();
+        put_sight(&mut self.text, names, &self.kernel, &self.made, over)?;
+        Ok(())
+    }
+
+    /// Sees how many steps may have been seen after the last answer. Its lines are printed only where that depends on them.
+    fn see(&mut self, config: &Config, rules: Rules, question: &Question) -> Result<(), AllocError>
+        requires { length question.now ≤ 255 }
+        ensures next { OnOk result (AreNext question.now
+            (sight listed config.now rules (count_in self.old.taken) self.old.kernel self.old.made) self.old.numbers self.new.numbers) }
+        ensures same { (self.new.kernel ≡ self.old.kernel) × (self.new.made ≡ self.old.made) × (self.new.taken ≡ self.old.taken) }
+    {
+        if is_settled(question, &self.numbers) {
+            return Ok(());
+        }
+        self.print(config, rules)?;
+        self.numbers = all_seen(
+            &mut self.line,
+            self.text.as_slice(),
+            question,
+            &self.numbers,
+        )?;
+        Ok(())
+    }
+
+    /// Answers one event more.
+    fn answer(&mut self, rules: Rules, event: Event)
+        requires on { (processor_of event).number ≤ length self.old.kernel.processors }
+        requires room { (i : ℕ) → i < 8 → slice_index self.old.taken i + 1 < 2 ^ 32 }
+        ensures stands { (m : State) → Stands self.old.kernel m → Stands self.new.kernel (step numbered m event).0 }
+        ensures made { (m : State) → Stands self.old.kernel m → self.new.made ≡ (step numbered m event).1 }
+        ensures processors { length self.new.kernel.processors ≡ length self.old.kernel.processors }
+        ensures taken { self.new.taken ≡ moved_taken rules self.old.taken self.new.made.event self.new.made.answer }
+        ensures numbers { self.new.numbers ≡ self.old.numbers }
+    {
+        self.kernel.step_into(event, &mut self.made);
+        advance_taken(rules, &mut self.taken, &self.made);
+    }
+
+    /// Answers one event more, and sees how many steps may have been seen after it.
+    fn go_on(
+        &mut self,
+        config: &Config,
+        rules: Rules,
+        question: &Question,
+        event: Event,
+    ) -> Result<(), AllocError>
+        requires short { length question.now ≤ 255 }
+        requires on { (processor_of event).number ≤ length self.old.kernel.processors }
+        requires room { (i : ℕ) → i < 8 → slice_index self.old.taken i + 1 < 2 ^ 32 }
+        ensures { (given : List AnyEvent) → Watches config.now rules question.now given self.old
+            → OnOk result (Watches config.now rules question.now (given ++ event ∷ []) self.new) }
+    {
+        self.answer(rules, event);
+        self.see(config, rules, question)?;
+        Ok(())
+    }
+}
+
+/// After how many of these events what the machine answers shows what a question asks for the first time, by these rules, if it ever does. Of
+/// the rules only the number of ticks matters, on which the line `end` depends. The error is want of memory.
+pub fn shown_at(
     config: &Config,
+    rules: Rules,
+    question: &Question,
+    events: &[Event],
+) -> Result<Option<usize>, AllocError>
+    requires short { length question.now ≤ 255 }
+    requires on { AreOn config.now.processors events.now }
+    requires few { orders.counts_ticks rules ≡ true → length events.now < 2 ^ 32 }
+    ensures { IfOk result (IsShownAt config.now rules question.now events.now) }
+{
+    let most = question.steps().len();
+    let mut watch = Watch::new(config)?;
+    if watch.numbers[most] {
+        return Ok(Some(0));
+    }
+    let mut count = 0usize;
+    for event in events {
+        watch.go_on(config, rules, question, *event)?;
+        count += 1;
+        if watch.numbers[most] {
+            return Ok(Some(count));
+        }
+    }
+    Ok(None)
+}
+
+/// Whether what the machine answers to these events shows what a question asks, by these rules. The error is want of memory.
+pub fn shows(
+    config: &Config,
+    rules: Rules,
     question: &Question,
     events: &[Event],
 ) -> Result<bool, AllocError>
     requires short { length question.now ≤ 255 }
     requires on { AreOn config.now.processors events.now }
-    ensures { IfOk result (λ r. IsTrue r ↔ AnswersShow config.now question.now events.now) }
+    requires few { orders.counts_ticks rules ≡ true → length events.now < 2 ^ 32 }
+    ensures { IfOk result (λ r. IsTrue r ↔ Shows config.now rules question.now (answers numbered (booted config.now) events.now)) }
 {
-    fmp_search_showing::shows(config, AS_GIVEN, question, events)
+    let at = shown_at(config, rules, question, events)?;
+    Ok(at.is_some())
 }

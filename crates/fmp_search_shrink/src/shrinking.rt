@@ -4,8 +4,8 @@ ghost use Rattle.fmp_codes.specs.Records.{AreOn};
 ghost use Rattle.fmp_search_shrink.specs.Shrinking as spec;
 ghost use Rattle.fmp_search_shrink.specs.Shrinking.{AnswersShow, IsLeft, KeepsTo, NoneCanGo};
 
+use crate::given::shows_given;
 use crate::keeping::Keeping;
-use crate::showing::shows;
 use fmp_codes::Event;
 use fmp_rules::Config;
 use fmp_search_pattern::Question;
@@ -38,7 +38,7 @@ fn do_without(
     requires on { AreOn config.now.processors events.now }
     ensures { IfOk result (λ r. IsTrue r ↔ (AnswersShow config.now question.now events.now × KeepsTo config.now keeping.now events.now)) }
 {
-    Ok(shows(config, question, events)? && keeping.is_kept_by(alloc, config, events)?)
+    Ok(shows_given(config, question, events)? && keeping.is_kept_by(alloc, config, events)?)
 }
 
 /// Leaves out so many events in a row wherever the others do without them, and tells whether it left out any.
@@ -143,7 +143,7 @@ pub fn shrink(
     requires on { AreOn config.now.processors events.items }
     ensures { IfOk result (spec.Shrinks config.now question.now runs events.items) }
 {
-    if !shows(config, question, events.as_slice())? {
+    if !shows_given(config, question, events.as_slice())? {
         return Ok(None);
     }
     let keeping = Keeping::of(alloc, config, events.as_slice(), runs)?;

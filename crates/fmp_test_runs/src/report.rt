@@ -12,7 +12,7 @@ const TRACE: &[u8] = b"\
 4 P2 T2 ipi taken
 ";
 
-/// The two reports on it. The first begins with the state that the third line leaves after: each processor runs its task, and nothing else
+/// The two reports on it. The first begins with the state after the third line: each processor runs its task, and nothing else
 /// is as it was not at boot.
 const REPORTS: [(Shown, &[u8]); 2] = [
     (

@@ -3,7 +3,7 @@ use Rattle.fmp_codes.specs.Records.{AreOn}
 use Rattle.fmp_names.specs.Names.{NameLists}
 use Rattle.fmp_run_devices.specs.Devices.{BeginsWith, bytes_of}
 use Rattle.fmp_search_question.specs.Reading.{question_in}
-use Rattle.fmp_search_showing.proofs.Short.{question_short}
+use Rattle.fmp_search_question.proofs.Short.{question_short}
 use Rattle.fmp_run_shrink.proofs.run.run_shrink.Goals as goal
 
 pub left_of-requires-clause-short : goal.left_of-requires-clause-short

@@ -1,5 +1,5 @@
-use Rattle.fmp_search_runners.proofs.Parts.{part_of_itself, part_of_part}
-use Rattle.fmp_search_shrink.proofs.Parts.{part_is_on}
+use Rattle.fmp_search_shrink.proofs.Parts.{part_of_itself, part_of_part}
+use Rattle.fmp_search_shrink.proofs.Without.{part_is_on}
 use Rattle.fmp_search_shrink.proofs.shrinking.in_rows.Goals as goal
 
 pub loop-size-init : goal.loop-size-init

@@ -1,6 +1,6 @@
 use Rattle.std.proofs.Common.{refl}
-use Rattle.fmp_search_runners.proofs.Parts.{part_of_itself, part_of_part}
-use Rattle.fmp_search_shrink.proofs.Parts.{part_is_on}
+use Rattle.fmp_search_shrink.proofs.Parts.{part_of_itself, part_of_part}
+use Rattle.fmp_search_shrink.proofs.Without.{part_is_on}
 use Rattle.fmp_search_shrink.proofs.shrinking.one_by_one.Goals as goal
 
 pub loop-rest-init : goal.loop-rest-init

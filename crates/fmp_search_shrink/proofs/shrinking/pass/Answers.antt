@@ -4,10 +4,10 @@ use Rattle.std.proofs.Math.Nat.{min-eq_left, min-le_right}
 use Rattle.std.proofs.lemmas.Bool.{false≢true}
 use Rattle.fmp_codes.specs.Records.{AreOn}
 use Rattle.fmp_codes.specs.declared.records.Event.{Event}
-use Rattle.fmp_search_runners.specs.Runners.{IsPartOf}
-use Rattle.fmp_search_runners.proofs.Parts.{part_of_itself, part_of_part}
+use Rattle.fmp_search_shrink.specs.Runners.{IsPartOf}
+use Rattle.fmp_search_shrink.proofs.Parts.{part_of_itself, part_of_part}
 use Rattle.fmp_search_shrink.specs.Shrinking.{AnswersShow, KeepsTo, without}
-use Rattle.fmp_search_shrink.proofs.Parts.{before_or_here, without_is_part, without_is_long, without_is_on, without_is_shorter}
+use Rattle.fmp_search_shrink.proofs.Without.{before_or_here, without_is_part, without_is_long, without_is_on, without_is_shorter}
 use Rattle.fmp_search_shrink.proofs.shrinking.pass.Goals as goal
 
 pub loop-at-init : goal.loop-at-init

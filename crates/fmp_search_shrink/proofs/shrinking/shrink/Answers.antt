@@ -1,9 +1,9 @@
 use Rattle.std.proofs.Common.{◌+◌, List, subst}
 use Rattle.fmp_codes.specs.declared.records.Event.{Event}
-use Rattle.fmp_search_runners.proofs.Parts.{part_of_part}
+use Rattle.fmp_search_shrink.proofs.Parts.{part_of_part}
 use Rattle.fmp_search_shrink.specs.Shrinking.{IsKeeping, without}
 use Rattle.fmp_search_shrink.proofs.Kept.{keeps, keeps_to, whole_keeps}
-use Rattle.fmp_search_shrink.proofs.Parts.{part_is_on}
+use Rattle.fmp_search_shrink.proofs.Without.{part_is_on}
 use Rattle.fmp_search_shrink.proofs.shrinking.shrink.Goals as goal
 
 pub in_rows-requires-clause-keeps : goal.in_rows-requires-clause-keeps

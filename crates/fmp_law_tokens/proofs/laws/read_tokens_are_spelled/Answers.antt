@@ -1,5 +1,0 @@
-use Rattle.fmp_law_tokens.proofs.Spelled.{tokens_are_spelled}
-use Rattle.fmp_law_tokens.proofs.laws.read_tokens_are_spelled.Goals as goal
-
-pub returns : goal.returns
-returns c = tokens_are_spelled

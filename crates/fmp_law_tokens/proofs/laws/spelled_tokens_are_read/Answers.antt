@@ -1,5 +1,0 @@
-use Rattle.fmp_law_tokens.proofs.Reading.{tokens_are_read}
-use Rattle.fmp_law_tokens.proofs.laws.spelled_tokens_are_read.Goals as goal
-
-pub returns : goal.returns
-returns c = tokens_are_read

@@ -1,0 +1,131 @@
+//! Going over a partial trace: each line is read, and its event played.
+ghost use Rattle.std.specs.Prelude.{◌≡◌, ◌≤◌, ◌<◌, ◌+◌, ◌⊎◌, List, length, Ok, IfOk, IfErr, OnOk};
+ghost use Rattle.fmp_codes.specs.declared.records.Event.{Event as AnyEvent};
+ghost use Rattle.fmp_codes.specs.declared.records.Record.{Record as AnyRecord};
+ghost use Rattle.fmp_trace_check.specs.Checking.{PrintsAnswers};
+ghost use Rattle.fmp_rules.specs.Boot.{booted};
+ghost use Rattle.fmp_text.specs.Events.{IsMemory};
+ghost use Rattle.fmp_text.specs.Limits.{most_bytes};
+ghost use Rattle.fmp_trace.specs.Reading.{GivesOrFails};
+ghost use Rattle.fmp_run_partial.specs.Following as spec;
+ghost use Rattle.fmp_run_partial.specs.Verdicts.{JudgesPartly, PartlyPrintsAnswers};
+ghost use Rattle.fmp_trace_partial.specs.Partly.{FirstFault, PartlyPrintsWithin};
+
+use fmp_codes::{Answer, Event, Proc, Record};
+use fmp_plain::Plain;
+use fmp_rules::Config;
+use fmp_text::{MOST_BYTES, Names, TextFault, TextKind};
+use fmp_trace::next_line;
+use fmp_trace_check::Verdict;
+use fmp_trace_partial::{Said, put_kept, read_said};
+use std::alloc::{AllocError, Global};
+
+/// A plain machine that plays the events of lines until one of them differs.
+#[derive(Drop)]
+struct Follower {
+    plain: Plain,
+    /// What it answered last.
+    report: Record,
+    /// What is printed of that where as much is left out as in the line.
+    own: Vec<u8>,
+    /// The verdict on the lines so far.
+    verdict: Verdict,
+}
+
+impl Follower {
+    /// The machine at boot.
+    fn boot(alloc: Global, config: &Config) -> Result<Follower, AllocError>
+        ensures state { IfOk result (λ f. f.plain ≡ record { state = booted config.now; steps = 0 }) }
+        ensures verdict { IfOk result (λ f. f.verdict ≡ Verdict.Yes) }
+    {
+        Ok(Follower {
+            plain: Plain::boot(config)?,
+            report: Record::answer(Event::Tick(Proc::new(1)), None, Answer::Nothing),
+            own: Vec::new(alloc),
+            verdict: Verdict::Yes,
+        })
+    }
+
+    /// Judges line n, which says this, unless one before it differs.
+    fn follow(&mut self, names: &Names, n: u32, said: &Said, line: &[u8]) -> Result<(), AllocError>
+        requires { self.old.plain.steps < 4294967295 }
+        ensures verdict { OnOk result (self.new.verdict ≡ spec.verdict_after names.now self.old.verdict self.old.plain.state n said.now line.now) }
+        ensures state { self.new.plain.state ≡ spec.state_after self.old.verdict self.old.plain.state said.now }
+        ensures steps { self.new.plain.steps ≤ self.old.plain.steps + 1 }
+    {
+        match self.verdict {
+            Verdict::No(_) => Ok(()),
+            Verdict::Yes => {
+                self.plain.step_into(said.entry.event, &mut self.report);
+                self.own.clear();
+                put_kept(&mut self.own, names, n, said.kept, &self.report)?;
+                if self.own.as_slice() != line {
+                    self.verdict = Verdict::No(n);
+                }
+                Ok(())
+            }
+        }
+    }
+}
+
+/// Goes over a text that is within the limit of bytes.
+fn judge_lines(alloc: Global, config: &Config, text: &[u8]) -> Result<Verdict, TextFault>
+    requires { length text.now ≤ most_bytes }
+    ensures { GivesOrFails (λ v. v) result (spec.judged_lines config.now text.now) }
+{
+    let names = config.names();
+    names.validity();
+    let mut follower = Follower::boot(alloc, config)?;
+    let mut scratch = Vec::new(alloc);
+    let mut number: u32 = 1;
+    let mut rest = text;
+    while let Some((line, after)) = next_line(rest) {
+        let said = read_said(&mut scratch, names, number, line)?;
+        follower.follow(names, number, &said, line)?;
+        number += 1;
+        rest = after;
+    }
+    if rest.is_empty() {
+        Ok(follower.verdict)
+    } else {
+        Err(TextFault {
+            kind: TextKind::CutShort,
+            line: number,
+        })
+    }
+}
+
+/// The verdict on a text, or its first fault.
+#[tactic(auto, unfolding(crate::specs::Following::judged, fmp_trace_partial::specs::Saying::said_in))]
+fn judge(alloc: Global, config: &Config, text: &[u8]) -> Result<Verdict, TextFault>
+    ensures { GivesOrFails (λ v. v) result (spec.judged config.now text.now) }
+{
+    if text.len() > MOST_BYTES {
+        return Err(TextFault {
+            kind: TextKind::TooMany,
+            line: 0,
+        });
+    }
+    judge_lines(alloc, config, text)
+}
+
+/// Checks a partial trace against what the plain machine answers to its events. Each line may leave out its number, its runner
+/// and each field after its answer: what is not written is not judged. It keeps no list of records.
+///
+/// A fault is that of the first line that partly prints no record, wherever in the text it is: only a text without one has a
+/// verdict.
+pub fn check_partial(alloc: Global, config: &Config, text: &[u8]) -> Result<Verdict, TextFault>
+    // The lines partly print records, and the verdict compares what they write with the answers to the events of these.
+    ensures verdict { IfOk result (JudgesPartly config.now text.now) }
+    // A text that partly prints records has a verdict, unless memory ran out.
+    ensures complete { (records : List AnyRecord) → PartlyPrintsWithin config.now.names text.now records → IfErr result IsMemory }
+    // That of what the machine answers to any events, with any parts left out, is yes.
+    ensures answers { (events : List AnyEvent) → PartlyPrintsAnswers config.now text.now events → GivesOrFails (λ v. v) result (Ok Verdict.Yes) }
+    // So is that of the machine's own trace, of which nothing is left out.
+    ensures own { (events : List AnyEvent) → PrintsAnswers config.now text.now events → GivesOrFails (λ v. v) result (Ok Verdict.Yes) }
+    // The fault is the first one, or want of memory.
+    ensures fault { IfErr result (λ fault. FirstFault config.now.names text.now fault ⊎ IsMemory fault) }
+{
+    config.names().validity();
+    judge(alloc, config, text)
+}

@@ -1,1 +1,0 @@
-pub mod Seen  -- How many steps of a question may have been seen.
