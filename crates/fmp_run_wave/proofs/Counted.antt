@@ -1,5 +1,9 @@
 -- The texts of the numbers 1 to n, and one more.
-use Rattle.std.proofs.Common.{◌≡◌, ℕ, ◌+◌, suc, List, [], ◌++◌, add-one, refl, sym, ap, ◌∙◌, append_assoc, append-nil}
+use Rattle.std.proofs.Common.{◌≡◌, ℕ, zero, suc, ◌+◌, ◌-◌, ◌≤◌, List, [], ◌++◌, map, add-one, refl, sym, ap, ap₂, ◌∙◌, append_assoc, append-nil, arith}
+use Rattle.std.specs.List.{range_with_len}
+use Rattle.std.proofs.lemmas.List.FromFn.{get_or-map-range_with_len, length-map-range_with_len}
+use Rattle.fmp_rules.specs.World.{item}
+use Rattle.fmp_run_wave.specs.Changes.{told_of}
 use Rattle.fmp_run_wave.specs.Listing.{each}
 
 each-nil : (f : ℕ → List ℕ) → each f 0 ≡ []
@@ -21,3 +25,29 @@ nothing_yet f old = sym (ap (λ (xs : List ℕ). old ++ xs) (each-nil f) ∙ app
 pub grown : (f : ℕ → List ℕ) (n : ℕ) (old between new : List ℕ) → between ≡ old ++ each f n → new ≡ between ++ f (n + 1) → new ≡ old ++ each f (n + 1)
 grown f n old between new before here =
     here ∙ ap (λ (xs : List ℕ). xs ++ f (n + 1)) before ∙ append_assoc old (each f n) (f (n + 1)) ∙ ap (λ (xs : List ℕ). old ++ xs) (sym (each-more f n))
+
+-- texts that are the same one by one
+each_same : (f g : ℕ → List ℕ) (n : ℕ) → ((k : ℕ) → 1 ≤ k → k ≤ n → f k ≡ g k) → each f n ≡ each g n
+each_same f g zero same = each-nil f ∙ sym (each-nil g)
+each_same f g (suc n) same =
+    each-suc f n ∙ ap₂ (λ (xs ys : List ℕ). xs ++ ys) (each_same f g n (λ k least most. same k least (omega (arith, most)))) (same (suc n) (omega arith) (omega arith)) ∙ sym (each-suc g n)
+
+module _ {X : Type 0} (told : ℕ → X → X → List ℕ) (blank : X) (f : ℕ → X) (old : List X) where
+  -- what is told of one that is now what f says
+  abbrev pub told_at : ℕ → List ℕ
+  told_at n = told n (item blank old n) (f n)
+
+  -- of one more
+  pub told_more : (n : ℕ) (x : X) (out between new : List ℕ) → between ≡ out ++ each told_at n → new ≡ between ++ told (n + 1) x (f (n + 1)) → x ≡ item blank old (n + 1)
+      → new ≡ out ++ each told_at (n + 1)
+  told_more n x out between new so_far here is = grown told_at n out between new so_far (here ∙ ap (λ (y : X). between ++ told (n + 1) y (f (n + 1))) is)
+
+  -- of all
+  told_all : (n : ℕ) → each told_at n ≡ told_of told blank old (map f (range_with_len 1 n))
+  told_all n =
+      each_same told_at (λ (k : ℕ). told k (item blank old k) (item blank (map f (range_with_len 1 n)) k)) n
+      (λ k least most. ap (told k (item blank old k)) (sym (get_or-map-range_with_len f 1 n (k - 1) k blank (omega (arith, least, most)) (omega (arith, least)))))
+      ∙ ap (each (λ (k : ℕ). told k (item blank old k) (item blank (map f (range_with_len 1 n)) k))) (sym (length-map-range_with_len f 1 n))
+
+  pub all_told : (n : ℕ) (out new : List ℕ) → new ≡ out ++ each told_at n → new ≡ out ++ told_of told blank old (map f (range_with_len 1 n))
+  all_told n out new so_far = so_far ∙ ap (λ (xs : List ℕ). out ++ xs) (told_all n)

@@ -8,6 +8,7 @@ use Rattle.fmp_codes.specs.declared.records.Runner.TheVariants as runner
 use Rattle.fmp_codes.proofs.Same.{tasks_same, objects_same}
 use Rattle.fmp_codes.specs.Numbers.{task_number}
 use Rattle.fmp_run_wave.specs.declared.snapshot.ShownProcessor.{ShownProcessor}
+use Rattle.fmp_run_wave.specs.declared.snapshot.ShownTask.{ShownTask}
 use Rattle.fmp_run_wave.specs.declared.snapshot.TaskNumbers.{TaskNumbers}
 use Rattle.fmp_run_wave.specs.Shown.{Shown}
 
@@ -37,7 +38,10 @@ same_shown_processor x y running locked disabled latch due =
 pub same_task_numbers : (x y : TaskNumbers) → x.priority ≡ y.priority → x.activations ≡ y.activations → x.wakeups ≡ y.wakeups → x ≡ y
 same_task_numbers x y priority activations wakeups = rw (priority, activations, wakeups) refl
 
-pub same_shown : (x y : Shown) → x.processors ≡ y.processors → x.tasks ≡ y.tasks → x.waits ≡ y.waits → x.counts ≡ y.counts
+pub same_shown_task : (x y : ShownTask) → x.state ≡ y.state → x.numbers ≡ y.numbers → x.wait ≡ y.wait → x ≡ y
+same_shown_task x y state numbers wait = rw (state, numbers, wait) refl
+
+pub same_shown : (x y : Shown) → x.processors ≡ y.processors → x.tasks ≡ y.tasks
     → x.semaphores ≡ y.semaphores → x.eventflags ≡ y.eventflags → x.data_queues ≡ y.data_queues → x.pools ≡ y.pools → x.holders ≡ y.holders → x ≡ y
-same_shown x y processors tasks waits counts semaphores eventflags data_queues pools holders =
-    rw (processors, tasks, waits, counts, semaphores, eventflags, data_queues, pools, holders) refl
+same_shown x y processors tasks semaphores eventflags data_queues pools holders =
+    rw (processors, tasks, semaphores, eventflags, data_queues, pools, holders) refl

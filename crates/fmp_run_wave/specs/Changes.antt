@@ -1,11 +1,12 @@
 -- The lines of the signals whose values an event changed, in the order of their declarations.
 use Rattle.std.specs.Prelude.{ℕ, Bool, true, false, ◌==◌, Option, List, [], ◌++◌, length, if◌then◌else◌}
 use Rattle.std.specs.Str.{bytes_eq}
-use Rattle.fmp_codes.specs.Numbers.{as_object, as_proc, as_task}
+use Rattle.fmp_codes.specs.Numbers.{as_proc, as_task}
 use Rattle.fmp_codes.specs.declared.numbers.Proc.{Proc}
 use Rattle.fmp_codes.specs.declared.numbers.Task.{Task}
 use Rattle.fmp_codes.specs.declared.records.Runner.{Runner}
 use Rattle.fmp_rules.specs.declared.machine.Wait.{Wait}
+use Rattle.fmp_rules.specs.World.{item}
 use Rattle.fmp_names.specs.Names.{NameLists}
 use Rattle.fmp_trace.specs.Lines.{runner_text, running_text}
 use Rattle.fmp_run_wave.specs.declared.resource.Resource.{Resource}
@@ -13,11 +14,12 @@ use Rattle.fmp_run_wave.specs.declared.resource.Resource.TheVariants as resource
 use Rattle.fmp_run_wave.specs.declared.signal.Signal.{Signal}
 use Rattle.fmp_run_wave.specs.declared.signal.Signal.TheVariants as signals
 use Rattle.fmp_run_wave.specs.declared.snapshot.ShownProcessor.{ShownProcessor}
+use Rattle.fmp_run_wave.specs.declared.snapshot.ShownTask.{ShownTask}
 use Rattle.fmp_run_wave.specs.declared.snapshot.TaskNumbers.{TaskNumbers}
 use Rattle.fmp_rules.specs.declared.states.TaskState.{TaskState}
 use Rattle.fmp_run_wave.specs.Listing.{each}
 use Rattle.fmp_run_wave.specs.Resources.{signal_of}
-use Rattle.fmp_run_wave.specs.Shown.{Shown, counts_of, number_at, numbers_of, on_processor, state_of, wait_of}
+use Rattle.fmp_run_wave.specs.Shown.{Shown, no_task_shown, nothing_shown, numbers_of}
 use Rattle.fmp_run_wave.specs.Values.{bit_value, due_value, number_value, running_value, state_value, state_word, wait_text, wait_value}
 
 -- a line, if the text of its value is not the old one
@@ -66,38 +68,36 @@ counts_change t old new =
     ++ number_change signals.Activations t.number old.activations new.activations
     ++ number_change signals.Wakeups t.number old.wakeups new.wakeups
 
-module _ (lists : NameLists) (old new : Shown) where
-  -- of the processor, and of the task, of this number
-  unfoldable pub processor_changed : ℕ → List ℕ
-  processor_changed n = processor_changes lists (as_proc n) (on_processor old (as_proc n)) (on_processor new (as_proc n))
+-- the state of a task, what it waits for, and its numbers
+unfoldable pub task_changes : NameLists → Task → ShownTask → ShownTask → List ℕ
+task_changes lists t old new = state_change t old.state new.state ++ wait_change lists t old.wait new.wait ++ counts_change t old.numbers new.numbers
 
-  unfoldable pub task_changed : ℕ → List ℕ
-  task_changed n =
-      state_change (as_task n) (state_of old (as_task n)) (state_of new (as_task n))
-      ++ wait_change lists (as_task n) (wait_of old (as_task n)) (wait_of new (as_task n))
-      ++ counts_change (as_task n) (counts_of old (as_task n)) (counts_of new (as_task n))
+-- of the processor, of the task, and of the object of a kind that has this number
+abbrev pub processor_told : NameLists → ℕ → ShownProcessor → ShownProcessor → List ℕ
+processor_told lists n old new = processor_changes lists (as_proc n) old new
+
+abbrev pub task_told : NameLists → ℕ → ShownTask → ShownTask → List ℕ
+task_told lists n old new = task_changes lists (as_task n) old new
+
+abbrev pub number_told : Resource → ℕ → ℕ → ℕ → List ℕ
+number_told r n old new = number_change (signal_of r) n old new
+
+-- of all that a list shows now, by what was shown before
+abbrev pub told_of : {X : Type 0} → (ℕ → X → X → List ℕ) → X → List X → List X → List ℕ
+told_of told blank old new = each (λ n. told n (item blank old n) (item blank new n)) (length new)
 
 module _ (old new : Shown) where
-  -- of the object of a kind with this number
-  unfoldable pub number_changed : Resource → ℕ → List ℕ
-  number_changed r n = number_change (signal_of r) (as_object n).number (number_at old r (as_object n)) (number_at new r (as_object n))
-
   -- of all objects of a kind
   abbrev pub numbers_changes : Resource → List ℕ
-  numbers_changes r = each (number_changed r) (length (numbers_of new r))
-
-  -- of semaphores and eventflags
-  unfoldable pub sync_changes : List ℕ
-  sync_changes = numbers_changes resources.Semaphore ++ numbers_changes resources.Eventflag
-
-  -- of data queues and pools
-  unfoldable pub buffers_changes : List ℕ
-  buffers_changes = numbers_changes resources.DataQueue ++ numbers_changes resources.Pool
-
-  unfoldable pub objects_changes : List ℕ
-  objects_changes = sync_changes ++ buffers_changes ++ numbers_changes resources.SpinLock
+  numbers_changes r = told_of (number_told r) 0 (numbers_of old r) (numbers_of new r)
 
 -- of all signals but the calls, which are told of each event
 unfoldable pub changes_text : NameLists → Shown → Shown → List ℕ
 changes_text lists old new =
-    each (processor_changed lists old new) (length new.processors) ++ each (task_changed lists old new) (length new.tasks) ++ objects_changes old new
+    told_of (processor_told lists) nothing_shown old.processors new.processors
+    ++ told_of (task_told lists) no_task_shown old.tasks new.tasks
+    ++ numbers_changes old new resources.Semaphore
+    ++ numbers_changes old new resources.Eventflag
+    ++ numbers_changes old new resources.DataQueue
+    ++ numbers_changes old new resources.Pool
+    ++ numbers_changes old new resources.SpinLock

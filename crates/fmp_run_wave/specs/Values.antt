@@ -22,7 +22,7 @@ use Rattle.fmp_rules.specs.declared.states.TaskState.{TaskState}
 use Rattle.fmp_rules.specs.declared.states.TaskState.TheVariants as states
 use Rattle.fmp_run_wave.specs.Listing.{each}
 use Rattle.fmp_run_wave.specs.Resources.{signal_of}
-use Rattle.fmp_run_wave.specs.Shown.{Shown, counts_of, number_at, numbers_of, on_processor, state_of, wait_of}
+use Rattle.fmp_run_wave.specs.Shown.{Shown, number_at, numbers_of, on_processor, on_task}
 use Rattle.fmp_run_wave.specs.Signals.{identifier}
 
 -- what stands after a value of more than a bit
@@ -108,9 +108,9 @@ module _ (lists : NameLists) (s : Shown) where
 
   unfoldable pub task_lines : ℕ → List ℕ
   task_lines n =
-      state_value (as_task n) (state_of s (as_task n))
-      ++ wait_value lists (as_task n) (wait_of s (as_task n))
-      ++ counts_values (as_task n) (counts_of s (as_task n))
+      state_value (as_task n) (on_task s (as_task n)).state
+      ++ wait_value lists (as_task n) (on_task s (as_task n)).wait
+      ++ counts_values (as_task n) (on_task s (as_task n)).numbers
 
 -- of the object of a kind with this number
 unfoldable pub number_line : Shown → Resource → ℕ → List ℕ

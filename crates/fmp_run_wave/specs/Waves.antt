@@ -1,5 +1,5 @@
 -- The waveform of what a machine does at events, as a Value Change Dump. An event is a unit of time.
-use Rattle.std.specs.Prelude.{ℕ, ◌+◌, ◌==◌, not, true, List, [], ◌∷◌, ◌++◌, filter, if◌then◌else◌, codes, decimal}
+use Rattle.std.specs.Prelude.{ℕ, ◌+◌, ◌==◌, Bool, ◌||◌, is_some, not, true, List, [], ◌∷◌, ◌++◌, filter, if◌then◌else◌, codes, decimal}
 use Rattle.fmp_bytes.specs.Bytes.{space}
 use Rattle.fmp_codes.specs.Records.{processor_of}
 use Rattle.fmp_codes.specs.declared.records.Event.{Event}
@@ -12,10 +12,11 @@ use Rattle.fmp_setup.specs.Setup.{Setup}
 use Rattle.fmp_rules.specs.Step.{step}
 use Rattle.fmp_law_frames.specs.Frames.{moves_buffers, moves_locks, moves_sync, moves_tasks}
 use Rattle.fmp_trace.specs.Lines.{answer_text, event_text}
+use Rattle.fmp_run_wave.specs.declared.resource.Resource.TheVariants.{Semaphore, Eventflag, DataQueue, Pool, SpinLock}
 use Rattle.fmp_run_wave.specs.declared.signal.Signal.TheVariants as signals
 use Rattle.fmp_run_wave.specs.Changes.{changes_text}
 use Rattle.fmp_run_wave.specs.Headers.{header_text}
-use Rattle.fmp_run_wave.specs.Shown.{Shown, shown_of}
+use Rattle.fmp_run_wave.specs.Shown.{Shown, shown_numbers, shown_of, shown_processors, shown_tasks}
 use Rattle.fmp_run_wave.specs.Values.{bit_value, text_value, values_text}
 
 -- the time of event n
@@ -73,21 +74,21 @@ pub record Picture : Type 0 where
 abbrev pub start_of : Setup → Picture
 start_of c = let s = shown_of (booted c) in record { shown = s; wave = start_text c s }
 
+-- the states of tasks, what they wait for, or their numbers may be others after an event of which this is told
+abbrev pub moves_states : Record → Bool
+moves_states r = moves_tasks r || is_some r.run_change
+
 -- what is shown of a state to which an event led of which this is told: what the event left is shown as before
 abbrev pub shown_by : Shown → Record → State → Shown
-shown_by s r w =
-    let now = shown_of w in
-    record {
-      processors = now.processors;
-      tasks = now.tasks;
-      waits = if moves_tasks r then now.waits else s.waits;
-      counts = if moves_tasks r then now.counts else s.counts;
-      semaphores = if moves_sync r then now.semaphores else s.semaphores;
-      eventflags = if moves_sync r then now.eventflags else s.eventflags;
-      data_queues = if moves_buffers r then now.data_queues else s.data_queues;
-      pools = if moves_buffers r then now.pools else s.pools;
-      holders = if moves_locks r then now.holders else s.holders;
-    }
+shown_by s r w = record {
+  processors = shown_processors w;
+  tasks = if moves_states r then shown_tasks w else s.tasks;
+  semaphores = if moves_sync r then shown_numbers w Semaphore else s.semaphores;
+  eventflags = if moves_sync r then shown_numbers w Eventflag else s.eventflags;
+  data_queues = if moves_buffers r then shown_numbers w DataQueue else s.data_queues;
+  pools = if moves_buffers r then shown_numbers w Pool else s.pools;
+  holders = if moves_locks r then shown_numbers w SpinLock else s.holders;
+}
 
 -- with the lines of what changed up to this state
 abbrev pub shown_after : Picture → NameLists → Record → State → Picture

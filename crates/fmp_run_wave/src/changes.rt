@@ -1,26 +1,32 @@
 //! What is told of one event: its time, its tick, the event itself with its answer, and the values that it changed.
-ghost use Rattle.std.specs.Prelude.{◌≡◌, ◌+◌, ◌<◌, ◌++◌, length, not, IfOk, OnOk};
+ghost use Rattle.std.specs.Prelude.{◌≡◌, ◌≤◌, ◌+◌, ◌<◌, ◌∷◌, ◌++◌, drop, if◌then◌else◌, length, not, slice_index_or, take, IfOk, OnOk};
 ghost use Rattle.std.specs.Str.{bytes_eq};
+ghost use Rattle.fmp_codes.specs.Numbers.{as_object, as_proc, as_task};
 ghost use Rattle.fmp_trace.specs.Lines.{runner_text, running_text};
 ghost use Rattle.fmp_run_wave.specs.Changes as spec;
-ghost use Rattle.fmp_run_wave.specs.Kept.{Keeps};
-ghost use Rattle.fmp_run_wave.specs.Listing.{each};
-ghost use Rattle.fmp_run_wave.specs.Shown.{state_of};
+ghost use Rattle.fmp_run_wave.specs.Resources.{number_in as number_of};
+ghost use Rattle.fmp_run_wave.specs.Shown.{no_task_shown, nothing_shown, shown_numbers, shown_processors, shown_tasks};
+ghost use Rattle.fmp_run_wave.specs.Shown.{shown_processor as processor_of, shown_task as task_of};
 ghost use Rattle.fmp_run_wave.specs.Values.{wait_text};
 ghost use Rattle.fmp_run_wave.specs.Waves as waves;
 
-use crate::resource::{Resource, signal_of};
+use crate::resource::{Resource, count_in, number_in, signal_of};
 use crate::signal::Signal;
-use crate::snapshot::{ShownProcessor, Snapshot, TaskNumbers};
+use crate::snapshot::{
+    ShownProcessor, ShownTask, Snapshot, TaskNumbers, item_at, put_item, shown_processor,
+    shown_task, shows_processor, shows_task,
+};
 use crate::values::{
     put_bit_value, put_due_value, put_number_value, put_running_value, put_state_value,
     put_value_end, put_wait, put_wait_value, state_word,
 };
+use arrayvec::ArrayVec;
 use fmp_codes::{Event, Object, Proc, Record, Runner, Task};
-use fmp_kernel_same::Same;
 use fmp_law_frames::{moves_buffers, moves_locks, moves_sync, moves_tasks};
 use fmp_names::Names;
+use fmp_plain_machine::PlainMachine;
 use fmp_rules::{TaskState, Wait};
+use fmp_step_words::Words;
 use fmp_trace::{put_answer, put_event, put_number, put_runner, put_running};
 use std::alloc::{AllocError, Global};
 
@@ -237,41 +243,73 @@ fn put_processor_changes(
     put_due_change(out, texts, names, p, old.due, new.due)
 }
 
-/// Adds the lines of those signals of the processor at a place that changed.
-#[tactic(auto, unfolding(crate::specs::Changes::processor_changed))]
+/// Adds the lines of those signals of the processor at a place that are others now, and shows it so.
+#[inline(never)]
+fn put_processor_anew(
+    out: &mut Vec<u8>,
+    texts: &mut Texts,
+    names: &Names,
+    shown: &mut ArrayVec<ShownProcessor, 8>,
+    machine: &PlainMachine,
+    index: usize,
+) -> Result<(), AllocError>
+    requires place { index < 8 }
+    requires next { index ≤ length shown.old.items }
+    ensures told { OnOk result (out.new.items ≡ out.old.items ++ spec.processor_told names.now (index + 1)
+        (slice_index_or shown.old.items index nothing_shown) (processor_of machine.now (as_proc (index + 1)))) }
+    ensures shown { shown.new.items ≡ take index shown.old.items ++ (processor_of machine.now (as_proc (index + 1)) ∷ drop (index + 1) shown.old.items) }
+{
+    let p = Proc::from_index(index);
+    let old = item_at(shown.as_slice(), index, ShownProcessor::default());
+    let new = shown_processor(machine, p);
+    put_item(shown, index, new);
+    put_processor_changes(out, texts, names, p, old, new)
+}
+
+/// The same. Mostly the processor is shown as it is.
+#[inline(always)]
+#[tactic(auto, using(crate::proofs::Unchanged::no_processor_lines, crate::proofs::Alike::item_stays))]
 fn put_processor_change(
     out: &mut Vec<u8>,
     texts: &mut Texts,
     names: &Names,
-    old: &Snapshot,
-    new: &Snapshot,
+    shown: &mut ArrayVec<ShownProcessor, 8>,
+    machine: &PlainMachine,
     index: usize,
 ) -> Result<(), AllocError>
-    requires { index < 8 }
-    ensures { OnOk result (out.new.items ≡ out.old.items ++ spec.processor_changed names.now old.now new.now (index + 1)) }
+    requires place { index < 8 }
+    requires next { index ≤ length shown.old.items }
+    ensures told { OnOk result (out.new.items ≡ out.old.items ++ spec.processor_told names.now (index + 1)
+        (slice_index_or shown.old.items index nothing_shown) (processor_of machine.now (as_proc (index + 1)))) }
+    ensures shown { shown.new.items ≡ take index shown.old.items ++ (processor_of machine.now (as_proc (index + 1)) ∷ drop (index + 1) shown.old.items) }
 {
-    let p = Proc::from_index(index);
-    put_processor_changes(out, texts, names, p, old.processor(p), new.processor(p))
+    if shows_processor(shown.as_slice(), machine, index) {
+        return Ok(());
+    }
+    put_processor_anew(out, texts, names, shown, machine, index)
 }
 
-/// Adds the lines of those signals of processors that changed.
+/// Adds the lines of those signals of processors that are others now, and shows all as they are.
 fn put_processors_changes(
     out: &mut Vec<u8>,
     texts: &mut Texts,
     names: &Names,
-    old: &Snapshot,
-    new: &Snapshot,
+    shown: &mut ArrayVec<ShownProcessor, 8>,
+    machine: &PlainMachine,
 ) -> Result<(), AllocError>
-    ensures { OnOk result (out.new.items ≡ out.old.items ++ each (spec.processor_changed names.now old.now new.now) (length new.now.processors)) }
+    ensures told { OnOk result (out.new.items ≡ out.old.items
+        ++ spec.told_of (spec.processor_told names.now) nothing_shown shown.old.items (shown_processors machine.now)) }
+    ensures shown { OnOk result (shown.new.items ≡ shown_processors machine.now) }
 {
-    for index in 0..new.processor_count() {
-        put_processor_change(out, texts, names, old, new, index)?;
+    let count = machine.processor_count();
+    for index in 0..count {
+        put_processor_change(out, texts, names, shown, machine, index)?;
     }
+    shown.truncate(count);
     Ok(())
 }
 
 /// Adds the line of a task's state, if that changed.
-#[inline(always)]
 fn put_state_change(
     out: &mut Vec<u8>,
     t: Task,
@@ -286,24 +324,7 @@ fn put_state_change(
     Ok(())
 }
 
-/// Adds the line of a task's state, if that changed. The states are found only where they may be others.
-#[inline(always)]
-fn put_found_change(
-    out: &mut Vec<u8>,
-    t: Task,
-    old: &Snapshot,
-    new: &Snapshot,
-) -> Result<(), AllocError>
-    ensures { OnOk result (out.new.items ≡ out.old.items ++ spec.state_change t (state_of old.now t) (state_of new.now t)) }
-{
-    if old.has_same_task(new, t) {
-        return Ok(());
-    }
-    put_state_change(out, t, old.task(t), new.task(t))
-}
-
 /// Adds the line of what a task waits for, if it is told by another word than before.
-#[inline(always)]
 fn put_wait_change(
     out: &mut Vec<u8>,
     texts: &mut Texts,
@@ -314,9 +335,6 @@ fn put_wait_change(
 ) -> Result<(), AllocError>
     ensures { OnOk result (out.new.items ≡ out.old.items ++ spec.wait_change names.now t old new) }
 {
-    if old.is_same(&new) {
-        return Ok(());
-    }
     if texts.tell_waits_apart(names, old, new)? {
         put_wait_value(out, names, t, new)?;
     }
@@ -341,7 +359,6 @@ fn put_number_change(
 }
 
 /// Adds the lines of those of a task's numbers that changed.
-#[inline(always)]
 #[tactic(auto, unfolding(crate::specs::Changes::counts_change))]
 fn put_counts_change(
     out: &mut Vec<u8>,
@@ -374,202 +391,222 @@ fn put_counts_change(
     )
 }
 
-/// Adds the lines of those signals of the task at a place that changed.
+/// Adds the lines of those signals of a task that changed.
+#[tactic(auto, unfolding(crate::specs::Changes::task_changes))]
+fn put_task_changes(
+    out: &mut Vec<u8>,
+    texts: &mut Texts,
+    names: &Names,
+    t: Task,
+    old: &ShownTask,
+    new: &ShownTask,
+) -> Result<(), AllocError>
+    ensures { OnOk result (out.new.items ≡ out.old.items ++ spec.task_changes names.now t old.now new.now) }
+{
+    put_state_change(out, t, old.state, new.state)?;
+    put_wait_change(out, texts, names, t, old.wait, new.wait)?;
+    put_counts_change(out, t, old.numbers, new.numbers)
+}
+
+/// Adds the lines of those signals of the task at a place that are others now, and shows it so.
+#[inline(never)]
+fn put_task_anew(
+    out: &mut Vec<u8>,
+    texts: &mut Texts,
+    names: &Names,
+    shown: &mut ArrayVec<ShownTask, 64>,
+    machine: &PlainMachine,
+    index: usize,
+) -> Result<(), AllocError>
+    requires place { index < 64 }
+    requires next { index ≤ length shown.old.items }
+    ensures told { OnOk result (out.new.items ≡ out.old.items ++ spec.task_told names.now (index + 1)
+        (slice_index_or shown.old.items index no_task_shown) (task_of machine.now (as_task (index + 1)))) }
+    ensures shown { shown.new.items ≡ take index shown.old.items ++ (task_of machine.now (as_task (index + 1)) ∷ drop (index + 1) shown.old.items) }
+{
+    let t = Task::from_index(index);
+    let old = item_at(shown.as_slice(), index, ShownTask::default());
+    let new = shown_task(machine, t);
+    put_item(shown, index, new);
+    put_task_changes(out, texts, names, t, &old, &new)
+}
+
+/// The same. Mostly the task is shown as it is.
 #[inline(always)]
-#[tactic(auto, unfolding(crate::specs::Changes::task_changed))]
+#[tactic(auto, using(crate::proofs::Unchanged::no_task_lines, crate::proofs::Alike::item_stays))]
 fn put_task_change(
     out: &mut Vec<u8>,
     texts: &mut Texts,
     names: &Names,
-    old: &Snapshot,
-    new: &Snapshot,
+    shown: &mut ArrayVec<ShownTask, 64>,
+    machine: &PlainMachine,
     index: usize,
 ) -> Result<(), AllocError>
-    requires { index < 64 }
-    ensures { OnOk result (out.new.items ≡ out.old.items ++ spec.task_changed names.now old.now new.now (index + 1)) }
+    requires place { index < 64 }
+    requires next { index ≤ length shown.old.items }
+    ensures told { OnOk result (out.new.items ≡ out.old.items ++ spec.task_told names.now (index + 1)
+        (slice_index_or shown.old.items index no_task_shown) (task_of machine.now (as_task (index + 1)))) }
+    ensures shown { shown.new.items ≡ take index shown.old.items ++ (task_of machine.now (as_task (index + 1)) ∷ drop (index + 1) shown.old.items) }
 {
-    let t = Task::from_index(index);
-    put_found_change(out, t, old, new)?;
-    put_wait_change(out, texts, names, t, old.wait(t), new.wait(t))?;
-    put_counts_change(out, t, old.counts(t), new.counts(t))
-}
-
-/// Adds the lines of those signals of tasks that changed, one task after the other.
-fn put_each_change(
-    out: &mut Vec<u8>,
-    texts: &mut Texts,
-    names: &Names,
-    old: &Snapshot,
-    new: &Snapshot,
-) -> Result<(), AllocError>
-    ensures { OnOk result (out.new.items ≡ out.old.items ++ each (spec.task_changed names.now old.now new.now) (length new.now.tasks)) }
-{
-    for index in 0..new.task_count() {
-        put_task_change(out, texts, names, old, new, index)?;
+    if shows_task(shown.as_slice(), machine, index) {
+        return Ok(());
     }
-    Ok(())
+    put_task_anew(out, texts, names, shown, machine, index)
 }
 
-/// Adds the lines of those signals of tasks that changed, if any did. The event of which this is told led from one snapshot to the other.
-#[tactic(auto, using(crate::proofs::Unchanged::no_tasks_lines))]
+/// Adds the lines of those signals of tasks that are others now, one task after the other, and shows all as they are.
 fn put_tasks_changes(
     out: &mut Vec<u8>,
     texts: &mut Texts,
     names: &Names,
-    report: &Record,
-    old: &Snapshot,
-    new: &Snapshot,
+    shown: &mut ArrayVec<ShownTask, 64>,
+    machine: &PlainMachine,
 ) -> Result<(), AllocError>
-    requires { Keeps report.now old.now new.now }
-    ensures { OnOk result (out.new.items ≡ out.old.items ++ each (spec.task_changed names.now old.now new.now) (length new.now.tasks)) }
+    ensures told { OnOk result (out.new.items ≡ out.old.items
+        ++ spec.told_of (spec.task_told names.now) no_task_shown shown.old.items (shown_tasks machine.now)) }
+    ensures shown { OnOk result (shown.new.items ≡ shown_tasks machine.now) }
 {
-    if !moves_tasks(report) && old.has_same_states(new) {
-        return Ok(());
+    let count = machine.task_count();
+    for index in 0..count {
+        put_task_change(out, texts, names, shown, machine, index)?;
     }
-    put_each_change(out, texts, names, old, new)
-}
-
-/// Adds the line of the object of a kind at a place, if its number changed.
-#[inline(always)]
-#[tactic(auto, unfolding(crate::specs::Changes::number_changed))]
-fn put_object_change(
-    out: &mut Vec<u8>,
-    old: &Snapshot,
-    new: &Snapshot,
-    resource: Resource,
-    index: usize,
-) -> Result<(), AllocError>
-    requires { index < 32 }
-    ensures { OnOk result (out.new.items ≡ out.old.items ++ spec.number_changed old.now new.now resource (index + 1)) }
-{
-    let o = Object::from_index(index);
-    put_number_change(
-        out,
-        signal_of(resource),
-        o.number,
-        old.number(resource, o),
-        new.number(resource, o),
-    )
-}
-
-/// Adds the lines of the objects of a kind whose numbers changed.
-fn put_numbers_changes(
-    out: &mut Vec<u8>,
-    old: &Snapshot,
-    new: &Snapshot,
-    resource: Resource,
-) -> Result<(), AllocError>
-    ensures { OnOk result (out.new.items ≡ out.old.items ++ spec.numbers_changes old.now new.now resource) }
-{
-    for index in 0..new.number_count(resource) {
-        put_object_change(out, old, new, resource, index)?;
-    }
+    shown.truncate(count);
     Ok(())
 }
 
-/// Adds the lines of the semaphores and eventflags whose numbers changed.
-#[tactic(auto, unfolding(crate::specs::Changes::sync_changes))]
-fn put_each_sync(out: &mut Vec<u8>, old: &Snapshot, new: &Snapshot) -> Result<(), AllocError>
-    ensures { OnOk result (out.new.items ≡ out.old.items ++ spec.sync_changes old.now new.now) }
-{
-    put_numbers_changes(out, old, new, Resource::Semaphore)?;
-    put_numbers_changes(out, old, new, Resource::Eventflag)
-}
-
-/// The same, if the event of which this is told may have changed any.
-#[tactic(auto, using(crate::proofs::Unchanged::no_sync_lines))]
-fn put_sync_changes(
+/// The same, if tasks may be shown in another way after an event.
+#[tactic(auto, using(crate::proofs::Unchanged::no_tasks_told))]
+fn put_tasks_if(
+    moved: bool,
     out: &mut Vec<u8>,
-    report: &Record,
-    old: &Snapshot,
-    new: &Snapshot,
+    texts: &mut Texts,
+    names: &Names,
+    shown: &mut ArrayVec<ShownTask, 64>,
+    machine: &PlainMachine,
 ) -> Result<(), AllocError>
-    requires { Keeps report.now old.now new.now }
-    ensures { OnOk result (out.new.items ≡ out.old.items ++ spec.sync_changes old.now new.now) }
+    ensures told { OnOk result (out.new.items ≡ out.old.items
+        ++ spec.told_of (spec.task_told names.now) no_task_shown shown.old.items (if moved then shown_tasks machine.now else shown.old.items)) }
+    ensures shown { OnOk result (shown.new.items ≡ (if moved then shown_tasks machine.now else shown.old.items)) }
 {
-    if moves_sync(report) {
-        put_each_sync(out, old, new)
+    if moved {
+        put_tasks_changes(out, texts, names, shown, machine)
     } else {
         Ok(())
     }
 }
 
-/// Adds the lines of the data queues and pools whose numbers changed.
-#[tactic(auto, unfolding(crate::specs::Changes::buffers_changes))]
-fn put_each_buffer(out: &mut Vec<u8>, old: &Snapshot, new: &Snapshot) -> Result<(), AllocError>
-    ensures { OnOk result (out.new.items ≡ out.old.items ++ spec.buffers_changes old.now new.now) }
+/// Adds the line of the object of a kind at a place, if its number is another now, and shows it so.
+#[inline(always)]
+fn put_object_change(
+    out: &mut Vec<u8>,
+    numbers: &mut ArrayVec<u64, 32>,
+    machine: &PlainMachine,
+    resource: Resource,
+    index: usize,
+) -> Result<(), AllocError>
+    requires place { index < 32 }
+    requires next { index ≤ length numbers.old.items }
+    ensures told { OnOk result (out.new.items ≡ out.old.items ++ spec.number_told resource (index + 1)
+        (slice_index_or numbers.old.items index 0) (number_of machine.now resource (as_object (index + 1)))) }
+    ensures shown { numbers.new.items ≡ take index numbers.old.items ++ (number_of machine.now resource (as_object (index + 1)) ∷ drop (index + 1) numbers.old.items) }
 {
-    put_numbers_changes(out, old, new, Resource::DataQueue)?;
-    put_numbers_changes(out, old, new, Resource::Pool)
+    let o = Object::from_index(index);
+    let old = item_at(numbers.as_slice(), index, 0);
+    let new = number_in(machine, resource, o);
+    put_item(numbers, index, new);
+    put_number_change(out, signal_of(resource), o.number, old, new)
 }
 
-/// The same, if the event of which this is told may have changed any.
-#[tactic(auto, using(crate::proofs::Unchanged::no_buffers_lines))]
-fn put_buffers_changes(
+/// Adds the lines of the objects of a kind whose numbers are others now, and shows all as they are.
+#[inline(always)]
+fn put_numbers_changes(
     out: &mut Vec<u8>,
-    report: &Record,
-    old: &Snapshot,
-    new: &Snapshot,
+    numbers: &mut ArrayVec<u64, 32>,
+    machine: &PlainMachine,
+    resource: Resource,
 ) -> Result<(), AllocError>
-    requires { Keeps report.now old.now new.now }
-    ensures { OnOk result (out.new.items ≡ out.old.items ++ spec.buffers_changes old.now new.now) }
+    ensures told { OnOk result (out.new.items ≡ out.old.items
+        ++ spec.told_of (spec.number_told resource) 0 numbers.old.items (shown_numbers machine.now resource)) }
+    ensures shown { OnOk result (numbers.new.items ≡ shown_numbers machine.now resource) }
 {
-    if moves_buffers(report) {
-        put_each_buffer(out, old, new)
+    let count = count_in(machine, resource);
+    for index in 0..count {
+        put_object_change(out, numbers, machine, resource, index)?;
+    }
+    numbers.truncate(count);
+    Ok(())
+}
+
+/// The same, if the numbers of the objects of this kind may be others after an event.
+#[inline(always)]
+#[tactic(auto, using(crate::proofs::Unchanged::no_numbers_told))]
+fn put_numbers_if(
+    moved: bool,
+    out: &mut Vec<u8>,
+    numbers: &mut ArrayVec<u64, 32>,
+    machine: &PlainMachine,
+    resource: Resource,
+) -> Result<(), AllocError>
+    ensures told { OnOk result (out.new.items ≡ out.old.items
+        ++ spec.told_of (spec.number_told resource) 0 numbers.old.items (if moved then shown_numbers machine.now resource else numbers.old.items)) }
+    ensures shown { OnOk result (numbers.new.items ≡ (if moved then shown_numbers machine.now resource else numbers.old.items)) }
+{
+    if moved {
+        put_numbers_changes(out, numbers, machine, resource)
     } else {
         Ok(())
     }
 }
 
-/// Adds the lines of the spin locks whose holders changed, if the event of which this is told may have changed any.
-#[tactic(auto, using(crate::proofs::Unchanged::no_locks_lines))]
-fn put_locks_changes(
-    out: &mut Vec<u8>,
-    report: &Record,
-    old: &Snapshot,
-    new: &Snapshot,
-) -> Result<(), AllocError>
-    requires { Keeps report.now old.now new.now }
-    ensures { OnOk result (out.new.items ≡ out.old.items ++ spec.numbers_changes old.now new.now Resource.SpinLock) }
+/// Whether tasks may be shown in another way after an event of which this is told.
+#[inline(always)]
+fn moves_states(report: &Record) -> bool
+    ensures { result ≡ waves.moves_states report.now }
 {
-    if moves_locks(report) {
-        put_numbers_changes(out, old, new, Resource::SpinLock)
-    } else {
-        Ok(())
-    }
+    moves_tasks(report) || report.run_change.is_some()
 }
 
-/// Adds the lines of the objects whose numbers changed.
-#[tactic(auto, unfolding(crate::specs::Changes::objects_changes))]
-fn put_objects_changes(
-    out: &mut Vec<u8>,
-    report: &Record,
-    old: &Snapshot,
-    new: &Snapshot,
-) -> Result<(), AllocError>
-    requires { Keeps report.now old.now new.now }
-    ensures { OnOk result (out.new.items ≡ out.old.items ++ spec.objects_changes old.now new.now) }
-{
-    put_sync_changes(out, report, old, new)?;
-    put_buffers_changes(out, report, old, new)?;
-    put_locks_changes(out, report, old, new)
-}
-
-/// Adds the lines of the signals that changed, in the order of their declarations, where the event of which this is told led from one
-/// snapshot to the other.
+/// Adds the lines of the signals that changed, in the order of their declarations, and shows the machine as it is now. The event of which
+/// this is told led there, and what it left is not looked at.
 #[tactic(auto, unfolding(crate::specs::Changes::changes_text))]
 pub(crate) fn put_changes(
     out: &mut Vec<u8>,
     texts: &mut Texts,
     names: &Names,
     report: &Record,
-    old: &Snapshot,
-    new: &Snapshot,
+    shown: &mut Snapshot,
+    machine: &PlainMachine,
 ) -> Result<(), AllocError>
-    requires { Keeps report.now old.now new.now }
-    ensures { OnOk result (out.new.items ≡ out.old.items ++ spec.changes_text names.now old.now new.now) }
+    ensures told { OnOk result (out.new.items ≡ out.old.items ++ spec.changes_text names.now shown.old (waves.shown_by shown.old report.now machine.now)) }
+    ensures shown { OnOk result (shown.new ≡ waves.shown_by shown.old report.now machine.now) }
 {
-    put_processors_changes(out, texts, names, old, new)?;
-    put_tasks_changes(out, texts, names, report, old, new)?;
-    put_objects_changes(out, report, old, new)
+    let states = moves_states(report);
+    let sync = moves_sync(report);
+    let buffers = moves_buffers(report);
+    let locks = moves_locks(report);
+    put_processors_changes(out, texts, names, &mut shown.processors, machine)?;
+    put_tasks_if(states, out, texts, names, &mut shown.tasks, machine)?;
+    put_numbers_if(
+        sync,
+        out,
+        &mut shown.semaphores,
+        machine,
+        Resource::Semaphore,
+    )?;
+    put_numbers_if(
+        sync,
+        out,
+        &mut shown.eventflags,
+        machine,
+        Resource::Eventflag,
+    )?;
+    put_numbers_if(
+        buffers,
+        out,
+        &mut shown.data_queues,
+        machine,
+        Resource::DataQueue,
+    )?;
+    put_numbers_if(buffers, out, &mut shown.pools, machine, Resource::Pool)?;
+    put_numbers_if(locks, out, &mut shown.holders, machine, Resource::SpinLock)
 }

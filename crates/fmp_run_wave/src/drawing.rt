@@ -14,7 +14,6 @@ use fmp_rules::Config;
 use fmp_trace_check::Watcher;
 use std::alloc::{AllocError, Global};
 use std::marker::Model;
-use std::mem;
 
 /// Adds what stands before the values at time 0.
 #[tactic(auto, unfolding(crate::specs::Waves::start_begin))]
@@ -47,8 +46,6 @@ fn put_start(out: &mut Vec<u8>, config: &Config, shown: &Snapshot) -> Result<(),
 #[derive(Drop)]
 pub(crate) struct Drawing {
     shown: Snapshot,
-    /// Room for what is shown of the next state.
-    spare: Snapshot,
     texts: Texts,
     wave: Vec<u8>,
 }
@@ -72,13 +69,12 @@ impl Drawing {
         put_start(&mut wave, config, &shown)?;
         Ok(Drawing {
             shown,
-            spare: Snapshot::empty(),
             texts: Texts::new(alloc),
             wave,
         })
     }
 
-    /// Tells what changed of what is shown. After most events nothing did.
+    /// Tells what changed of what is shown.
     fn show(
         &mut self,
         names: &Names,
@@ -87,20 +83,14 @@ impl Drawing {
     ) -> Result<(), AllocError>
         ensures { OnOk result (self.new ≡ spec.shown_after self.old names.now report.now machine.now) }
     {
-        if self.shown.shows(report, machine) {
-            return Ok(());
-        }
-        self.spare.renew(&self.shown, report, machine);
         put_changes(
             &mut self.wave,
             &mut self.texts,
             names,
             report,
-            &self.shown,
-            &self.spare,
-        )?;
-        mem::swap(&mut self.shown, &mut self.spare);
-        Ok(())
+            &mut self.shown,
+            machine,
+        )
     }
 
     /// The waveform so far.

@@ -283,9 +283,10 @@ fn put_task(
     ensures { OnOk result (out.new.items ≡ out.old.items ++ spec.task_lines names.now shown.now (index + 1)) }
 {
     let t = Task::from_index(index);
-    put_state_value(out, t, shown.task(t))?;
-    put_wait_value(out, names, t, shown.wait(t))?;
-    put_counts_values(out, t, shown.counts(t))
+    let task = shown.task(t);
+    put_state_value(out, t, task.state)?;
+    put_wait_value(out, names, t, task.wait)?;
+    put_counts_values(out, t, task.numbers)
 }
 
 /// Adds the lines of all tasks.

@@ -1,13 +1,12 @@
 use Rattle.std.proofs.Common.{◌≡◌, length, map}
 use Rattle.std.specs.List.{range_with_len}
 use Rattle.fmp_codes.specs.Numbers.{as_task}
-use Rattle.fmp_rules.specs.World.{task}
-use Rattle.fmp_run_wave.specs.Shown.{task_numbers}
-use Rattle.fmp_run_wave.proofs.snapshot.renew_counts.Given as goal
+use Rattle.fmp_run_wave.specs.Shown.{shown_task}
+use Rattle.fmp_run_wave.proofs.snapshot.shown_tasks.Given as goal
 
 -- what is shown so far
 abbrev pub invariant-loop-index : goal.invariant-loop-index
 invariant-loop-index l = record {
-  shown : l.shown.items ≡ map (λ n. task_numbers (task l.machine (as_task n))) (range_with_len 1 l.index);
+  shown : l.shown.items ≡ map (λ n. shown_task l.machine (as_task n)) (range_with_len 1 l.index);
   count : length l.shown.items ≡ l.index;
 }

@@ -2,7 +2,7 @@ use Rattle.std.proofs.Common.{◌≡◌, length, map}
 use Rattle.std.specs.List.{range_with_len}
 use Rattle.fmp_codes.specs.Numbers.{as_proc}
 use Rattle.fmp_run_wave.specs.Shown.{shown_processor}
-use Rattle.fmp_run_wave.proofs.snapshot.renew_processors.Given as goal
+use Rattle.fmp_run_wave.proofs.snapshot.shown_processors.Given as goal
 
 -- what is shown so far
 abbrev pub invariant-loop-index : goal.invariant-loop-index

@@ -1,9 +1,0 @@
-use Rattle.fmp_run_wave.specs.Changes.{task_changed}
-use Rattle.fmp_run_wave.proofs.Counted.{grown, nothing_yet}
-use Rattle.fmp_run_wave.proofs.changes.put_each_change.Goals as goal
-
-pub loop-index-init : goal.loop-index-init
-loop-index-init c = nothing_yet (task_changed c.args.names.now c.args.old.now c.args.new.now) c.args.out.now.items
-
-pub loop-index-preserved : goal.loop-index-preserved
-loop-index-preserved c = grown (task_changed c.args.names.now c.args.old.now c.args.new.now) c.loop-index.index c.args.out.now.items c.loop-index.out.items _ c.loop-index.invariant c.in_ok-put_task_change.ensures
