@@ -390,7 +390,7 @@ tells_how_far() {
 ends_in_time() {
     local folder=$top/examples/explore-philosophers words begun well lines option
     words=(explore "$folder/machine.cfg" "$folder/scripts.txt" --ticks 900000 --turns 1000000 --places 20000000 --seconds 2)
-    for option in 'lost=*' 'end then P1 * tick taken'; do
+    for option in 'lost=*' 'end then 20 times P1 * tick taken'; do
         well=no begun=$SECONDS
         : > output
         play "${words[@]}" --find "$option"
