@@ -104,14 +104,6 @@ impl KernelMachine {
         self.ready.list(p, priority)
     }
 
-    /// The first ready task of a priority on a processor.
-    #[tactic(auto, unfolding(fmp_kernel_order::specs::Queues::listed))]
-    pub fn first_ready(&self, p: Proc, priority: Pri) -> Option<Task>
-        ensures { result ≡ first_of (listed.ready self.now.order self.now.tasks p priority) }
-    {
-        self.ready.first(p, priority)
-    }
-
     /// A bit for each priority of a processor, the lowest for the highest, set where a task of it is ready.
     #[tactic(auto, unfolding(fmp_kernel_order::specs::Queues::listed))]
     pub fn ready_word(&self, p: Proc) -> u32

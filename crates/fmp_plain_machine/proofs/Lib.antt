@@ -11,5 +11,4 @@ pub mod Least  -- The first of tasks in order is the one that leads each of them
 pub mod Inserted  -- Lists in order, which grow by insertion.
 pub mod Lowered  -- Counts of ticks that fall one after the other.
 pub mod Objects  -- Loops over the objects of a kind.
-pub mod Signed  -- The signs of tasks of which one changed.
 pub mod Over  -- Where no count is 0, nothing is over.

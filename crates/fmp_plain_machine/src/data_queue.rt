@@ -1,5 +1,5 @@
 //! A data queue.
-ghost use Rattle.std.specs.Prelude.{◌≡◌, ◌≤◌, ◌<◌, ◌++◌, ◌∷◌, [], length, IfOk};
+ghost use Rattle.std.specs.Prelude.{◌≡◌, ◌≤◌, ◌<◌, ◌++◌, ◌∷◌, [], length, slice_get, IfOk};
 ghost use Rattle.fmp_rules.specs.World.{first, rest};
 
 use circular_buffer::HeapCircularBuffer;
@@ -54,6 +54,13 @@ impl DataQueue {
         ensures { result ≡ first self.now.values }
     {
         self.values.front().copied()
+    }
+
+    /// The value at a place after its oldest one, if there are so many.
+    pub(crate) fn value(&self, index: usize) -> Option<i64>
+        ensures { result ≡ slice_get self.now.values index }
+    {
+        self.values.get(index).copied()
     }
 
     /// Takes out its oldest value, if it has one.

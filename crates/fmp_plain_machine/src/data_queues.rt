@@ -1,5 +1,5 @@
 //! All data queues.
-ghost use Rattle.std.specs.Prelude.{◌≡◌, ◌≤◌, ◌<◌, ◌++◌, ◌∷◌, [], length, map, slice_index_or, slice_set, IfOk};
+ghost use Rattle.std.specs.Prelude.{◌≡◌, ◌≤◌, ◌<◌, ◌++◌, ◌∷◌, [], length, map, slice_get, slice_index_or, slice_set, IfOk};
 ghost use Rattle.fmp_rules.specs.Objects.{no_data_queue};
 ghost use Rattle.fmp_rules.specs.World.{first, rest, item, with_item};
 ghost use Rattle.fmp_plain_machine.specs.DataQueues.{no_queue};
@@ -96,6 +96,13 @@ impl DataQueues {
         ensures { result ≡ first (item [] self.now.contents d.number) }
     {
         self.queues.get(d.index())?.first()
+    }
+
+    /// The value at a place after the oldest one of one, if there are so many.
+    pub(crate) fn value(&self, d: Object, index: usize) -> Option<i64>
+        ensures { result ≡ slice_get (item [] self.now.contents d.number) index }
+    {
+        self.queues.get(d.index())?.value(index)
     }
 
     /// Takes the oldest value out of one, if it has one.

@@ -25,7 +25,6 @@ mod numbers;
 mod object_words;
 mod order;
 mod resources;
-mod signs;
 mod tops;
 mod waiting;
 mod words;

@@ -3,13 +3,11 @@ ghost use Rattle.std.specs.Prelude.{◌≡◌, ◌≤◌, ◌==◌, ◌&&◌, fa
 ghost use Rattle.fmp_rules.specs.Ordering.{is_runnable};
 ghost use Rattle.fmp_rules.specs.Arrivals.{comes_before, priority_in};
 ghost use Rattle.fmp_rules.specs.World.{item, with_item, no_task, processors_to, resting};
-ghost use Rattle.fmp_plain_machine.specs.Signs.{kind_of, place_of};
 ghost use Rattle.fmp_plain_machine.specs.Tops.{ahead, is_task, looked, raised, rank_of, top_among};
 ghost use Rattle.fmp_plain_machine.specs.Best.{is_after, met};
 
 use crate::firsts::Firsts;
 use crate::kept::each;
-use crate::signs::Signs;
 use arrayvec::ArrayVec;
 use fmp_codes::{Proc, Task};
 use fmp_rules::{TaskRecord, TaskSetup};
@@ -23,18 +21,16 @@ pub(crate) struct Tasks {
     records: ArrayVec<TaskRecord, 64>,
     ready: ArrayVec<u64, 64>,
     tops: Firsts,
-    signs: Signs,
 }
 
 impl Model for Tasks {
-    ghost use Rattle.fmp_plain_machine.specs.Signs.{AreSigns};
     ghost use Rattle.fmp_plain_machine.specs.Tops.{Ranked, AreTops};
 
     ghost Value = { Ranked };
 
     ghost view = { λ a. record { records = a.records.items; ready = a.ready.items } };
 
-    ghost invariant = { λ a. AreTops a.records.items a.ready.items a.tops × AreSigns a.records.items a.signs.kinds.items a.signs.places.items };
+    ghost invariant = { λ a. AreTops a.records.items a.ready.items a.tops };
 }
 
 /// Whether a task is active, with no wait and not suspended.
@@ -262,12 +258,10 @@ impl Tasks {
     {
         let records = each(setups);
         let ready = each(setups);
-        let signs = Signs::of(records.as_slice());
         Tasks {
             records,
             ready,
             tops: Firsts::none(),
-            signs,
         }
     }
 
@@ -277,22 +271,6 @@ impl Tasks {
         ensures few { length result.now ≤ 64 }
     {
         self.records.as_slice()
-    }
-
-    /// How each stands.
-    pub(crate) fn kinds(&self) -> &[u8]
-        ensures kinds { result.now ≡ map kind_of self.now.records }
-        ensures few { length result.now ≤ 64 }
-    {
-        self.signs.kinds.as_slice()
-    }
-
-    /// The number of the processor of each.
-    pub(crate) fn places(&self) -> &[u8]
-        ensures places { result.now ≡ map place_of self.now.records }
-        ensures few { length result.now ≤ 64 }
-    {
-        self.signs.places.as_slice()
     }
 
     /// The record of a task.
@@ -340,7 +318,6 @@ impl Tasks {
         let same = ranks_alike(&self.record(t), &changed);
         let p = home_of(self.records.as_slice(), t);
         let was_top = is_top(&self.tops, p, t);
-        self.signs.note(t, &changed);
         write(&mut self.records, t, changed);
         if !same {
             renew(&mut self.tops, &self.records, &self.ready, t, p, was_top);
@@ -353,7 +330,6 @@ impl Tasks {
     {
         let p = home_of(self.records.as_slice(), t);
         let was_top = is_top(&self.tops, p, t);
-        self.signs.note(t, &changed);
         write(&mut self.records, t, changed);
         write_number(&mut self.ready, t, number);
         renew(&mut self.tops, &self.records, &self.ready, t, p, was_top);

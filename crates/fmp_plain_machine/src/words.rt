@@ -2,7 +2,6 @@
 ghost use Rattle.std.specs.Prelude.{◌≡◌, ◌-◌, ◌^◌, ◌≤◌, [], length, map};
 ghost use Rattle.fmp_rules.specs.Arrivals.{Arrivals, numbered};
 ghost use Rattle.fmp_rules.specs.World.{item};
-ghost use Rattle.fmp_plain_machine.specs.Signs.{kind_of, place_of};
 
 use crate::groups::Group;
 use crate::locks::{free, holds};
@@ -20,22 +19,6 @@ impl PlainMachine {
         ensures { result.items ≡ numbered.ready self.now.order self.now.tasks p priority }
     {
         self.members(Group::ReadyAt(p, priority))
-    }
-
-    /// How each task stands: 0 if it is dormant, 1 if it could run, 2 if it waits, 3 if it is suspended, 4 if it waits and is suspended.
-    pub fn kinds(&self) -> &[u8]
-        ensures kinds { result.now ≡ map kind_of self.now.tasks }
-        ensures few { length result.now ≤ 64 }
-    {
-        self.tasks.kinds()
-    }
-
-    /// The number of the processor that each task is assigned to.
-    pub fn places(&self) -> &[u8]
-        ensures places { result.now ≡ map place_of self.now.tasks }
-        ensures few { length result.now ≤ 64 }
-    {
-        self.tasks.places()
     }
 
     /// The handlers that are due on a processor, the running one first.

@@ -1,5 +1,5 @@
-//! Ready queues: the tasks that are ready on each processor, in their precedence. The kernel calls neither `rotate` nor `word`,
-//! which are this part's own surface: a call's rule stands in `fmp_rules/specs`.
+//! Ready queues: the tasks that are ready on each processor, in their precedence. The kernel does not call `rotate`, which is
+//! this part's own surface: a call's rule stands in `fmp_rules/specs`.
 //!
 //! Contracts see a list of tasks for each processor and priority (`lists`, at `list_number`). No task stands in two lists, nor
 //! twice in one.

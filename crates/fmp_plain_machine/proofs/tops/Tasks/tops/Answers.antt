@@ -14,4 +14,4 @@ returns c =
     (c.new.ensures ∙ numbers-tell (top_among records ready (length records)) c.numbers.result count (omega (arith, c.numbers.ensures.count, c.requires))
     (λ k h.
     let place : (as_proc (k + 1)).number - 1 ≡ k = omega (arith, h, c.requires) in
-    c.numbers.ensures.each k ∙ ap (λ (i : ℕ). get_or a.tops i None) (sym place) ∙ c.self.invariant.0.each (as_proc (k + 1))))
+    c.numbers.ensures.each k ∙ ap (λ (i : ℕ). get_or a.tops i None) (sym place) ∙ c.self.invariant.each (as_proc (k + 1))))
