@@ -1,7 +1,8 @@
 -- The faults of a run.
-use Rattle.std.specs.Prelude.{ℕ, Bool, true, false, List, ◌++◌, Result, Ok, Err, codes}
+use Rattle.std.specs.Prelude.{◌≡◌, ℕ, Bool, true, false, List, ◌++◌, Result, Ok, Err, codes}
 use Rattle.fmp_config.specs.Faults.{text_of as config_text_of}
 use Rattle.fmp_text.specs.Faults.{text_of as text_text_of}
+use Rattle.fmp_text.specs.declared.fault.TextFault.{TextFault}
 use Rattle.fmp_run_devices.specs.declared.whole.ReadFault.{ReadFault}
 use Rattle.fmp_run_devices.specs.declared.whole.ReadFault.TheVariants as read
 use Rattle.fmp_run_texts.specs.declared.fault.RunFault.{RunFault}
@@ -33,6 +34,18 @@ abbrev pub is_thread_fault : RunFault → Bool
 is_thread_fault run.Start = true
 is_thread_fault run.Disagree = true
 is_thread_fault other = false
+
+-- a fault of the run's text that is no configuration, or want of memory: no device failed, and no thread
+pub record IsOfText (fault : RunFault) : Type 0 where
+  pub no_config : is_config fault ≡ false
+  pub no_read : is_read fault ≡ false
+  pub no_write : is_write fault ≡ false
+  pub no_thread : is_thread_fault fault ≡ false
+
+-- where the fault is one of that text, this holds of it
+abbrev pub OnText : (TextFault → Type 0) → RunFault → Type 0
+OnText Holds (run.Text fault) = Holds fault
+OnText Holds other = Unit {0}
 
 -- the run ended with a failed read, or with a failed write
 abbrev pub failed_read : {T : Type 0} → Result T RunFault → Bool

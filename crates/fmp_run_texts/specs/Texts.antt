@@ -4,6 +4,7 @@ use Rattle.std.specs.Prelude.{◌≡◌, ◌⊎◌, ℕ, ◌+◌, ◌≤◌, Lis
 use Rattle.fmp_codes.specs.declared.records.Event.{Event}
 use Rattle.fmp_text.specs.Events.{IsMemory}
 use Rattle.fmp_text.specs.TextGrammar.{SpellsText}
+use Rattle.fmp_text.specs.declared.fault.TextFault.{TextFault}
 use Rattle.fmp_text_scripts.specs.Texts.{scripts_in}
 use Rattle.fmp_config.specs.Limits.{most_bytes}
 use Rattle.fmp_config.specs.Faults.{IsFirstFault}
@@ -41,16 +42,18 @@ abbrev pub FirstConfigFault : List ℕ → RunFault → Type 0
 FirstConfigFault text (run.Config fault) = IsFirstFault text fault
 FirstConfigFault text other = Unit {0}
 
--- a fault of the scripts is the first one of their text, or want of memory
-abbrev pub IsFirstOfScripts : NameLists → List ℕ → RunFault → Type 0
-IsFirstOfScripts names text (run.Text fault) = (scripts_in names text ≡ Err fault) ⊎ IsMemory fault
-IsFirstOfScripts names text other = Unit {0}
+-- a fault of scripts is the first one of their text, or want of memory
+abbrev pub IsFirstOfScripts : NameLists → List ℕ → TextFault → Type 0
+IsFirstOfScripts names text fault = (scripts_in names text ≡ Err fault) ⊎ IsMemory fault
 
--- the same, for the names of a right configuration
+-- a fault of a text that is read over a configuration is as `IsFault` says, over a right configuration
+abbrev pub FaultOver : (Setup → List ℕ → TextFault → Type 0) → List ℕ → List ℕ → RunFault → Type 0
+FaultOver IsFault config_text text (run.Text fault) = (config : Setup) × SaysConfig config_text config × IsFault config text fault
+FaultOver IsFault config_text text other = Unit {0}
+
+-- one of scripts is the first one
 abbrev pub FirstScriptFault : List ℕ → List ℕ → RunFault → Type 0
-FirstScriptFault config_text script_text (run.Text fault) =
-    (config : Setup) × SaysConfig config_text config × IsFirstOfScripts config.names script_text (run.Text fault)
-FirstScriptFault config_text script_text other = Unit {0}
+FirstScriptFault = FaultOver (λ c. IsFirstOfScripts c.names)
 
 -- of two readers one read failed where the run ended so, and else none
 pub record CountsReads {T : Type 0} (result : Result T RunFault) (first_old first_new second_old second_new : ℕ) : Type 0 where

@@ -2,6 +2,7 @@
 use Rattle.std.specs.Prelude.{◌≡◌, ◌⊎◌, ℕ, false, List, [], Option, Result, Ok, Err, OnOk, IfErr}
 use Rattle.fmp_codes.specs.declared.records.Event.{Event}
 use Rattle.fmp_text.specs.Events.{IsMemory}
+use Rattle.fmp_text.specs.declared.fault.TextFault.{TextFault}
 use Rattle.fmp_names.specs.Names.{NameLists}
 use Rattle.fmp_config_statements.specs.declared.fault.ConfigKind.TheVariants as config_kind
 use Rattle.fmp_setup.specs.Setup.{Setup}
@@ -10,11 +11,10 @@ use Rattle.fmp_trace_check.specs.declared.checking.Verdict.TheVariants.{Yes}
 use Rattle.fmp_trace_check.specs.Checking.{Judges, PrintsAnswers}
 use Rattle.fmp_run_devices.specs.Devices.{IsKnown, bytes_of}
 use Rattle.fmp_trace.specs.Prints.{FirstFault}
-use Rattle.fmp_run_texts.specs.declared.judging.Judged.{Judged}
 use Rattle.fmp_run_texts.specs.declared.fault.RunFault.{RunFault}
 use Rattle.fmp_run_texts.specs.declared.fault.RunFault.TheVariants as run
 use Rattle.fmp_run_texts.specs.Faults.{is_thread_fault}
-use Rattle.fmp_run_texts.specs.Texts.{Answered, FirstConfigFault, SaysConfig}
+use Rattle.fmp_run_texts.specs.Texts.{Answered, FaultOver, FirstConfigFault, SaysConfig}
 
 -- the verdict on a trace, by the answers of the one text's machine to the events of the other
 pub record Checked (config_text trace_text : List ℕ) (verdict : Verdict) : Type 0 where
@@ -41,20 +41,24 @@ abbrev pub verdict_by : {T : Type 0} → (T → Verdict) → Result T RunFault �
 verdict_by verdict (Ok found) = Ok (verdict found)
 verdict_by verdict (Err fault) = Err fault
 
--- the verdict on a trace that was read
-abbrev pub verdict_in : Result Judged RunFault → Result Verdict RunFault
-verdict_in = verdict_by (λ judged. judged.verdict)
+-- A text that was judged: it is this one, the verdict is right, and it is yes on what the machine answers to some events.
+pub record IsJudged (c : Setup) (all text : List ℕ) (verdict : Verdict) : Type 0 where
+  pub same : text ≡ all
+  pub judges : Judges c all verdict
+  pub yes : (events : List Event) → PrintsAnswers c all events → verdict ≡ Yes
 
 -- a fault of the trace is the first one of its text, or want of memory
-abbrev pub IsFirstOfTrace : NameLists → List ℕ → RunFault → Type 0
-IsFirstOfTrace names text (run.Text fault) = FirstFault names text fault ⊎ IsMemory fault
-IsFirstOfTrace names text other = Unit {0}
+abbrev pub IsFirstOfTrace : NameLists → List ℕ → TextFault → Type 0
+IsFirstOfTrace names text fault = FirstFault names text fault ⊎ IsMemory fault
 
--- the same, for the names of a right configuration
+-- and what the machine answers to some events has none but want of memory
+pub record IsTraceFault (c : Setup) (text : List ℕ) (fault : TextFault) : Type 0 where
+  pub first : IsFirstOfTrace c.names text fault
+  pub right : (events : List Event) → PrintsAnswers c text events → IsMemory fault
+
+-- the first one, for the names of a right configuration
 abbrev pub FirstTraceFault : List ℕ → List ℕ → RunFault → Type 0
-FirstTraceFault config_text trace_text (run.Text fault) =
-    (config : Setup) × SaysConfig config_text config × IsFirstOfTrace config.names trace_text (run.Text fault)
-FirstTraceFault config_text trace_text other = Unit {0}
+FirstTraceFault = FaultOver (λ c. IsFirstOfTrace c.names)
 
 -- What a run over a configuration and a trace owes to both texts, whatever it writes. Of each text it speaks by what its device had left to
 -- read before and after, where that is known. When a fault of the trace is its first one is the run's own matter.

@@ -1,72 +1,111 @@
-//! A trace that is read and judged.
-ghost use Rattle.std.specs.Prelude.{◌≡◌, ◌+◌, ◌-◌, ◌^◌, ◌<◌, List, [], OnOk, IfOk, IfErr, false, if◌then◌else◌};
+//! Traces that are read and judged.
+ghost use Rattle.std.specs.Prelude.{◌≡◌, ◌-◌, ◌^◌, ◌<◌, List, IfOk, false};
 ghost use Rattle.fmp_codes.specs.declared.records.Event.{Event as AnyEvent};
-ghost use Rattle.fmp_trace_check.specs.Checking.{Judges, PrintsAnswers};
-ghost use Rattle.fmp_run_devices.specs.Devices.{IsKnown, bytes_of};
-ghost use Rattle.fmp_run_texts.specs.Faults.{failed_read, failed_write, is_config, is_write, is_thread_fault};
-ghost use Rattle.fmp_run_texts.specs.Texts.{CountsReads, SaysConfig};
-ghost use Rattle.fmp_run_texts.specs.Traces.{Checked, FirstTraceFault, IsFirstOfTrace, IsYes, JudgesTexts, verdict_in};
+ghost use Rattle.fmp_names.specs.Names.{NameLists};
+ghost use Rattle.fmp_setup.specs.Setup.{Setup};
+ghost use Rattle.fmp_text.specs.declared.fault.TextFault.{TextFault as AnyFault};
+ghost use Rattle.fmp_text.specs.Events.{IsMemory};
+ghost use Rattle.fmp_trace_check.specs.declared.checking.Verdict.{Verdict as AnyVerdict};
+ghost use Rattle.fmp_trace_check.specs.Checking.{PrintsAnswers};
+ghost use Rattle.fmp_run_devices.specs.Ends.{source_ends};
+ghost use Rattle.fmp_run_texts.specs.Readings.{ReadsTrace};
 
+use crate::config::config_from;
 use crate::fault::RunFault;
-use crate::texts::config_from;
-use fmp_rules::Config;
-use fmp_run_devices::{Source, read_up_to};
+use crate::reading::{Reader, text_from};
+use fmp_config::Config;
+use fmp_run_devices::Source;
 use fmp_trace_check::{Verdict, check};
 use std::alloc::Global;
 
-/// A configuration and a trace that were read, and the verdict on the trace.
+/// A kind of text that comes to a verdict: a trace, or a partial one.
+pub trait Judge: Reader {
+    // The verdict in what was made of the text.
+    ghost verdict: { Self.Out → AnyVerdict };
+
+    // The text has this fault first, or memory ran out.
+    ghost is_first: { Self → NameLists → List ℕ → AnyFault → Type 0 };
+
+    /// The verdict in what was made of the text.
+    fn verdict(made: &Self::Out) -> Verdict
+        ensures { result ≡ verdict made.now };
+
+    // On what the machine answers to some events it is yes.
+    ghost yes: { (j : Self) (c : Setup) (text : List ℕ) (made : Self.Out) (events : List AnyEvent) → Self.says j c text made → PrintsAnswers c text events
+        → verdict made ≡ AnyVerdict.Yes };
+
+    // A fault is the first one.
+    ghost first: { (j : Self) (c : Setup) (text : List ℕ) (fault : AnyFault) → Self.is_fault j c text fault → is_first j c.names text fault };
+
+    // What the machine answers to some events has none but want of memory.
+    ghost right: { (j : Self) (c : Setup) (text : List ℕ) (fault : AnyFault) (events : List AnyEvent) → Self.is_fault j c text fault → PrintsAnswers c text events
+        → IsMemory fault };
+}
+
+/// Reads a configuration and a trace to their ends, and judges the trace. It has no writer in hand, so nothing is written before both
+/// texts are accepted.
+pub fn judged_texts<J: Judge, R: Source, S: Source>(
+    alloc: Global,
+    judge: &J,
+    config: &mut R,
+    trace: &mut S,
+) -> Result<(Config, J::Out), RunFault>
+    requires config_calls { R.failures config.old < 2 ^ 64 - 1 }
+    requires trace_calls { S.failures trace.old < 2 ^ 64 - 1 }
+    ensures { ReadsTrace (J.says judge.now) (J.keeps judge.now) (J.is_first judge.now) J.verdict (source_ends R.left R.failures config.old config.new)
+        (source_ends S.left S.failures trace.old trace.new) result }
+{
+    let configuration = config_from(alloc, config)?;
+    configuration.names().validity();
+    let made = text_from(alloc, judge, &configuration, trace)?;
+    Ok((configuration, made))
+}
+
+/// A trace that was read, and the verdict on it.
 #[derive(Drop)]
 pub struct Judged {
-    pub config: Config,
     pub text: Vec<u8>,
     pub verdict: Verdict,
 }
 
-/// Reads a trace to its end, and judges it.
-fn judged_by<S: Source>(alloc: Global, config: Config, trace: &mut S) -> Result<Judged, RunFault>
-    requires { S.failures trace.old < 2 ^ 64 - 1 }
-    ensures config { IfOk result (λ judged. judged.config ≡ config) }
-    ensures text { IsKnown (S.left trace.old) → IfOk result (λ judged. judged.text.items ≡ bytes_of (S.left trace.old)) }
-    ensures judged { IfOk result (λ judged. Judges judged.config judged.text.items judged.verdict) }
-    ensures answers { IsKnown (S.left trace.old) → (events : List AnyEvent) → PrintsAnswers config (bytes_of (S.left trace.old)) events → IsYes (verdict_in result) }
-    ensures read { IsKnown (S.left trace.old) → OnOk result (bytes_of (S.left trace.new) ≡ []) }
-    ensures fault { IsKnown (S.left trace.old) → IfErr result (IsFirstOfTrace config.names (bytes_of (S.left trace.old))) }
-    ensures kinds { IfErr result (λ fault. (is_config fault ≡ false) × (is_write fault ≡ false)) }
-    ensures no_thread_fault { IfErr result (λ fault. is_thread_fault fault ≡ false) }
-    ensures count { S.failures trace.new ≡ S.failures trace.old + (if failed_read result then 1 else 0) }
-{
-    let text = read_up_to(alloc, trace, fmp_text::MOST_BYTES)?;
-    match check(alloc, &config, text.as_slice()) {
-        Ok(verdict) => Ok(Judged {
-            config,
-            text,
-            verdict,
-        }),
-        Err(fault) => Err(RunFault::Text(fault)),
+/// Judges a whole trace.
+#[derive(Clone, Copy)]
+pub struct TraceJudge;
+
+impl Reader for TraceJudge {
+    ghost use Rattle.fmp_run_texts.specs.Traces.{IsJudged, IsTraceFault};
+    ghost use Rattle.fmp_trace_check.specs.Checking.{Judges};
+
+    type Out = Judged;
+
+    ghost says = { λ _ c text judged. IsJudged c text judged.text.items judged.verdict };
+
+    ghost keeps = { λ _ c judged. Judges c judged.text.items judged.verdict };
+
+    ghost is_fault = { λ _ c text fault. IsTraceFault c text fault };
+
+    fn read(&self, alloc: Global, config: &Config, text: Vec<u8>) -> Result<Judged, RunFault> {
+        match check(alloc, config, text.as_slice()) {
+            Ok(verdict) => Ok(Judged { text, verdict }),
+            Err(fault) => Err(RunFault::Text(fault)),
+        }
     }
 }
 
-/// Reads a configuration and a trace to their ends, and judges the trace. It has no writer in hand, so nothing is written before
-/// both texts are accepted.
-#[tactic(auto, using(crate::proofs::JudgedTexts::checked_of_texts))]
-pub fn judged_texts<R: Source, S: Source>(
-    alloc: Global,
-    config: &mut R,
-    trace: &mut S,
-) -> Result<Judged, RunFault>
-    requires config_calls { R.failures config.old < 2 ^ 64 - 1 }
-    requires trace_calls { S.failures trace.old < 2 ^ 64 - 1 }
+impl Judge for TraceJudge {
+    ghost use Rattle.fmp_run_texts.specs.Traces.{IsFirstOfTrace};
 
-    ensures says { IsKnown (R.left config.old) → IfOk result (λ judged. SaysConfig (bytes_of (R.left config.old)) judged.config) }
-    ensures text { IsKnown (S.left trace.old) → IfOk result (λ judged. judged.text.items ≡ bytes_of (S.left trace.old)) }
-    ensures judged { IfOk result (λ judged. Judges judged.config judged.text.items judged.verdict) }
-    ensures checked { IsKnown (R.left config.old) → IsKnown (S.left trace.old)
-        → IfOk result (λ judged. Checked (bytes_of (R.left config.old)) (bytes_of (S.left trace.old)) judged.verdict) }
-    ensures texts { JudgesTexts FirstTraceFault (R.left config.old) (R.left config.new) (S.left trace.old) (S.left trace.new) (verdict_in result) }
-    ensures reads { CountsReads result (R.failures config.old) (R.failures config.new) (S.failures trace.old) (S.failures trace.new) }
-    ensures no_write { failed_write result ≡ false }
-{
-    let configuration = config_from(alloc, config)?;
-    configuration.names().validity();
-    judged_by(alloc, configuration, trace)
+    ghost verdict = { λ judged. judged.verdict };
+
+    ghost is_first = { λ _. IsFirstOfTrace };
+
+    fn verdict(made: &Judged) -> Verdict {
+        made.verdict
+    }
+
+    ghost yes = { λ _ c text judged events says. says.yes events };
+
+    ghost first = { λ _ c text fault is. is.first };
+
+    ghost right = { λ _ c text fault events is. is.right events };
 }
