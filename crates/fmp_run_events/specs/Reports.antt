@@ -16,7 +16,6 @@ use Rattle.fmp_run_devices.specs.Devices.{BeginsWith, IsKnown, bytes_of}
 use Rattle.fmp_run_devices.specs.Ends.{Ends, SinkEnd, SourceEnd}
 use Rattle.fmp_run_texts.specs.Owed.{WritesOut}
 use Rattle.fmp_run_texts.specs.Texts.{SaysConfig}
-use Rattle.fmp_run_texts.specs.Traces.{verdict_by}
 use Rattle.fmp_run_texts.specs.Verdicts.{verdict_text}
 
 -- what stands before the lines that differ: the verdict, or the header of a unified diff, which an empty one has not
@@ -35,6 +34,11 @@ pub record Tells (shown : Shown) (c : Setup) (text : List ℕ) (verdict : Verdic
   pub lines : List ℕ
   pub contrasts : Contrasts shown c text verdict lines
   pub tells : report ≡ state_shown shown c contrasts.records verdict ++ lines
+
+-- a trace was compared: the verdict is right, and this is reported below it
+pub record IsCompared (shown : Shown) (c : Setup) (text : List ℕ) (found : Comparison) : Type 0 where
+  pub judges : Judges c text found.verdict
+  pub report : Tells shown c text found.verdict found.lines.items
 
 -- the verdict on a trace and what is told of the line or the lines in which it differs, by the answers of the one text's machine to the events of the other
 pub record Compared (shown : Shown) (config_text trace_text : List ℕ) (verdict : Verdict) (lines : List ℕ) : Type 0 where
@@ -60,7 +64,3 @@ pub record WritesReport (shown : Shown) (config trace : Ends SourceEnd) (output 
   -- no line is shown of a trace that is the machine's
   pub same : IsKnown config.old.left → IsKnown trace.old.left → IsKnown output.old.written
       → IfOk result (λ verdict. verdict ≡ Yes → bytes_of output.new.written ≡ bytes_of output.old.written ++ head_text shown Yes)
-
--- the verdict of a comparison
-abbrev pub verdict_in : Result Comparison RunFault → Result Verdict RunFault
-verdict_in = verdict_by (λ found. found.verdict)

@@ -6,7 +6,7 @@ ghost use Rattle.fmp_run_texts.specs.Traces.{Checked, FirstTraceFault};
 ghost use Rattle.fmp_run_texts.specs.Verdicts.{WritesVerdict};
 
 use fmp_run_devices::{Sink, Source, write_out};
-use fmp_run_texts::{RunFault, judged_texts, verdict_text};
+use fmp_run_texts::{RunFault, TraceJudge, judged_texts, verdict_text};
 use fmp_trace_check::Verdict;
 use std::alloc::Global;
 
@@ -30,10 +30,11 @@ pub fn run_check<R: Source, S: Source, W: Sink>(
     ensures writes { WritesVerdict Checked (source_ends R.left R.failures config.old config.new) (source_ends S.left S.failures trace.old trace.new)
         (sink_ends W.written W.buffered W.failures answer.old answer.new) result }
 {
-    let judged = judged_texts(alloc, config, trace)?;
-    let verdict = judged.verdict;
-    // (gone before the write may fail)
-    drop(judged);
+    // (the texts are gone before the write may fail)
+    let verdict = {
+        let (_config, judged) = judged_texts(alloc, &TraceJudge, config, trace)?;
+        judged.verdict
+    };
     let text = verdict_text(verdict);
     write_out(answer, text.as_str().as_bytes())?;
     Ok(verdict)

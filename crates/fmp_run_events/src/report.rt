@@ -1,20 +1,16 @@
 //! The run that shows where a trace differs.
-ghost use Rattle.std.specs.Prelude.{◌≡◌, ◌+◌, ◌-◌, ◌^◌, ◌<◌, List, ◌++◌, [], OnOk, OnErr, IfOk, IfErr, Err, false, is_err, if◌then◌else◌};
-ghost use Rattle.fmp_codes.specs.declared.records.Event.{Event as AnyEvent};
-ghost use Rattle.fmp_trace_check.specs.Checking.{Judges, PrintsAnswers};
+ghost use Rattle.std.specs.Prelude.{◌≡◌, ◌+◌, ◌-◌, ◌^◌, ◌<◌, ◌++◌, [], OnOk, OnErr, IfOk, Err, is_err, if◌then◌else◌};
 ghost use Rattle.fmp_trace_check.specs.Differences.{Contrasts};
-ghost use Rattle.fmp_run_texts.specs.Traces.{FirstTraceFault, IsFirstOfTrace, IsYes, JudgesTexts};
+ghost use Rattle.fmp_run_texts.specs.Traces.{FirstTraceFault, IsFirstOfTrace};
 ghost use Rattle.fmp_run_devices.specs.Devices.{BeginsWith, IsKnown, bytes_of};
 ghost use Rattle.fmp_run_devices.specs.Ends.{sink_ends, source_ends};
-ghost use Rattle.fmp_run_texts.specs.Faults.{failed_read, failed_write, is_config, is_write, is_thread_fault};
 ghost use Rattle.fmp_run_texts.specs.Owed.{OwesTrace};
-ghost use Rattle.fmp_run_events.specs.Reports.{Compared, WritesReport, Tells, head_text, verdict_in};
-ghost use Rattle.fmp_run_texts.specs.Texts.{CountsReads};
+ghost use Rattle.fmp_run_events.specs.Reports.{WritesReport, Tells, head_text};
 
 use crate::before::put_state_before;
 use fmp_rules::Config;
-use fmp_run_devices::{Failed, Sink, Source, read_up_to, write_all, write_out};
-use fmp_run_texts::{RunFault, config_from, verdict_text};
+use fmp_run_devices::{Failed, Sink, Source, write_all, write_out};
+use fmp_run_texts::{Judge, Reader, RunFault, judged_texts, verdict_text};
 use fmp_trace_check::{Comparison, Shown, Verdict, compare_lines};
 use std::alloc::{AllocError, Global};
 
@@ -44,54 +40,39 @@ fn with_state(
     })
 }
 
-/// Reads a trace to its end, and compares it.
-fn comparison_from<S: Source>(
-    alloc: Global,
-    config: &Config,
-    source: &mut S,
+/// Compares a trace with what the machine answers to its events.
+struct Comparer {
     shown: Shown,
-) -> Result<Comparison, RunFault>
-    requires { S.failures source.old < 2 ^ 64 - 1 }
-    ensures report { IsKnown (S.left source.old) → IfOk result (λ found. Tells shown config.now (bytes_of (S.left source.old)) found.verdict found.lines.items) }
-    ensures verdict { IsKnown (S.left source.old) → IfOk result (λ found. Judges config.now (bytes_of (S.left source.old)) found.verdict) }
-    ensures answers { IsKnown (S.left source.old) → (events : List AnyEvent) → PrintsAnswers config.now (bytes_of (S.left source.old)) events
-        → IsYes (verdict_in result) }
-    ensures read { IsKnown (S.left source.old) → OnOk result (bytes_of (S.left source.new) ≡ []) }
-    ensures fault { IsKnown (S.left source.old) → IfErr result (IsFirstOfTrace config.now.names (bytes_of (S.left source.old))) }
-    ensures kinds { IfErr result (λ fault. (is_config fault ≡ false) × (is_write fault ≡ false)) }
-    ensures no_thread_fault { IfErr result (λ fault. is_thread_fault fault ≡ false) }
-    ensures count { S.failures source.new ≡ S.failures source.old + (if failed_read result then 1 else 0) }
-{
-    let text = read_up_to(alloc, source, fmp_text::MOST_BYTES)?;
-    let found = match compare_lines(alloc, config, text.as_slice(), shown) {
-        Ok(found) => found,
-        Err(fault) => return Err(RunFault::Text(fault)),
-    };
-    match shown {
-        Shown::First => Ok(with_state(alloc, config, text.as_slice(), found)?),
-        Shown::Each => Ok(found),
+}
+
+impl Reader for Comparer {
+    ghost use Rattle.fmp_run_texts.specs.Traces.{IsFirstOfTrace, IsOfMachine};
+    ghost use Rattle.fmp_run_events.specs.Reports.{IsCompared};
+
+    type Out = Comparison;
+
+    ghost says = { λ comparer c text found. IsCompared comparer.shown c text found };
+
+    ghost is_fault = { λ _ c. IsFirstOfTrace c.names };
+
+    ghost verdict = { λ _ found. found.verdict };
+
+    ghost accepts = { λ _. IsOfMachine };
+
+    fn read(&self, alloc: Global, config: &Config, text: Vec<u8>) -> Result<Comparison, RunFault> {
+        let found = match compare_lines(alloc, config, text.as_slice(), self.shown) {
+            Ok(found) => found,
+            Err(fault) => return Err(RunFault::Text(fault)),
+        };
+        match self.shown {
+            Shown::First => Ok(with_state(alloc, config, text.as_slice(), found)?),
+            Shown::Each => Ok(found),
+        }
     }
 }
 
-/// Where a trace differs. It has no writer in hand, so nothing is written before both texts are accepted.
-fn compared<R: Source, S: Source>(
-    alloc: Global,
-    config: &mut R,
-    trace: &mut S,
-    shown: Shown,
-) -> Result<Comparison, RunFault>
-    requires config_calls { R.failures config.old < 2 ^ 64 - 1 }
-    requires trace_calls { S.failures trace.old < 2 ^ 64 - 1 }
-
-    ensures compared { IsKnown (R.left config.old) → IsKnown (S.left trace.old)
-        → IfOk result (λ found. Compared shown (bytes_of (R.left config.old)) (bytes_of (S.left trace.old)) found.verdict found.lines.items) }
-    ensures texts { JudgesTexts FirstTraceFault (R.left config.old) (R.left config.new) (S.left trace.old) (S.left trace.new) (verdict_in result) }
-    ensures reads { CountsReads result (R.failures config.old) (R.failures config.new) (S.failures trace.old) (S.failures trace.new) }
-    ensures no_write { failed_write result ≡ false }
-{
-    let configuration = config_from(alloc, config)?;
-    configuration.names().validity();
-    comparison_from(alloc, &configuration, trace, shown)
+impl Judge for Comparer {
+    ghost own = { λ _ c text events prints. (events, prints) };
 }
 
 /// Writes what stands before the lines that differ. After a failed call a prefix of it is out.
@@ -152,7 +133,7 @@ pub fn run_report<R: Source, S: Source, W: Sink>(
     ensures writes { WritesReport shown (source_ends R.left R.failures config.old config.new) (source_ends S.left S.failures trace.old trace.new)
         (sink_ends W.written W.buffered W.failures report.old report.new) result }
 {
-    let found = compared(alloc, config, trace, shown)?;
+    let (_config, found) = judged_texts(alloc, &Comparer { shown }, config, trace)?;
     write_report(report, shown, found.verdict, found.lines.as_slice())?;
     Ok(found.verdict)
 }

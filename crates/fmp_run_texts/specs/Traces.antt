@@ -41,22 +41,20 @@ abbrev pub verdict_by : {T : Type 0} → (T → Verdict) → Result T RunFault �
 verdict_by verdict (Ok found) = Ok (verdict found)
 verdict_by verdict (Err fault) = Err fault
 
--- A text that was judged: it is this one, the verdict is right, and it is yes on what the machine answers to some events.
+-- the text is what the machine answers to some events, within the limits
+abbrev pub IsOfMachine : Setup → List ℕ → Type 0
+IsOfMachine c text = (events : List Event) × PrintsAnswers c text events
+
+-- all of this text was read, and the verdict on it is right
 pub record IsJudged (c : Setup) (all text : List ℕ) (verdict : Verdict) : Type 0 where
-  pub same : text ≡ all
+  pub whole : text ≡ all
   pub judges : Judges c all verdict
-  pub yes : (events : List Event) → PrintsAnswers c all events → verdict ≡ Yes
 
 -- a fault of the trace is the first one of its text, or want of memory
 abbrev pub IsFirstOfTrace : NameLists → List ℕ → TextFault → Type 0
 IsFirstOfTrace names text fault = FirstFault names text fault ⊎ IsMemory fault
 
--- and what the machine answers to some events has none but want of memory
-pub record IsTraceFault (c : Setup) (text : List ℕ) (fault : TextFault) : Type 0 where
-  pub first : IsFirstOfTrace c.names text fault
-  pub right : (events : List Event) → PrintsAnswers c text events → IsMemory fault
-
--- the first one, for the names of a right configuration
+-- the same, for the names of a right configuration
 abbrev pub FirstTraceFault : List ℕ → List ℕ → RunFault → Type 0
 FirstTraceFault = FaultOver (λ c. IsFirstOfTrace c.names)
 

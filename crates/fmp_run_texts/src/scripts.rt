@@ -1,5 +1,4 @@
 //! Scripts, as a run reads them.
-ghost use Rattle.std.specs.Prelude.{◌≡◌};
 
 use crate::fault::RunFault;
 use crate::reading::Reader;

@@ -16,7 +16,7 @@ use crate::contrast::contrast_of;
 use crate::showing::Showing;
 use fmp_rules::Config;
 use fmp_run_devices::{Sink, Source, write_all};
-use fmp_run_texts::{Judged, RunFault, judged_texts, pass_on};
+use fmp_run_texts::{Judged, RunFault, TraceJudge, judged_texts, pass_on};
 use fmp_text::{TextFault, TextKind};
 use fmp_trace::{event_of, next_line};
 use fmp_trace_check::Verdict;
@@ -78,22 +78,23 @@ fn show<W: Sink>(
 /// Shows a trace that was judged, and holds none of it back.
 fn show_judged<W: Sink>(
     alloc: Global,
+    config: &Config,
     judged: &Judged,
     kind: PageKind,
     page: &mut W,
 ) -> Result<(), RunFault>
     requires calls { W.failures page.old < 2 ^ 64 - 1 }
-    requires judged { Judges judged.now.config judged.now.text.items judged.now.verdict }
+    requires judged { Judges config.now judged.now.text.items judged.now.verdict }
     ensures known { IsKnown (W.written page.old) → IsKnown (W.written page.new) }
     ensures shown { IsKnown (W.written page.old)
-        → OnOk result (IsShownBy kind judged.now.config judged.now.text.items (bytes_of (W.written page.old)) (bytes_of (W.written page.new)) judged.now.verdict) }
+        → OnOk result (IsShownBy kind config.now judged.now.text.items (bytes_of (W.written page.old)) (bytes_of (W.written page.new)) judged.now.verdict) }
     ensures same { IsKnown (W.written page.old) → judged.now.verdict ≡ Verdict.Yes
-        → OnOk result (IsPageOut PageKind.Own judged.now.config judged.now.text.items (bytes_of (W.written page.old)) (bytes_of (W.written page.new))) }
+        → OnOk result (IsPageOut PageKind.Own config.now judged.now.text.items (bytes_of (W.written page.old)) (bytes_of (W.written page.new))) }
     ensures passed { OnOk result (judged.now.verdict ≡ Verdict.Yes → W.buffered page.new ≡ []) }
     ensures all_passed { kind ≡ PageKind.Differences → OnOk result (W.buffered page.new ≡ []) }
     ensures none_held { W.buffered page.old ≡ [] → result ≢ Err RunFault.Write → W.buffered page.new ≡ [] }
     ensures leaves { IsKnown (W.written page.old)
-        → IfErr result (Leaves (Shows kind judged.now.config judged.now.text.items) (bytes_of (W.written page.old)) (bytes_of (W.written page.new))) }
+        → IfErr result (Leaves (Shows kind config.now judged.now.text.items) (bytes_of (W.written page.old)) (bytes_of (W.written page.new))) }
     ensures kinds { IfErr result IsLate }
     ensures no_thread_fault { IfErr result (λ fault. is_thread_fault fault ≡ false) }
     ensures writes { W.failures page.new ≡ W.failures page.old + (if failed_write result then 1 else 0) }
@@ -102,14 +103,14 @@ fn show_judged<W: Sink>(
     match (kind, judged.verdict) {
         (PageKind::Own, Verdict::No(_)) => Ok(()),
         (PageKind::Own, Verdict::Yes) => {
-            let shown = show(alloc, &judged.config, text, text, b"", page);
+            let shown = show(alloc, config, text, text, b"", page);
             pass_on(shown, page)
         }
         (PageKind::Differences, _) => {
-            let found = contrast_of(alloc, &judged.config, text)?;
+            let found = contrast_of(alloc, config, text)?;
             let own = found.own.as_slice();
             let given = found.given.as_slice();
-            let shown = show(alloc, &judged.config, text, own, given, page);
+            let shown = show(alloc, config, text, own, given, page);
             pass_on(shown, page)
         }
     }
@@ -140,7 +141,7 @@ pub fn run_view<R: Source, S: Source, W: Sink>(
     ensures writes { WritesPage kind (source_ends R.left R.failures config.old config.new) (source_ends S.left S.failures trace.old trace.new)
         (sink_ends W.written W.buffered W.failures page.old page.new) result }
 {
-    let judged = judged_texts(alloc, config, trace)?;
-    show_judged(alloc, &judged, kind, page)?;
+    let (configuration, judged) = judged_texts(alloc, &TraceJudge, config, trace)?;
+    show_judged(alloc, &configuration, &judged, kind, page)?;
     Ok(judged.verdict)
 }

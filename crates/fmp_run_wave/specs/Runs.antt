@@ -11,9 +11,7 @@ use Rattle.fmp_run_texts.specs.declared.fault.RunFault.TheVariants as run
 use Rattle.fmp_run_devices.specs.Devices.{BeginsWith, IsKnown, bytes_of}
 use Rattle.fmp_run_devices.specs.Ends.{Ends, SinkEnd, SourceEnd}
 use Rattle.fmp_run_texts.specs.Texts.{SaysConfig}
-use Rattle.fmp_run_texts.specs.Traces.{verdict_by}
 use Rattle.fmp_run_wave.specs.Waves.{wave_of}
-use Rattle.fmp_run_wave.specs.declared.run.Judged.{Judged}
 
 -- the text is what the machine answers to its own events, and this is their waveform
 pub record Draws (c : Setup) (text wave : List ℕ) : Type 0 where
@@ -21,6 +19,11 @@ pub record Draws (c : Setup) (text wave : List ℕ) : Type 0 where
   pub prints : PrintsWithin c.names text records
   pub own : text ≡ own_text c records
   pub drawn : wave ≡ wave_of c (map (λ r. r.event) records)
+
+-- a trace was judged and drawn: the verdict is right, and this is the waveform where it is yes
+pub record JudgesAndDraws (c : Setup) (text : List ℕ) (verdict : Verdict) (wave : List ℕ) : Type 0 where
+  pub judges : Judges c text verdict
+  pub draws : verdict ≡ Yes → Draws c text wave
 
 -- the waveform was written after old, all of it; of a text that is not the machine's own nothing was
 abbrev pub IsDrawnBy : Setup → List ℕ → List ℕ → List ℕ → Verdict → Type 0
@@ -59,7 +62,3 @@ pub record WritesWave (config trace : Ends SourceEnd) (wave : Ends SinkEnd) (res
   -- nothing
   pub leaves : IsKnown config.old.left → IsKnown trace.old.left → IsKnown wave.old.written
       → IfErr result (LeavesDrawn (bytes_of config.old.left) (bytes_of trace.old.left) (bytes_of wave.old.written) (bytes_of wave.new.written))
-
--- the verdict on a trace that was drawn
-abbrev pub verdict_in : Result Judged RunFault → Result Verdict RunFault
-verdict_in = verdict_by (λ judged. judged.verdict)

@@ -1,52 +1,58 @@
 //! The run that draws a trace.
-ghost use Rattle.std.specs.Prelude.{◌≡◌, ℕ, ◌+◌, ◌-◌, ◌^◌, ◌<◌, List, ◌++◌, [], OnOk, OnErr, IfOk, IfErr, Ok, Err, false, if◌then◌else◌};
-ghost use Rattle.fmp_codes.specs.declared.records.Event.{Event as AnyEvent};
-ghost use Rattle.fmp_trace_check.specs.Checking.{Judges, PrintsAnswers};
-ghost use Rattle.fmp_run_texts.specs.Traces.{FirstTraceFault, IsFirstOfTrace, IsYes};
+ghost use Rattle.std.specs.Prelude.{◌≡◌, ℕ, ◌+◌, ◌-◌, ◌^◌, ◌<◌, ◌++◌, [], OnOk, OnErr, IfErr, Ok, Err, if◌then◌else◌};
+ghost use Rattle.fmp_trace_check.specs.Checking.{Judges};
+ghost use Rattle.fmp_run_texts.specs.Traces.{FirstTraceFault};
 ghost use Rattle.fmp_run_devices.specs.Devices.{BeginsWith, IsKnown, bytes_of};
 ghost use Rattle.fmp_run_devices.specs.Ends.{sink_ends, source_ends};
-ghost use Rattle.fmp_run_texts.specs.Faults.{failed_read, failed_write, is_config, is_thread_fault, is_write};
+ghost use Rattle.fmp_run_texts.specs.Faults.{failed_write};
 ghost use Rattle.fmp_run_texts.specs.Owed.{OwesTrace};
-ghost use Rattle.fmp_run_wave.specs.Runs.{Draws, WritesWave, verdict_in};
+ghost use Rattle.fmp_run_wave.specs.Runs.{WritesWave};
 
 use crate::drawing::Drawing;
 use fmp_rules::Config;
-use fmp_run_devices::{Sink, Source, read_up_to, write_out};
-use fmp_run_texts::{RunFault, config_from};
+use fmp_run_devices::{Sink, Source, write_out};
+use fmp_run_texts::{Judge, Reader, RunFault, judged_texts};
 use fmp_trace_check::{Verdict, check_watched};
 use std::alloc::Global;
 
-/// A trace that was read, the verdict on it, and what was drawn of it.
+/// The verdict on a trace, and what was drawn of it.
 #[derive(Drop)]
 struct Judged {
-    text: Vec<u8>,
     verdict: Verdict,
     wave: Vec<u8>,
 }
 
-/// Reads a trace to its end, and judges and draws it in one walk. What was drawn is kept.
-fn drawn_by<S: Source>(alloc: Global, config: &Config, trace: &mut S) -> Result<Judged, RunFault>
-    requires { S.failures trace.old < 2 ^ 64 - 1 }
-    ensures text { IsKnown (S.left trace.old) → IfOk result (λ judged. judged.text.items ≡ bytes_of (S.left trace.old)) }
-    ensures judged { IfOk result (λ judged. Judges config.now judged.text.items judged.verdict) }
-    ensures drawn { IfOk result (λ judged. judged.verdict ≡ Verdict.Yes → Draws config.now judged.text.items judged.wave.items) }
-    ensures answers { IsKnown (S.left trace.old) → (events : List AnyEvent) → PrintsAnswers config.now (bytes_of (S.left trace.old)) events → IsYes (verdict_in result) }
-    ensures read { IsKnown (S.left trace.old) → OnOk result (bytes_of (S.left trace.new) ≡ []) }
-    ensures fault { IsKnown (S.left trace.old) → IfErr result (IsFirstOfTrace config.now.names (bytes_of (S.left trace.old))) }
-    ensures kinds { IfErr result (λ fault. (is_config fault ≡ false) × (is_write fault ≡ false)) }
-    ensures no_thread_fault { IfErr result (λ fault. is_thread_fault fault ≡ false) }
-    ensures count { S.failures trace.new ≡ S.failures trace.old + (if failed_read result then 1 else 0) }
-{
-    let text = read_up_to(alloc, trace, fmp_text::MOST_BYTES)?;
-    let mut drawing = Drawing::new(alloc, config)?;
-    match check_watched(alloc, config, text.as_slice(), &mut drawing) {
-        Ok(verdict) => Ok(Judged {
-            text,
-            verdict,
-            wave: drawing.into_wave(),
-        }),
-        Err(fault) => Err(RunFault::Text(fault)),
+/// Judges and draws a trace in one walk. What was drawn is kept.
+struct Drawer;
+
+impl Reader for Drawer {
+    ghost use Rattle.fmp_run_texts.specs.Traces.{IsFirstOfTrace, IsOfMachine};
+    ghost use Rattle.fmp_run_wave.specs.Runs.{JudgesAndDraws};
+
+    type Out = Judged;
+
+    ghost says = { λ _ c text judged. JudgesAndDraws c text judged.verdict judged.wave.items };
+
+    ghost is_fault = { λ _ c. IsFirstOfTrace c.names };
+
+    ghost verdict = { λ _ judged. judged.verdict };
+
+    ghost accepts = { λ _. IsOfMachine };
+
+    fn read(&self, alloc: Global, config: &Config, text: Vec<u8>) -> Result<Judged, RunFault> {
+        let mut drawing = Drawing::new(alloc, config)?;
+        match check_watched(alloc, config, text.as_slice(), &mut drawing) {
+            Ok(verdict) => Ok(Judged {
+                verdict,
+                wave: drawing.into_wave(),
+            }),
+            Err(fault) => Err(RunFault::Text(fault)),
+        }
     }
+}
+
+impl Judge for Drawer {
+    ghost own = { λ _ c text events prints. (events, prints) };
 }
 
 /// Writes what was drawn of a trace that is the machine's own, and holds none of it back.
@@ -96,9 +102,7 @@ pub fn run_wave<R: Source, S: Source, W: Sink>(
     ensures writes { WritesWave (source_ends R.left R.failures config.old config.new) (source_ends S.left S.failures trace.old trace.new)
         (sink_ends W.written W.buffered W.failures wave.old wave.new) result }
 {
-    let configuration = config_from(alloc, config)?;
-    configuration.names().validity();
-    let judged = drawn_by(alloc, &configuration, trace)?;
+    let (_config, judged) = judged_texts(alloc, &Drawer, config, trace)?;
     write_drawn(&judged, wave)?;
     Ok(judged.verdict)
 }
