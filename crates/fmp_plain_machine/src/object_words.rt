@@ -1,6 +1,6 @@
 //! The words of the definitions about objects and time, on the plain machine.
-ghost use Rattle.std.specs.Prelude.{◌≡◌};
-ghost use Rattle.fmp_rules.specs.Objects.{pool};
+ghost use Rattle.std.specs.Prelude.{◌≡◌, slice_get};
+ghost use Rattle.fmp_rules.specs.Objects.{pool, values};
 
 use crate::blocks;
 use crate::counts::{lower, objects_over};
@@ -18,6 +18,13 @@ impl PlainMachine {
     {
         let pool = self.resources.pools.as_slice().get(m.index()).copied();
         pool.unwrap_or(Pool::default())
+    }
+
+    /// The value at a place after the oldest one of a data queue, if there are so many.
+    pub fn value(&self, d: Object, index: usize) -> Option<i64>
+        ensures { result ≡ slice_get (values self.now d) index }
+    {
+        self.resources.data_queues.value(d, index)
     }
 }
 
