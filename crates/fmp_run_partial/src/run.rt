@@ -18,6 +18,8 @@ use std::alloc::Global;
 struct PartialJudge;
 
 impl Reader for PartialJudge {
+    ghost use Rattle.std.specs.Prelude.{◌⊎◌};
+    ghost use Rattle.fmp_run_texts.specs.Traces.{IsOfMachine};
     ghost use Rattle.fmp_run_partial.specs.Partials.{IsFirstOfPartial, IsPartlyOfMachine};
     ghost use Rattle.fmp_run_partial.specs.Verdicts.{JudgesPartly};
 
@@ -29,7 +31,7 @@ impl Reader for PartialJudge {
 
     ghost verdict = { λ _ verdict. verdict };
 
-    ghost accepts = { λ _. IsPartlyOfMachine };
+    ghost accepts = { λ _ c text. IsOfMachine c text ⊎ IsPartlyOfMachine c text };
 
     fn read(&self, alloc: Global, config: &Config, text: Vec<u8>) -> Result<Verdict, RunFault> {
         match check_partial(alloc, config, text.as_slice()) {
@@ -40,9 +42,9 @@ impl Reader for PartialJudge {
 }
 
 impl Judge for PartialJudge {
-    ghost use Rattle.fmp_run_partial.specs.Partials.{own_is_partly};
+    ghost use Rattle.std.specs.Prelude.{inl};
 
-    ghost own = { λ _ c text events prints. (events, own_is_partly c text events prints) };
+    ghost own = { λ _ c text events prints. inl (events, prints) };
 }
 
 /// Reads a configuration and a partial trace, and writes whether what the lines of the trace say is what the machine answers to
