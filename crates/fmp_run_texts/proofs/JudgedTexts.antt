@@ -1,24 +1,15 @@
 -- The verdict on a trace that was read up to its limit is the verdict on its text.
 use Rattle.std.proofs.Common.{◌≡◌, ◌∙◌, ◌⊎◌, ℕ, ◌≤◌, List, ◌++◌, length, Ok, Err, ap, sym, subst, arith, inl, inr, length-append}
 use Rattle.std.proofs.lemmas.List.{append-nil}
-use Rattle.fmp_setup.specs.Setup.{Setup}
 use Rattle.fmp_names.specs.Names.{NameLists}
 use Rattle.fmp_text.specs.Events.{IsMemory}
 use Rattle.fmp_text.specs.Limits.{most_bytes}
 use Rattle.fmp_text.specs.declared.fault.TextFault.{TextFault}
-use Rattle.fmp_trace_check.specs.declared.checking.Verdict.{Verdict}
-use Rattle.fmp_trace_check.specs.Checking.{Judges}
 use Rattle.fmp_trace.specs.Prints.{FaultAfter, FirstFault}
-use Rattle.fmp_run_texts.specs.Traces.{Checked}
 use Rattle.fmp_run_devices.specs.Devices.{ReadUpTo}
-use Rattle.fmp_run_texts.specs.Texts.{SaysConfig}
-
-pub checked_of_texts : (config_text trace_text text : List ℕ) (c : Setup) (verdict : Verdict) → SaysConfig config_text c → text ≡ trace_text → Judges c text verdict → Checked config_text trace_text verdict
-checked_of_texts config_text trace_text text c verdict says same judges =
-    record { config = c; says = says; judges = subst (λ (t : List ℕ). Judges c t verdict) same judges }
 
 -- a text that is not too long is read whole
-pub read_whole : (all text rest : List ℕ) → ReadUpTo most_bytes all text rest → length text ≤ most_bytes → text ≡ all
+pub read_whole : {limit : ℕ} (all text rest : List ℕ) → ReadUpTo limit all text rest → length text ≤ limit → text ≡ all
 read_whole all text rest read short = sym (read.prefix ∙ ap (λ (xs : List ℕ). text ++ xs) (read.whole short) ∙ append-nil text)
 
 -- what was read of a text is no longer than it

@@ -5,15 +5,16 @@ use Rattle.std.proofs.lemmas.Result.{IfErr-weaker}
 use Rattle.fmp_codes.specs.declared.records.Event.{Event}
 use Rattle.fmp_names.specs.Names.{AreValid}
 use Rattle.fmp_setup.specs.Setup.{Setup}
+use Rattle.fmp_text.specs.declared.fault.TextFault.{TextFault}
 use Rattle.fmp_setup.specs.Valid.{IsValid}
 use Rattle.fmp_trace_check.specs.declared.checking.Verdict.{Verdict}
 use Rattle.fmp_trace_check.specs.Checking.{PrintsAnswers}
 use Rattle.fmp_run_devices.specs.Devices.{IsKnown, bytes_of}
 use Rattle.fmp_run_texts.specs.declared.fault.RunFault.{RunFault}
 use Rattle.fmp_run_texts.specs.declared.fault.RunFault.TheVariants as run
-use Rattle.fmp_run_texts.specs.Faults.{is_config, is_text, is_thread_fault, is_write}
-use Rattle.fmp_run_texts.specs.Texts.{FirstConfigFault, SaysConfig}
-use Rattle.fmp_run_texts.specs.Traces.{FirstTraceFault, IsFirstOfTrace, IsYes, JudgesTexts, verdict_by}
+use Rattle.fmp_run_texts.specs.Faults.{OnText, is_config, is_text, is_thread_fault, is_write}
+use Rattle.fmp_run_texts.specs.Texts.{FaultOver, FirstConfigFault, SaysConfig}
+use Rattle.fmp_run_texts.specs.Traces.{IsYes, JudgesTexts, verdict_by}
 use Rattle.fmp_run_texts.proofs.Grammars.{only_memory}
 use Rattle.fmp_run_texts.proofs.Yes.{answered_prints, own_prints}
 
@@ -22,15 +23,16 @@ pub no_config_fault : (text : List ℕ) (fault : RunFault) → is_config fault �
 no_config_fault text (run.Config fault) other = absurd (true≢false other)
 no_config_fault text _ other = tt
 
--- the same of the trace
-pub no_trace_fault : (config_text trace_text : List ℕ) (fault : RunFault) → is_text fault ≡ false → FirstTraceFault config_text trace_text fault
-no_trace_fault config_text trace_text (run.Text fault) other = absurd (true≢false other)
-no_trace_fault config_text trace_text _ other = tt
+-- a fault that is none of the text is no fault of it that is not as it has to be
+pub no_text_fault : (IsFault : Setup → List ℕ → TextFault → Type 0) (config_text text : List ℕ) (fault : RunFault) → is_text fault ≡ false → FaultOver IsFault config_text text fault
+no_text_fault IsFault config_text text (run.Text fault) other = absurd (true≢false other)
+no_text_fault IsFault config_text text _ other = tt
 
--- the first fault of a trace for the names of a configuration that was read
-pub trace_fault : (config_text trace_text : List ℕ) (c : Setup) → SaysConfig config_text c → (fault : RunFault) → IsFirstOfTrace c.names trace_text fault → FirstTraceFault config_text trace_text fault
-trace_fault config_text trace_text c says (run.Text fault) first = (c, says, first)
-trace_fault config_text trace_text c says _ first = tt
+-- a fault of a text over a configuration that was read
+pub fault_over : (IsFault : Setup → List ℕ → TextFault → Type 0) (config_text text : List ℕ) (c : Setup) → SaysConfig config_text c → (fault : RunFault) → OnText (IsFault c text) fault
+    → FaultOver IsFault config_text text fault
+fault_over IsFault config_text text c says (run.Text fault) is = (c, says, is)
+fault_over IsFault config_text text c says _ is = tt
 
 -- what holds where something was found of a trace holds where there is a verdict
 pub on_ok-verdict : {T : Type 0} (verdict : T → Verdict) (result : Result T RunFault) (P : Type 0) → OnOk result P → OnOk (verdict_by verdict result) P

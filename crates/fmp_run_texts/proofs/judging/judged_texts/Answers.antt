@@ -1,26 +1,24 @@
-use Rattle.std.proofs.Common.{subst}
-use Rattle.std.proofs.lemmas.Result.{IfErr-weaker, err_from_is_err_and}
+use Rattle.std.proofs.Common.{Ok, Err, subst, rules}
+use Rattle.std.proofs.lemmas.Result.{err_from_is_err_and}
 use Rattle.fmp_names.specs.Names.{AreValid}
-use Rattle.fmp_run_texts.specs.Traces.{FirstTraceFault, verdict_in}
-use Rattle.fmp_run_texts.specs.declared.judging.Judged.{Judged}
-use Rattle.fmp_run_texts.proofs.Owed.{config_refused, if_err-verdict, no_trace_fault, on_ok-verdict, trace_fault, trace_judged}
+use Rattle.fmp_run_texts.specs.Texts.{FaultOver}
+use Rattle.fmp_run_texts.proofs.Owed.{config_refused, fault_over, no_text_fault, trace_judged}
+use Rattle.fmp_run_texts.proofs.Grammars.{one_config, only_memory}
 use Rattle.fmp_run_texts.proofs.judging.judged_texts.Goals as goal
 
-pub returns-in_err-configuration-clause-texts : goal.returns-in_err-configuration-clause-texts
-returns-in_err-configuration-clause-texts g c =
+pub returns-in_err-configuration : goal.returns-in_err-configuration
+returns-in_err-configuration g c =
     let p = err_from_is_err_and c.from_residual.result c.from_residual.ensures.1 in
     let refused = c.in_err-configuration.ensures in
-    rw (p.1, p.2)
-    (config_refused FirstTraceFault _ _ _ _ c.in_err-configuration.field-0.0 refused.fault refused.kinds.0 refused.no_thread_fault (no_trace_fault _ _ _ refused.kinds.0))
-
-pub returns-clause-texts : goal.returns-clause-texts
-returns-clause-texts g c =
-    let config = c.in_ok-configuration.configuration in
-    let says = c.in_ok-configuration.ensures.ok in
-    let judged = c.judged_by.ensures in
-    let result = c.judged_by.result in
-    let verdict = λ (found : Judged). found.verdict in
-    trace_judged FirstTraceFault _ _ _ _ config (verdict_in result) says c.in_ok-configuration.ensures.read c.names.ensures.valid (subst AreValid c.names.ensures.value c.validity.ensures) judged.answers
-    (λ known. on_ok-verdict verdict result _ (judged.read known))
-    (λ known known_too. if_err-verdict verdict result _ (IfErr-weaker result _ _ (trace_fault _ _ config (says known)) (judged.fault known_too)))
-    (if_err-verdict verdict result _ judged.kinds) (if_err-verdict verdict result _ judged.no_thread_fault)
+    let fault = c.in_err-configuration.field-0.0 in
+    let IsFault = FaultOver (g.J.Reader.is_fault c.args.judge.now) in
+    record {
+      says = search rules;
+      made = search rules;
+      keeps = search rules;
+      text_fault = λ known known_too. rw (p.1, p.2) (no_text_fault _ _ _ fault refused.kinds.0);
+      accepted = λ known known_too config says own. rw (p.1, p.2) (only_memory _ config fault says (refused.fault known) refused.kinds.0);
+      texts = rw (p.1, p.2) (config_refused IsFault _ _ _ _ fault refused.fault refused.kinds.0 refused.no_thread_fault (no_text_fault _ _ _ fault refused.kinds.0));
+      reads = search rules;
+      no_write = search rules;
+    }
