@@ -1,5 +1,5 @@
 //! The handlers that are due on a processor.
-ghost use Rattle.std.specs.Prelude.{◌≡◌, ◌<◌, ◌++◌, ◌∷◌, [], length};
+ghost use Rattle.std.specs.Prelude.{◌≡◌, ◌≤◌, ◌<◌, ◌++◌, ◌∷◌, [], length};
 ghost use Rattle.fmp_rules.specs.World.{first, rest};
 
 use arrayvec::ArrayVec;
@@ -31,7 +31,8 @@ impl Due {
 
     /// All of them.
     pub(crate) fn as_slice(&self) -> &[Runner]
-        ensures { result.now ≡ self.now }
+        ensures handlers { result.now ≡ self.now }
+        ensures few { length result.now ≤ 64 }
     {
         self.runners.as_slice()
     }

@@ -1,5 +1,5 @@
 //! The words of the definitions, on the plain machine.
-ghost use Rattle.std.specs.Prelude.{◌≡◌, ◌-◌, ◌^◌, ◌≤◌, [], length, map};
+ghost use Rattle.std.specs.Prelude.{◌≡◌, ◌-◌, ◌^◌, ◌≤◌, [], length};
 ghost use Rattle.fmp_rules.specs.Arrivals.{Arrivals, numbered};
 ghost use Rattle.fmp_rules.specs.World.{item};
 
@@ -23,7 +23,8 @@ impl PlainMachine {
 
     /// The handlers that are due on a processor, the running one first.
     pub fn due(&self, p: Proc) -> &[Runner]
-        ensures { result.now ≡ item [] self.now.due p.number }
+        ensures handlers { result.now ≡ item [] self.now.due p.number }
+        ensures few { length result.now ≤ 64 }
     {
         match self.due.as_slice().get(p.index()) {
             None => &[],

@@ -5,11 +5,11 @@ use Rattle.fmp_run_texts.specs.declared.fault.RunFault.TheVariants.{Write}
 use Rattle.fmp_run_texts.proofs.Owed.{failed_late}
 use Rattle.fmp_run_events.proofs.check.run_check.Goals as goal
 
-pub returns-in_err-judged-clause-owes : goal.returns-in_err-judged-clause-owes
-returns-in_err-judged-clause-owes g c =
+pub returns-in_err-_config-clause-owes : goal.returns-in_err-_config-clause-owes
+returns-in_err-_config-clause-owes g c =
     let p = err_from_is_err_and c.from_residual.result c.from_residual.ensures.1 in
     record {
-      texts = rw (p.1, p.2) c.in_err-judged.ensures.texts;
+      texts = rw (p.1, p.2) c.in_err-_config.ensures.texts;
       reads = search rules;
       sink = search rules;
     }
@@ -26,7 +26,7 @@ returns-in_err-write_out-clause-owes g c =
 pub returns-clause-owes : goal.returns-clause-owes
 returns-clause-owes g c =
     record {
-      texts = c.in_ok-judged.ensures.texts;
+      texts = c.in_ok-_config.ensures.texts;
       reads = search rules;
       sink = search rules;
     }

@@ -1,15 +1,15 @@
-use Rattle.std.proofs.Common.{refl, rules}
+use Rattle.std.proofs.Common.{inr, refl, rules}
 use Rattle.std.proofs.lemmas.Result.{err_from_is_err_and}
 use Rattle.fmp_run_texts.specs.declared.fault.RunFault.TheVariants.{Write}
 use Rattle.fmp_run_texts.proofs.Owed.{failed_late}
 use Rattle.fmp_run_partial.specs.Partials.{FirstPartialFault}
 use Rattle.fmp_run_partial.proofs.run.run_partial.Goals as goal
 
-pub returns-in_err-verdict-clause-owes : goal.returns-in_err-verdict-clause-owes
-returns-in_err-verdict-clause-owes g c =
+pub returns-in_err-_config-clause-owes : goal.returns-in_err-_config-clause-owes
+returns-in_err-_config-clause-owes g c =
     let p = err_from_is_err_and c.from_residual.result c.from_residual.ensures.1 in
     record {
-      texts = rw (p.1, p.2) c.in_err-verdict.ensures.texts;
+      texts = rw (p.1, p.2) c.in_err-_config.ensures.texts;
       reads = search rules;
       sink = search rules;
     }
@@ -26,17 +26,20 @@ returns-in_err-write_out-clause-owes g c =
 pub returns-clause-owes : goal.returns-clause-owes
 returns-clause-owes g c =
     record {
-      texts = c.in_ok-verdict.ensures.texts;
+      texts = c.in_ok-_config.ensures.texts;
       reads = search rules;
       sink = search rules;
     }
 
-pub returns-in_err-verdict-clause-partly : goal.returns-in_err-verdict-clause-partly
-returns-in_err-verdict-clause-partly g c = λ tells tells_too own.
+pub returns-in_err-_config-clause-partly : goal.returns-in_err-_config-clause-partly
+returns-in_err-_config-clause-partly g c = λ tells tells_too own.
     let p = err_from_is_err_and c.from_residual.result c.from_residual.ensures.1 in
-    rw (p.1, p.2) (c.in_err-verdict.ensures.partly tells tells_too own)
+    rw (p.1, p.2) (c.in_err-_config.ensures.accepted tells tells_too own.config own.says (inr (own.events, own.prints)))
 
 pub returns-in_err-write_out-clause-partly : goal.returns-in_err-write_out-clause-partly
 returns-in_err-write_out-clause-partly g c = λ tells tells_too own.
     let p = err_from_is_err_and c.from_residual-in_err-write_out.result c.from_residual-in_err-write_out.ensures.1 in
     rw (p.1, p.2) tt
+
+pub returns-clause-partly : goal.returns-clause-partly
+returns-clause-partly g c = λ tells tells_too own. c.in_ok-_config.ensures.accepted tells tells_too own.config own.says (inr (own.events, own.prints))
