@@ -1,5 +1,5 @@
 //! Traces that are read and judged.
-ghost use Rattle.std.specs.Prelude.{◌-◌, ◌^◌, ◌<◌, List};
+ghost use Rattle.std.specs.Prelude.{ℕ, ◌-◌, ◌^◌, ◌<◌, List};
 ghost use Rattle.fmp_codes.specs.declared.records.Event.{Event as AnyEvent};
 ghost use Rattle.fmp_setup.specs.Setup.{Setup};
 ghost use Rattle.fmp_trace_check.specs.Checking.{PrintsAnswers};

@@ -1,5 +1,5 @@
 //! Reading the second text of a run over the machine of the first.
-ghost use Rattle.std.specs.Prelude.{◌-◌, ◌^◌, ◌<◌, ◌≤◌, List, length, IfErr, IfOk, OnOk};
+ghost use Rattle.std.specs.Prelude.{⊤, ℕ, ◌-◌, ◌^◌, ◌<◌, ◌≤◌, List, length, IfErr, IfOk, OnOk};
 ghost use Rattle.fmp_setup.specs.Setup.{Setup};
 ghost use Rattle.fmp_text.specs.declared.fault.TextFault.{TextFault as AnyFault};
 ghost use Rattle.fmp_text.specs.Limits.{most_bytes};

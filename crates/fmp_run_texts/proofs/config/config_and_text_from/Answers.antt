@@ -21,8 +21,8 @@ returns-in-Ok g c =
       count = search rules;
     }
 
-pub returns : goal.returns
-returns g c = record {
+pub returns-in-Err : goal.returns-in-Err
+returns-in-Err g c = record {
   ok = search rules;
   read = search rules;
   fault = λ tells.
