@@ -2,7 +2,6 @@
 use Rattle.std.proofs.Common.{◌⊎◌, ℕ, List, subst, arith, inl, inr}
 use Rattle.fmp_run_devices.specs.Devices.{ReadUpTo}
 use Rattle.fmp_run_texts.proofs.JudgedTexts.{read_length, read_whole}
-use Rattle.fmp_run_texts.specs.declared.fault.RunFault.{RunFault}
 use Rattle.fmp_names.specs.Names.{NameLists}
 use Rattle.fmp_text.specs.Events.{IsMemory}
 use Rattle.fmp_text.specs.Limits.{most_bytes}

@@ -42,7 +42,7 @@ impl Reader for PartialJudge {
 }
 
 impl Judge for PartialJudge {
-    ghost use Rattle.std.specs.Prelude.{inl};
+    ghost use Rattle.std.proofs.Common.{inl};
 
     ghost own = { λ _ c text events prints. inl (events, prints) };
 }

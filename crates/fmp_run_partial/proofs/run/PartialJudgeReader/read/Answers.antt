@@ -1,7 +1,6 @@
 use Rattle.std.proofs.Common.{◌⊎◌, ℕ, List, ◌∙◌, sym, subst, arith, inl, inr}
 use Rattle.fmp_trace_check.specs.Checking.{PrintsAnswers}
 use Rattle.fmp_text.specs.Events.{IsMemory}
-use Rattle.fmp_run_devices.specs.Devices.{ReadUpTo}
 use Rattle.fmp_run_partial.specs.Verdicts.{PartlyPrintsAnswers}
 use Rattle.fmp_trace_partial.specs.Partly.{FirstFault}
 use Rattle.fmp_run_texts.proofs.JudgedTexts.{has_failed, read_length, read_whole}
