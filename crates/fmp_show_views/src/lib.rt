@@ -6,6 +6,7 @@
 #![tactic(auto)]
 
 mod kernel;
+mod plain;
 mod views;
 
 pub use views::Views;
