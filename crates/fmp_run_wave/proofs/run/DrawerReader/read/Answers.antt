@@ -20,14 +20,14 @@ returns-in-Ok-clause-says c =
           c.into_wave.ensures;
     }
 
-pub returns-in-Err-clause-fault : goal.returns-in-Err-clause-fault
-returns-in-Err-clause-fault c = λ all rest read.
+pub returns-clause-fault : goal.returns-clause-fault
+returns-clause-fault c = λ all rest read.
     let fault = c.in-Err.fault in
     first_or_memory _ _ _ _ fault read
     (subst (λ (t : List ℕ). FirstFault c.args.config.now.names t fault ⊎ IsMemory fault) c.as_slice.ensures.value c.in-Err.ensures.fault)
 
-pub returns-in-Err-clause-accepted : goal.returns-in-Err-clause-accepted
-returns-in-Err-clause-accepted c = λ all rest read own.
+pub returns-clause-accepted : goal.returns-clause-accepted
+returns-clause-accepted c = λ all rest read own.
     let text = c.args.text.items in
     let fits = read_length all text rest read in
     let short = own.1.short in
