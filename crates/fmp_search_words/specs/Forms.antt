@@ -1,10 +1,10 @@
 -- Where in a line a word may stand, by the forms of lines of a trace and of a state.
-use Rattle.std.specs.Prelude.{ℕ, Bool, false, not, ◌&&◌, ◌||◌, ◌==◌, is_some, List, [], ◌∷◌, map, Option, Some, None, if◌then◌else◌, codes}
-use Rattle.std.specs.List.{list_any}
+use Rattle.std.specs.Prelude.{ℕ, Bool, true, false, not, ◌&&◌, ◌||◌, ◌==◌, is_some, List, [], ◌∷◌, map, Option, Some, None, if◌then◌else◌, codes}
+use Rattle.std.specs.List.{list_all, list_any}
 use Rattle.std.specs.Option.{option_map_or, option_or}
 use Rattle.std.specs.Str.{bytes_eq}
-use Rattle.fmp_bytes.specs.Bytes.{following, close_parenthesis, colon, comma, cut_at, equals_sign, minus_sign, open_parenthesis}
-use Rattle.fmp_bytes.specs.Numerals.{are_digits}
+use Rattle.fmp_bytes.specs.Bytes.{following, close_parenthesis, colon, comma, cut_at, equals_sign, minus_sign, open_parenthesis, pieces_of}
+use Rattle.fmp_bytes.specs.Numerals.{are_digits, magnitude_of}
 use Rattle.fmp_calls.specs.Table.{is_bare, kinds_of, named}
 use Rattle.fmp_calls.specs.declared.kinds.ArgumentKind.{ArgumentKind}
 use Rattle.fmp_calls.specs.declared.kinds.ArgumentKind.TheVariants as kinds
@@ -13,7 +13,9 @@ use Rattle.fmp_calls.specs.declared.kinds.ObjectKind.{ObjectKind}
 use Rattle.fmp_calls.specs.declared.kinds.ObjectKind.TheVariants as objects
 use Rattle.fmp_codes.specs.declared.calls.Call.{Call}
 use Rattle.fmp_search_pattern.specs.Items.{is_code}
-use Rattle.fmp_names.specs.Names.{NameLists, is_object, number_of}
+use Rattle.fmp_names.specs.Names.{NameLists, is_object, name_of, number_of}
+use Rattle.fmp_search_words.specs.declared.forms.Piece.{Piece}
+use Rattle.fmp_search_words.specs.declared.forms.Piece.TheVariants as piece
 use Rattle.fmp_search_words.specs.declared.forms.TheConstants.{WORD_SPOTS, KEY_SPOTS, TELLING}
 use Rattle.fmp_search_words.specs.declared.spot.Spot.{Spot}
 use Rattle.fmp_search_words.specs.declared.spot.Spot.TheVariants as spot
@@ -60,17 +62,54 @@ object_spot names word =
 abbrev pub name_spot : NameLists → List ℕ → Spot
 name_spot names word = if is_some (plain_spot word) then spot.Anything else object_spot names word
 
--- what may stand after a `=`: a name and a code with a colon between, a processor, names, or numbers
+abbrev pub is_task : NameLists → List ℕ → Bool
+is_task names word = is_one names objects.Task word
+
+abbrev pub is_handler : NameLists → List ℕ → Bool
+is_handler names word = is_one names objects.Cyclic word || is_one names objects.Alarm word
+
+-- the number of a processor, as it stands in a request
+abbrev pub is_request : NameLists → List ℕ → Bool
+is_request names (digit ∷ []) = is_processor names.processors (80 ∷ digit ∷ [])
+is_request names other = false
+
+abbrev pub is_piece : NameLists → Piece → List ℕ → Bool
+is_piece names piece.Task word = is_task names word
+is_piece names piece.Handler word = is_handler names word
+is_piece names piece.Request word = is_request names word
+is_piece names piece.Number word = is_number word
+
+-- a value that is a row of such pieces with commas between them
+abbrev pub are_all : NameLists → Piece → List ℕ → Bool
+are_all names piece value = list_all (is_piece names piece) (pieces_of comma value)
+
+-- the end of a wait: the task's name and, after a colon, what its call answers
+abbrev pub is_release : NameLists → List ℕ × Option (List ℕ) → Bool
+is_release names (task, None) = false
+is_release names (task, Some answer) = is_task names task && is_some (answer_spot answer)
+
+-- what may stand after a `=`
 abbrev pub is_value : NameLists → Spot → List ℕ → Bool
-is_value names spot.Release value = is_some (cut_at colon value).1
+is_value names spot.Release value = is_release names (cut_at colon value)
 is_value names spot.Held value = is_processor names.processors value
-is_value names spot.Run value = not (is_number value)
-is_value names spot.Ready value = not (is_number value)
-is_value names spot.Due value = not (is_number value)
-is_value names other value = is_number (cut_at comma value).0
+is_value names spot.Ready value = are_all names piece.Task value
+is_value names spot.Due value = are_all names piece.Handler value
+is_value names spot.Requests value = are_all names piece.Request value
+is_value names spot.Values value = are_all names piece.Number value
+is_value names spot.Lost value = is_number value
+is_value names other value = are_digits 10 value
+
+-- who runs: a task wherever a line says it, `idle` after an event, and `-` of a processor
+abbrev pub run_spot : NameLists → List ℕ → Option Spot
+run_spot names value =
+    if is_task names value then Some spot.Run
+    else if bytes_eq value (codes "idle") then Some spot.RunIdle
+    else if bytes_eq value (codes "-") then Some spot.RunNobody
+    else None
 
 abbrev pub valued : NameLists → List ℕ → Option Spot → Option Spot
 valued names value None = None
+valued names value (Some spot.Run) = run_spot names value
 valued names value (Some spot) = if is_value names spot value then Some spot else None
 
 abbrev pub key_spot : NameLists → List ℕ → List ℕ → Option Spot
@@ -84,10 +123,18 @@ before_end front other = None
 abbrev pub ended : ℕ → List ℕ → Option (List ℕ)
 ended byte word = before_end (cut_at byte word).0 (cut_at byte word).1
 
--- the first argument of a call: an object of its kind, or a number
+-- a number that no object of the kind has, so that a line has the number itself, and not a name
+abbrev pub is_unnamed : NameLists → ObjectKind → List ℕ → Bool
+is_unnamed names kind digits = option_map_or (λ n. not (is_some (name_of names (name.Object kind) n))) (magnitude_of 10 digits) true
+
+abbrev pub is_stranger : NameLists → ObjectKind → List ℕ → Bool
+is_stranger names kind word = option_map_or (are_digits 10) (following minus_sign word) (are_digits 10 word && is_unnamed names kind word)
+
+-- the first argument of a call: an object of its kind, by its name where it has one. The caller is `TSK_SELF`, and not 0
 abbrev pub is_first : NameLists → ArgumentKind → List ℕ → Bool
-is_first names (kinds.Object objects.Task) word = bytes_eq word (codes "TSK_SELF") || is_one names objects.Task word || is_number word
-is_first names (kinds.Object kind) word = is_one names kind word || is_number word
+is_first names (kinds.Object objects.Task) word =
+    bytes_eq word (codes "TSK_SELF") || (is_task names word || (not (bytes_eq word (codes "0")) && is_stranger names objects.Task word))
+is_first names (kinds.Object kind) word = is_one names kind word || is_stranger names kind word
 is_first names kind word = is_number word
 
 abbrev pub has_first : NameLists → ArgumentKind → Option (List ℕ) → Bool

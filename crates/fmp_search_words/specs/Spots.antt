@@ -4,8 +4,8 @@ use Rattle.std.specs.List.{list_any}
 use Rattle.fmp_search_words.specs.declared.spot.Spot.{Spot}
 use Rattle.fmp_search_words.specs.declared.spot.Spot.TheVariants.{Front, Anything, Number, Whole, Processor, Nobody, Task, Handler, Object, Lock, Timer, Return, Begun}
 use Rattle.fmp_search_words.specs.declared.spot.Spot.TheVariants.{BegunSome, BegunReported, Called, CalledSome, CalledReported, Argument, LastArgument, Taken, Accepted, Report}
-use Rattle.fmp_search_words.specs.declared.spot.Spot.TheVariants.{Answer, Release, Lost, Run, Requests, Ready, Locked, Disabled, Latch, Due, Suspended, Waits, Sleep}
-use Rattle.fmp_search_words.specs.declared.spot.Spot.TheVariants.{WaitsFor, Left, Priority, Activated, Wakeups, Fact, Stopped, Held, End}
+use Rattle.fmp_search_words.specs.declared.spot.Spot.TheVariants.{Answer, Release, Lost, Run, RunIdle, RunNobody, Requests, Ready, Locked, Disabled, Latch, Due, Suspended}
+use Rattle.fmp_search_words.specs.declared.spot.Spot.TheVariants.{Waits, Sleep, WaitsFor, Left, Priority, Activated, Wakeups, Fact, Values, Stopped, Held, End}
 
 -- a number of its own for each
 abbrev pub number : Spot → ℕ
@@ -36,24 +36,27 @@ number Answer = 23
 number Release = 24
 number Lost = 25
 number Run = 26
-number Requests = 27
-number Ready = 28
-number Locked = 29
-number Disabled = 30
-number Latch = 31
-number Due = 32
-number Suspended = 33
-number Waits = 34
-number Sleep = 35
-number WaitsFor = 36
-number Left = 37
-number Priority = 38
-number Activated = 39
-number Wakeups = 40
-number Fact = 41
-number Stopped = 42
-number Held = 43
-number End = 44
+number RunIdle = 27
+number RunNobody = 28
+number Requests = 29
+number Ready = 30
+number Locked = 31
+number Disabled = 32
+number Latch = 33
+number Due = 34
+number Suspended = 35
+number Waits = 36
+number Sleep = 37
+number WaitsFor = 38
+number Left = 39
+number Priority = 40
+number Activated = 41
+number Wakeups = 42
+number Fact = 43
+number Values = 44
+number Stopped = 45
+number Held = 46
+number End = 47
 
 abbrev pub is_number : Spot → Bool
 is_number Number = true
@@ -81,12 +84,14 @@ before Answer = Return ∷ Called ∷ CalledSome ∷ CalledReported ∷ []
 before Release = Taken ∷ Accepted ∷ Report ∷ Answer ∷ Release ∷ []
 before Lost = Taken ∷ Accepted ∷ Report ∷ Answer ∷ Release ∷ []
 before Run = Processor ∷ Taken ∷ Accepted ∷ Report ∷ Answer ∷ Release ∷ Lost ∷ []
-before Requests = Taken ∷ Accepted ∷ Report ∷ Answer ∷ Release ∷ Lost ∷ Run ∷ []
-before Ready = Run ∷ []
-before Locked = Run ∷ Ready ∷ []
-before Disabled = Run ∷ Ready ∷ Locked ∷ []
-before Latch = Run ∷ Ready ∷ Locked ∷ Disabled ∷ []
-before Due = Run ∷ Ready ∷ Locked ∷ Disabled ∷ Latch ∷ []
+before RunIdle = Taken ∷ Accepted ∷ Report ∷ Answer ∷ Release ∷ Lost ∷ []
+before RunNobody = Processor ∷ []
+before Requests = Taken ∷ Accepted ∷ Report ∷ Answer ∷ Release ∷ Lost ∷ Run ∷ RunIdle ∷ []
+before Ready = Run ∷ RunNobody ∷ []
+before Locked = Run ∷ RunNobody ∷ Ready ∷ []
+before Disabled = Run ∷ RunNobody ∷ Ready ∷ Locked ∷ []
+before Latch = Run ∷ RunNobody ∷ Ready ∷ Locked ∷ Disabled ∷ []
+before Due = Run ∷ RunNobody ∷ Ready ∷ Locked ∷ Disabled ∷ Latch ∷ []
 before Suspended = Task ∷ []
 before Waits = Task ∷ Suspended ∷ []
 before Sleep = Waits ∷ []
@@ -96,6 +101,7 @@ before Priority = Task ∷ Suspended ∷ Sleep ∷ Object ∷ Left ∷ []
 before Activated = Task ∷ Suspended ∷ Sleep ∷ Object ∷ Left ∷ Priority ∷ []
 before Wakeups = Task ∷ Suspended ∷ Sleep ∷ Object ∷ Left ∷ Priority ∷ Activated ∷ []
 before Fact = Object ∷ []
+before Values = Object ∷ []
 before Stopped = Handler ∷ []
 before Held = Lock ∷ []
 before other = []

@@ -1,11 +1,12 @@
 //! Where in a line a word may stand.
 ghost use Rattle.std.specs.Prelude.{◌≡◌, map};
 ghost use Rattle.std.specs.Option.{option_copied};
+ghost use Rattle.fmp_bytes.specs.Bytes.{cut_at};
 ghost use Rattle.fmp_search_words.specs.Forms as spec;
 
 use crate::spot::Spot;
 use crate::words::{has_star, has_word, is_processor};
-use fmp_bytes::{are_digits, cut, following};
+use fmp_bytes::{are_digits, cut, following, magnitude};
 use fmp_calls::{ArgumentKind, NameKind, ObjectKind, find_call, form};
 use fmp_names::Names;
 use fmp_search_pattern::is_code;
@@ -53,7 +54,7 @@ pub(crate) const KEY_SPOTS: [(&[u8], Spot); 15] = [
     (b"wup", Spot::Wakeups),
     (b"count", Spot::Fact),
     (b"pattern", Spot::Fact),
-    (b"values", Spot::Fact),
+    (b"values", Spot::Values),
     (b"free", Spot::Fact),
     (b"held", Spot::Held),
 ];
@@ -160,16 +161,108 @@ fn name_spot(names: &Names, name: &[u8]) -> Spot
     }
 }
 
-/// Whether what stands after a `=` may stand there: a release has a code after a colon, a lock is held by a processor, names stand after `run`,
-/// `ready` and `due`, and numbers after the other words.
+/// Whether a word is the name of a task.
+fn is_task(names: &Names, word: &[u8]) -> bool
+    ensures { result ≡ spec.is_task names.now word.now }
+{
+    is_one(names, ObjectKind::Task, word)
+}
+
+/// Whether a word is the name of a cyclic handler or an alarm.
+fn is_handler(names: &Names, word: &[u8]) -> bool
+    ensures { result ≡ spec.is_handler names.now word.now }
+{
+    is_one(names, ObjectKind::Cyclic, word) || is_one(names, ObjectKind::Alarm, word)
+}
+
+/// Whether a word is the number of a processor, as it stands in a request.
+fn is_request(names: &Names, word: &[u8]) -> bool
+    ensures { result ≡ spec.is_request names.now word.now }
+{
+    match word {
+        [digit] => is_processor(names, &[b'P', *digit]),
+        _ => false,
+    }
+}
+
+/// Of what pieces a value is a row, with commas between them.
+#[derive(Clone, Copy)]
+enum Piece {
+    /// The name of a task.
+    Task,
+    /// The name of a cyclic handler or an alarm.
+    Handler,
+    /// The number of a processor to which a request goes.
+    Request,
+    /// A number.
+    Number,
+}
+
+/// Whether a word is such a piece.
+fn is_piece(names: &Names, piece: Piece, word: &[u8]) -> bool
+    ensures { result ≡ spec.is_piece names.now piece word.now }
+{
+    match piece {
+        Piece::Task => is_task(names, word),
+        Piece::Handler => is_handler(names, word),
+        Piece::Request => is_request(names, word),
+        Piece::Number => is_number(word),
+    }
+}
+
+/// Whether a value is a row of such pieces.
+fn are_all(names: &Names, piece: Piece, value: &[u8]) -> bool
+    ensures { result ≡ spec.are_all names.now piece value.now }
+{
+    let mut rest = Some(value);
+    while let Some(text) = rest {
+        let (word, after) = cut(b',', text);
+        rest = after;
+        if !is_piece(names, piece, word) {
+            return false;
+        }
+    }
+    true
+}
+
+/// Whether a value is a task's name and, after a colon, what its call answers.
+fn is_release(names: &Names, value: &[u8]) -> bool
+    ensures { result ≡ spec.is_release names.now (cut_at 58 value.now) }
+{
+    match cut(b':', value) {
+        (task, Some(answer)) => is_task(names, task) && answer_spot(answer).is_some(),
+        _ => false,
+    }
+}
+
+/// Whether what stands after a `=` may stand there.
 fn is_value(names: &Names, spot: Spot, value: &[u8]) -> bool
     ensures { result ≡ spec.is_value names.now spot value.now }
 {
     match spot {
-        Spot::Release => cut(b':', value).1.is_some(),
+        Spot::Release => is_release(names, value),
         Spot::Held => is_processor(names, value),
-        Spot::Run | Spot::Ready | Spot::Due => !is_number(value),
-        _ => is_number(cut(b',', value).0),
+        Spot::Ready => are_all(names, Piece::Task, value),
+        Spot::Due => are_all(names, Piece::Handler, value),
+        Spot::Requests => are_all(names, Piece::Request, value),
+        Spot::Values => are_all(names, Piece::Number, value),
+        Spot::Lost => is_number(value),
+        _ => are_digits(10, value),
+    }
+}
+
+/// Where `run=` stands with who runs: a task wherever a line says it, `idle` after an event, and `-` of a processor.
+fn run_spot(names: &Names, value: &[u8]) -> Option<Spot>
+    ensures { result ≡ spec.run_spot names.now value.now }
+{
+    if is_task(names, value) {
+        Some(Spot::Run)
+    } else if value == b"idle".as_slice() {
+        Some(Spot::RunIdle)
+    } else if value == b"-".as_slice() {
+        Some(Spot::RunNobody)
+    } else {
+        None
     }
 }
 
@@ -178,6 +271,7 @@ fn key_spot(names: &Names, key: &[u8], value: &[u8]) -> Option<Spot>
     ensures { result ≡ spec.key_spot names.now key.now value.now }
 {
     match spot_in(&KEY_SPOTS, key) {
+        Some(Spot::Run) => run_spot(names, value),
         Some(spot) if is_value(names, spot, value) => Some(spot),
         _ => None,
     }
@@ -193,13 +287,46 @@ fn ended(byte: u8, word: &[u8]) -> Option<&[u8]>
     }
 }
 
-/// Whether an argument may stand in a place of a kind: the name of an object, or a number.
+/// Whether no object of a kind has this number, so that a line has the number itself, and not a name.
+fn is_unnamed(names: &Names, kind: ObjectKind, digits: &[u8]) -> bool
+    ensures { result ≡ spec.is_unnamed names.now kind digits.now }
+{
+    match magnitude(10, digits) {
+        Some(number) => names
+            .name(NameKind::Object(kind), number as usize)
+            .is_none(),
+        None => true,
+    }
+}
+
+/// Whether a word is a number that no object of a kind has.
+fn is_stranger(names: &Names, kind: ObjectKind, word: &[u8]) -> bool
+    ensures { result ≡ spec.is_stranger names.now kind word.now }
+{
+    match following(b'-', word) {
+        Some(digits) => are_digits(10, digits),
+        None => are_digits(10, word) && is_unnamed(names, kind, word),
+    }
+}
+
+/// Whether a word may stand in a call where a task is meant: `TSK_SELF`, a name, or the number of no task. The caller is never a 0.
+fn is_task_argument(names: &Names, word: &[u8]) -> bool
+    ensures { result ≡ spec.is_first names.now (ArgumentKind.Object ObjectKind.Task) word.now }
+{
+    word == b"TSK_SELF".as_slice()
+        || is_task(names, word)
+        || (word != b"0".as_slice() && is_stranger(names, ObjectKind::Task, word))
+}
+
+/// Whether an argument may stand in a place of a kind: an object by its name where it has one, or a number.
 fn is_first(names: &Names, kind: ArgumentKind, argument: &[u8]) -> bool
     ensures { result ≡ spec.is_first names.now kind argument.now }
 {
     match kind {
-        ArgumentKind::Object(ObjectKind::Task) if argument == b"TSK_SELF".as_slice() => true,
-        ArgumentKind::Object(kind) if is_one(names, kind, argument) => true,
+        ArgumentKind::Object(ObjectKind::Task) => is_task_argument(names, argument),
+        ArgumentKind::Object(kind) => {
+            is_one(names, kind, argument) || is_stranger(names, kind, argument)
+        }
         _ => is_number(argument),
     }
 }

@@ -60,8 +60,12 @@ pub enum Spot {
     Release,
     /// ` lost=`.
     Lost,
-    /// ` run=`, after a processor too.
+    /// ` run=` and a task, after a processor too.
     Run,
+    /// ` run=idle`, where no task runs after an event.
+    RunIdle,
+    /// ` run=-`, of a processor on which no task runs.
+    RunNobody,
     /// ` ipi=`.
     Requests,
     /// ` ready=`.
@@ -87,6 +91,8 @@ pub enum Spot {
     Wakeups,
     /// What is told of an object: ` count=` and the like.
     Fact,
+    /// ` values=`.
+    Values,
     Stopped,
     /// ` held=`.
     Held,
@@ -121,12 +127,14 @@ impl Spot {
             Answer => &[Return, Called, CalledSome, CalledReported],
             Release | Lost => &[Taken, Accepted, Report, Answer, Release],
             Run => &[Processor, Taken, Accepted, Report, Answer, Release, Lost],
-            Requests => &[Taken, Accepted, Report, Answer, Release, Lost, Run],
-            Ready => &[Run],
-            Locked => &[Run, Ready],
-            Disabled => &[Run, Ready, Locked],
-            Latch => &[Run, Ready, Locked, Disabled],
-            Due => &[Run, Ready, Locked, Disabled, Latch],
+            RunIdle => &[Taken, Accepted, Report, Answer, Release, Lost],
+            RunNobody => &[Processor],
+            Requests => &[Taken, Accepted, Report, Answer, Release, Lost, Run, RunIdle],
+            Ready => &[Run, RunNobody],
+            Locked => &[Run, RunNobody, Ready],
+            Disabled => &[Run, RunNobody, Ready, Locked],
+            Latch => &[Run, RunNobody, Ready, Locked, Disabled],
+            Due => &[Run, RunNobody, Ready, Locked, Disabled, Latch],
             Suspended => &[Task],
             Waits => &[Task, Suspended],
             Sleep | WaitsFor => &[Waits],
@@ -134,7 +142,7 @@ impl Spot {
             Priority => &[Task, Suspended, Sleep, Object, Left],
             Activated => &[Task, Suspended, Sleep, Object, Left, Priority],
             Wakeups => &[Task, Suspended, Sleep, Object, Left, Priority, Activated],
-            Fact => &[Object],
+            Fact | Values => &[Object],
             Stopped => &[Handler],
             Held => &[Lock],
             _ => &[],

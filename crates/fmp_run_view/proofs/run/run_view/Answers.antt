@@ -5,11 +5,11 @@ use Rattle.fmp_run_view.specs.declared.run.PageKind.TheVariants.{Own}
 use Rattle.fmp_run_view.proofs.JudgedTexts.{shown_of_texts, late_owes, leaves_of_texts}
 use Rattle.fmp_run_view.proofs.run.run_view.Goals as goal
 
-pub returns-in_err-judged-clause-owes : goal.returns-in_err-judged-clause-owes
-returns-in_err-judged-clause-owes g c =
+pub returns-in_err-configuration-clause-owes : goal.returns-in_err-configuration-clause-owes
+returns-in_err-configuration-clause-owes g c =
     let p = err_from_is_err_and c.from_residual.result c.from_residual.ensures.1 in
     record {
-      texts = rw (p.1, p.2) c.in_err-judged.ensures.texts;
+      texts = rw (p.1, p.2) c.in_err-configuration.ensures.texts;
       reads = search rules;
       sink = search rules;
     }
@@ -26,7 +26,7 @@ returns-in_err-show_judged-clause-owes g c =
 pub returns-clause-owes : goal.returns-clause-owes
 returns-clause-owes g c =
     record {
-      texts = c.in_ok-judged.ensures.texts;
+      texts = c.in_ok-configuration.ensures.texts;
       reads = search rules;
       sink = search rules;
     }
@@ -34,25 +34,27 @@ returns-clause-owes g c =
 pub returns-in_err-show_judged-clause-writes : goal.returns-in_err-show_judged-clause-writes
 returns-in_err-show_judged-clause-writes g c =
     let p = err_from_is_err_and c.from_residual-in_err-show_judged.result c.from_residual-in_err-show_judged.ensures.1 in
-    let judged = c.in_ok-judged.judged in
+    let read = c.in_ok-configuration in
+    let judged = read.judged in
     record {
       shown = search rules;
       passed = search rules;
       all_passed = search rules;
       same = search rules;
       leaves = λ tells tells_too tell.
-          rw (p.1, p.2) (leaves_of_texts _ _ _ _ judged.text.items judged.config (c.in_ok-judged.ensures.says tells) (c.in_ok-judged.ensures.text tells_too) c.args.kind _ (c.in_err-show_judged.ensures.leaves tell));
+          rw (p.1, p.2) (leaves_of_texts _ _ _ _ judged.text.items read.configuration (read.ensures.says tells) (read.ensures.made tells_too).whole c.args.kind _ (c.in_err-show_judged.ensures.leaves tell));
     }
 
 pub returns-clause-writes : goal.returns-clause-writes
 returns-clause-writes g c =
-    let judged = c.in_ok-judged.judged in
+    let read = c.in_ok-configuration in
+    let judged = read.judged in
     record {
       shown = λ tells tells_too tell.
-          shown_of_texts _ _ _ _ judged.text.items judged.config (c.in_ok-judged.ensures.says tells) (c.in_ok-judged.ensures.text tells_too) c.args.kind judged.verdict c.in_ok-judged.ensures.judged (c.in_ok-show_judged.ensures.shown tell);
+          shown_of_texts _ _ _ _ judged.text.items read.configuration (read.ensures.says tells) (read.ensures.made tells_too).whole c.args.kind judged.verdict read.ensures.keeps (c.in_ok-show_judged.ensures.shown tell);
       passed = search rules;
       all_passed = search rules;
       same = λ tells tells_too tell yes.
-          shown_of_texts _ _ _ _ judged.text.items judged.config (c.in_ok-judged.ensures.says tells) (c.in_ok-judged.ensures.text tells_too) Own Yes (rw yes at c.in_ok-judged.ensures.judged) (c.in_ok-show_judged.ensures.same tell yes);
+          shown_of_texts _ _ _ _ judged.text.items read.configuration (read.ensures.says tells) (read.ensures.made tells_too).whole Own Yes (rw yes at read.ensures.keeps) (c.in_ok-show_judged.ensures.same tell yes);
       leaves = search rules;
     }

@@ -10,7 +10,7 @@ use Rattle.fmp_run_view.proofs.run.show_judged.Goals as goal
 pub returns-in-Own-Yes-clause-leaves : goal.returns-in-Own-Yes-clause-leaves
 returns-in-Own-Yes-clause-leaves g c = λ known.
     let judged = c.requires.judged in
-    let config = c.args.judged.now.config in
+    let config = c.args.config.now in
     let text = c.args.judged.now.text.items in
     let events = events_of judged.records in
     let old = bytes_of (g.W.Sink.written c.args.page.now) in
@@ -26,7 +26,7 @@ returns-in-Own-Yes-clause-leaves g c = λ known.
 pub returns-in_ok-found-in-Differences-default-clause-leaves : goal.returns-in_ok-found-in-Differences-default-clause-leaves
 returns-in_ok-found-in-Differences-default-clause-leaves g c = λ known.
     let judged = c.requires.judged in
-    let config = c.args.judged.now.config in
+    let config = c.args.config.now in
     let text = c.args.judged.now.text.items in
     let prints = subst (λ (xs : List ℕ). PrintsWithin config.names xs judged.records) (sym c.as_slice-text.ensures.value) judged.prints in
     let own = c.as_slice-own.ensures.value ∙ c.in_ok-found-in-Differences-default.ensures.own judged.records prints in
