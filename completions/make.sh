@@ -56,7 +56,8 @@ for_fish() {
         [ "$command" = help ] || while IFS=$'\t' read -r option value about; do
             case $value in
                 -) value= ;;
-                TRACE | DIR) value=' -r' ;;
+                TRACE | FILE | DIR) value=' -r' ;;
+                WHEN) value=" -x -a 'auto always never'" ;;
                 *) value=' -x' ;;
             esac
             echo "complete -c fmpsim -n '__fish_seen_subcommand_from $command' -l $option$value -d '$about'"
@@ -83,7 +84,7 @@ for_zsh() {
         [ "$command" = help ] && continue
         echo "        words,$command)"
         echo '            _arguments \'
-        options "$command" | quoted | sed -E "s/^([a-z]+)\t-\t(.*)$/                '--\1[\2]' \\\\/; s/^([a-z]+)\tTRACE\t(.*)$/                '--\1=[\2]:TRACE:_files' \\\\/; s/^([a-z]+)\tDIR\t(.*)$/                '--\1=[\2]:DIR:_files -\\/' \\\\/; s/^([a-z]+)\t([A-Z]+)\t(.*)$/                '--\1=[\3]:\2:' \\\\/"
+        options "$command" | quoted | sed -E "s/^([a-z]+)\t-\t(.*)$/                '--\1[\2]' \\\\/; s/^([a-z]+)\t(TRACE|FILE)\t(.*)$/                '--\1=[\3]:\2:_files' \\\\/; s/^([a-z]+)\tWHEN\t(.*)$/                '--\1=[\2]:WHEN:(auto always never)' \\\\/; s/^([a-z]+)\tDIR\t(.*)$/                '--\1=[\2]:DIR:_files -\\/' \\\\/; s/^([a-z]+)\t([A-Z]+)\t(.*)$/                '--\1=[\3]:\2:' \\\\/"
         echo "                '--diagnostics=[$(about_diagnostics | quoted)]:FORM:(plain gcc)' \\"
         if [ "$command" = list ]; then
             echo "                '1:name:{ compadd -- \${(f)\"\$(fmpsim list 2> /dev/null | grep -owE \"^([a-z][a-z0-9_]*|[A-Z][A-Z0-9_]*)\")\"}; _files }' ;;"

@@ -12,6 +12,12 @@ completions() {
     [ "$(completed calls --)" = "$(long_options calls && echo --diagnostics=gcc)" ] && [ "$(completed smp --t)" = $'--ticks\n--turns' ] \
         && [ "$(completed list twai_s)" = twai_sem ] && [ "$(completed l)" = list ] && [ -z "$(completed calls x)" ] && [ -z "$(completed list Ser)" ] && right=yes
     count "$right" '<Tab>'
+    # a value that is a file or a folder is completed as one, and one of a few words by these
+    right=yes
+    grep -E ":(FILE|TRACE|DIR|WHEN):'" "$top/completions/_fmpsim" && right=no
+    grep -E -- '-l (from|layer|questions|junit|traces) -x' "$top/completions/fmpsim.fish" && right=no
+    [ "$(grep -c -- "-l color -x -a 'auto always never'" "$top/completions/fmpsim.fish")" = 2 ] || right=no
+    count "$right" '<Tab>' '# after an option with a value'
     for command in $(sed -nE "s/.* words='(.*) help --help --version'.*/\1/p" "$top/completions/fmpsim.bash"); do
         same=no
         diff "$(long_options "$command" | grep -vx -e --help | as_file)" \

@@ -193,6 +193,11 @@ log_to_events() {
     "$tool" "${words[@]}" > made 2> told && cmp made "$story/events.txt" &&
         "$tool" "${words[@]}" --trace > made 2> told && cmp made "$story/partial.txt" && well=yes
     count "$well" '#' tools/from-log "${words[@]}"
+    # either text may come from standard input, as `-`
+    well=no
+    "$tool" "$story/machine.cfg" - "${words[@]:2}" < "$story/kernel.log" | cmp - "$story/events.txt" &&
+        "$tool" - "${words[@]:1}" < "$story/machine.cfg" | cmp - "$story/events.txt" && well=yes
+    count "$well" '#' tools/from-log -
     run 0 yes /dev/null check --partial "$story/machine.cfg" "$story/partial.txt"
     run 0 "$story/left-ahead.txt" /dev/null shrink "$story/machine.cfg" "$story/events.txt" --find 'twai_sem(DONE, 2) E_OK'
     run 0 "$story/left-timeout.txt" /dev/null shrink "$story/machine.cfg" "$story/events.txt" --find 'rel=WORKER:E_TMOUT'
@@ -231,6 +236,7 @@ log_command_lines() {
 	x.cfg x.log --tick one
 	x.cfg x.log --tick 1 --ipi 1
 	x.cfg x.log --all
+	- -
 	END
     refuses 3 'nowhere: cannot be read: No such file or directory' nowhere x.log
     refuses 3 'nowhere: cannot be read: No such file or directory' "$logs/machine.cfg" nowhere
