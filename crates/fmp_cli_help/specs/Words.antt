@@ -10,6 +10,7 @@ use Rattle.fmp_cli_help.specs.declared.words.TraceWord.TheVariants as trace
 use Rattle.fmp_cli_help.specs.declared.words.SetupWord.{SetupWord}
 use Rattle.fmp_cli_help.specs.declared.words.SetupWord.TheVariants as setup
 use Rattle.fmp_cli_help.specs.declared.words.TheConstants.{WORDS}
+use Rattle.fmp_cli_help.specs.States.{state_text, state_meaning}
 
 -- an answer
 abbrev pub answer_text : AnswerWord → List ℕ
@@ -62,6 +63,7 @@ setup_text setup.OneBit = codes "TWF_ORW"
 abbrev pub text_of : Word → List ℕ
 text_of (word.Answer w) = answer_text w
 text_of (word.Trace w) = trace_text w
+text_of (word.State w) = state_text w
 text_of (word.Setup w) = setup_text w
 
 -- what an answer means
@@ -82,7 +84,7 @@ answer_meaning answer.Gone = codes "The caller has ended."
 -- what a word of a trace or an event means
 abbrev pub trace_meaning : TraceWord → List ℕ
 trace_meaning trace.Idle = codes "No task and no handler runs on the processor, so that no call can be made there. `run=idle`: no task runs there now."
-trace_meaning trace.Held = codes "The tick or interrupt was not taken, since the processor is held there: it has to be given again."
+trace_meaning trace.Held = codes "The tick or interrupt was not taken, since the processor is held there: it has to be given again. `held=P1` in a state: P1 holds the spin lock."
 trace_meaning trace.Taken = codes "The tick or interrupt was taken."
 trace_meaning trace.Nothing = codes "There was no request for the interrupt, or the tick counts for nothing."
 trace_meaning trace.Release = codes "`rel=T2:E_OK` in a trace: the event ended the wait of T2, whose call answers E_OK."
@@ -115,6 +117,7 @@ setup_meaning setup.OneBit = codes "A mode: one bit of the pattern has to be set
 abbrev pub meaning_of : Word → List ℕ
 meaning_of (word.Answer w) = answer_meaning w
 meaning_of (word.Trace w) = trace_meaning w
+meaning_of (word.State w) = state_meaning w
 meaning_of (word.Setup w) = setup_meaning w
 
 -- the word with this text

@@ -18,6 +18,7 @@ mod listing;
 mod near;
 mod projects;
 mod statements;
+mod states;
 mod words;
 
 pub use calls::{put_argument, put_call};

@@ -3,6 +3,7 @@ ghost use Rattle.std.specs.Prelude.{◌≡◌, ◌++◌, IfOk, OnOk};
 ghost use Rattle.fmp_cli_help.specs.Adding.{Adds};
 ghost use Rattle.fmp_cli_help.specs.Words as spec;
 
+use crate::states::{StateWord, state_meaning, state_text};
 use std::alloc::AllocError;
 
 /// What a service call answers.
@@ -103,12 +104,14 @@ pub enum Word {
     Answer(AnswerWord),
     /// Of traces and events.
     Trace(TraceWord),
+    /// Of states and questions.
+    State(StateWord),
     /// Of configurations and arguments.
     Setup(SetupWord),
 }
 
 /// All of them, in the order in which they are looked through.
-pub const WORDS: [Word; 38] = [
+pub const WORDS: [Word; 56] = [
     Word::Answer(AnswerWord::Accepted),
     Word::Answer(AnswerWord::ParameterError),
     Word::Answer(AnswerWord::IdError),
@@ -131,6 +134,24 @@ pub const WORDS: [Word; 38] = [
     Word::Trace(TraceWord::Interrupt),
     Word::Trace(TraceWord::Tick),
     Word::Trace(TraceWord::Latch),
+    Word::State(StateWord::Ready),
+    Word::State(StateWord::Locked),
+    Word::State(StateWord::Disabled),
+    Word::State(StateWord::Due),
+    Word::State(StateWord::Suspended),
+    Word::State(StateWord::Waits),
+    Word::State(StateWord::Left),
+    Word::State(StateWord::Priority),
+    Word::State(StateWord::Activations),
+    Word::State(StateWord::Wakeups),
+    Word::State(StateWord::Count),
+    Word::State(StateWord::Pattern),
+    Word::State(StateWord::Values),
+    Word::State(StateWord::Free),
+    Word::State(StateWord::Stopped),
+    Word::State(StateWord::End),
+    Word::State(StateWord::Refused),
+    Word::State(StateWord::NoLine),
     Word::Setup(SetupWord::NoAttribute),
     Word::Setup(SetupWord::Activated),
     Word::Setup(SetupWord::Started),
@@ -218,6 +239,7 @@ fn text_of(word: Word) -> &'static [u8]
     match word {
         Word::Answer(word) => answer_text(word),
         Word::Trace(word) => trace_text(word),
+        Word::State(word) => state_text(word),
         Word::Setup(word) => setup_text(word),
     }
 }
@@ -257,7 +279,7 @@ fn trace_meaning(word: TraceWord) -> &'static [u8]
         TraceWord::Idle =>
             b"No task and no handler runs on the processor, so that no call can be made there. `run=idle`: no task runs there now.",
         TraceWord::Held =>
-            b"The tick or interrupt was not taken, since the processor is held there: it has to be given again.",
+            b"The tick or interrupt was not taken, since the processor is held there: it has to be given again. `held=P1` in a state: P1 holds the spin lock.",
         TraceWord::Taken => b"The tick or interrupt was taken.",
         TraceWord::Nothing =>
             b"There was no request for the interrupt, or the tick counts for nothing.",
@@ -308,6 +330,7 @@ fn meaning_of(word: Word) -> &'static [u8]
     match word {
         Word::Answer(word) => answer_meaning(word),
         Word::Trace(word) => trace_meaning(word),
+        Word::State(word) => state_meaning(word),
         Word::Setup(word) => setup_meaning(word),
     }
 }
