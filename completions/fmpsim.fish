@@ -62,5 +62,5 @@ complete -c fmpsim -n __fish_use_subcommand -f -a list -d 'Lists the calls, stat
 complete -c fmpsim -n '__fish_seen_subcommand_from list' -l context -d 'Shows below a fault its line, its place and what is expected there; at a terminal by itself, unless there is --no-context'
 complete -c fmpsim -n '__fish_seen_subcommand_from list' -l help -d 'Print help'
 complete -c fmpsim -n __fish_use_subcommand -f -a help -d 'Print this message or the help of the given subcommand(s)'
-complete -c fmpsim -l diagnostics -x -a 'plain gcc' -d 'How each command tells faults, plain or gcc, by which editors jump to the place'
+complete -c fmpsim -l diagnostics -x -a 'plain gcc' -d 'How each command reports faults, plain or gcc, by which editors jump to the place'
 complete -c fmpsim -n '__fish_seen_subcommand_from list' -a "(fmpsim list | string match -r '^(?:[a-z][a-z0-9_]*|[A-Z][A-Z0-9_]*)\b')"

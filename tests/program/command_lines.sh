@@ -135,6 +135,6 @@ numbers_expected() {
 near_option() {
     local near=no
     play -v
-    [ $? = 2 ] && [ "$(tail -n 1 errors)" = '  near: -V, which tells the version' ] && [ ! -s output ] && near=yes
+    [ $? = 2 ] && [ "$(tail -n 1 errors)" = '  near: -V, which prints the version' ] && [ ! -s output ] && near=yes
     count "$near" -v
 }

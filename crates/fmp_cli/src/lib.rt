@@ -456,7 +456,7 @@ fn diagnostics<'a>(alloc: Global) -> Arg<'a> {
         .long("diagnostics")
         .value_name("FORM")
         .action(ArgAction::Set)
-        .help("How each command tells faults, plain or gcc, by which editors jump to the place")
+        .help("How each command reports faults, plain or gcc, by which editors jump to the place")
 }
 
 /// The command of a subcommand, for its help and for what is wrong in it.

@@ -22,14 +22,14 @@ text_kinds =
 
 -- what to do about a fault of a configuration
 abbrev pub config_advice : ConfigKind → List ℕ
-config_advice config.Syntax = codes "Compare the statement with its form, which `fmpsim list` tells of its name. The word is the token that does not fit."
+config_advice config.Syntax = codes "Compare the statement with its form, which `fmpsim list` shows for its name. The word is the token that does not fit."
 config_advice config.CutShort = codes "Close the comment, string, statement or class that begins in this line."
 config_advice config.Unsupported = codes "Leave this statement out: `fmpsim list` has those that are read."
 config_advice config.OutsideClass = codes "Put the statement into a `CLASS(..) { .. }`."
 config_advice config.UnknownClass = codes "Define the class before it is used: `DEF_CLASS(name, 1, {1, 2});`."
 config_advice config.NameTaken = codes "Choose another name: all classes, objects and defined names share one name space, and some words are reserved."
-config_advice config.OutOfRange = codes "Give a number within the range that `fmpsim list` tells, without leading zeros, or a name defined before."
-config_advice config.BadAttribute = codes "Give one of the attributes that `fmpsim list` tells for this statement."
+config_advice config.OutOfRange = codes "Give a number within the range that `fmpsim list` shows, without leading zeros, or a name defined before."
+config_advice config.BadAttribute = codes "Give one of the attributes that `fmpsim list` shows for this statement."
 config_advice config.TooMany = codes "There may be 64 tasks, 32 classes, 32 objects of each other kind, 1024 defined names, 1048576 bytes, and one of each other statement."
 config_advice config.NoProcessors = codes "Begin with `PROCESSORS(n);`."
 config_advice config.BadClass = codes "Name only processors of the machine in the class, the initial one among them."

@@ -68,16 +68,16 @@ text_of (word.Setup w) = setup_text w
 
 -- what an answer means
 abbrev pub answer_meaning : AnswerWord → List ℕ
-answer_meaning answer.Accepted = codes "The call was accepted. Where it answers a value, that stands behind `:`."
+answer_meaning answer.Accepted = codes "The call was accepted. Where it returns a value, that stands after `:`."
 answer_meaning answer.ParameterError = codes "An argument is out of its range."
 answer_meaning answer.IdError = codes "An argument names no task, object or processor."
 answer_meaning answer.ContextError = codes "The call is not for a task or not for a handler, not for the CPU-locked state, or not while dispatching is held."
-answer_meaning answer.IllegalUse = codes "The call is used as its rule forbids: `fmpsim list` tells it of each call."
+answer_meaning answer.IllegalUse = codes "The call is used as its rule forbids: `fmpsim list` shows the rule of each call."
 answer_meaning answer.ObjectStateError = codes "The task or object is in a state in which the call cannot be made."
 answer_meaning answer.QueueOverflow = codes "What is counted is as high as may be: activations, wakeups, a semaphore, or a task is suspended already."
 answer_meaning answer.WaitReleased = codes "The wait was ended by `rel_wai` or `irel_wai`."
 answer_meaning answer.TimedOut = codes "The time of the wait is over, or what was asked for without a wait is not to be had."
-answer_meaning answer.Wait = codes "The caller waits. A later line ends the wait, and tells the answer behind `rel=`."
+answer_meaning answer.Wait = codes "The caller waits. A later line ends the wait, and has the answer after `rel=`."
 answer_meaning answer.Spin = codes "The spin lock is held. Nothing changed, and the caller tries again."
 answer_meaning answer.Gone = codes "The caller has ended."
 

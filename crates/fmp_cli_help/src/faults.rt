@@ -44,7 +44,7 @@ fn config_advice(kind: ConfigKind) -> &'static [u8]
 {
     match kind {
         ConfigKind::Syntax =>
-            b"Compare the statement with its form, which `fmpsim list` tells of its name. The word is the token that does not fit.",
+            b"Compare the statement with its form, which `fmpsim list` shows for its name. The word is the token that does not fit.",
         ConfigKind::CutShort =>
             b"Close the comment, string, statement or class that begins in this line.",
         ConfigKind::Unsupported =>
@@ -55,9 +55,9 @@ fn config_advice(kind: ConfigKind) -> &'static [u8]
         ConfigKind::NameTaken =>
             b"Choose another name: all classes, objects and defined names share one name space, and some words are reserved.",
         ConfigKind::OutOfRange =>
-            b"Give a number within the range that `fmpsim list` tells, without leading zeros, or a name defined before.",
+            b"Give a number within the range that `fmpsim list` shows, without leading zeros, or a name defined before.",
         ConfigKind::BadAttribute =>
-            b"Give one of the attributes that `fmpsim list` tells for this statement.",
+            b"Give one of the attributes that `fmpsim list` shows for this statement.",
         ConfigKind::TooMany =>
             b"There may be 64 tasks, 32 classes, 32 objects of each other kind, 1024 defined names, 1048576 bytes, and one of each other statement.",
         ConfigKind::NoProcessors => b"Begin with `PROCESSORS(n);`.",

@@ -250,13 +250,13 @@ fn answer_meaning(word: AnswerWord) -> &'static [u8]
 {
     match word {
         AnswerWord::Accepted =>
-            b"The call was accepted. Where it answers a value, that stands behind `:`.",
+            b"The call was accepted. Where it returns a value, that stands after `:`.",
         AnswerWord::ParameterError => b"An argument is out of its range.",
         AnswerWord::IdError => b"An argument names no task, object or processor.",
         AnswerWord::ContextError =>
             b"The call is not for a task or not for a handler, not for the CPU-locked state, or not while dispatching is held.",
         AnswerWord::IllegalUse =>
-            b"The call is used as its rule forbids: `fmpsim list` tells it of each call.",
+            b"The call is used as its rule forbids: `fmpsim list` shows the rule of each call.",
         AnswerWord::ObjectStateError =>
             b"The task or object is in a state in which the call cannot be made.",
         AnswerWord::QueueOverflow =>
@@ -265,7 +265,7 @@ fn answer_meaning(word: AnswerWord) -> &'static [u8]
         AnswerWord::TimedOut =>
             b"The time of the wait is over, or what was asked for without a wait is not to be had.",
         AnswerWord::Wait =>
-            b"The caller waits. A later line ends the wait, and tells the answer behind `rel=`.",
+            b"The caller waits. A later line ends the wait, and has the answer after `rel=`.",
         AnswerWord::Spin => b"The spin lock is held. Nothing changed, and the caller tries again.",
         AnswerWord::Gone => b"The caller has ended.",
     }

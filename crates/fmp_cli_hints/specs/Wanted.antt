@@ -39,13 +39,13 @@ words wants.NoSum = codes "a number or a name: nothing is computed, so that `1 <
 words wants.NoAddress = codes "a number or a name without a `&`: what a call gives back stands in its answer\n"
 words wants.Runner = codes "who runs there: the name of a task or a handler, or `-`\n"
 words wants.Answer =
-    codes "a blank and the answer: a code, as `E_OK`, and a value behind `:` where it has one; or `wait`, `spin`, `gone`, `idle`, `held`, `taken` or `none`\n"
+    codes "a blank and the answer: a code, as `E_OK`, and a value after `:` where it has one; or `wait`, `spin`, `gone`, `idle`, `held`, `taken` or `none`\n"
 words wants.Tail =
     codes "the end of the line, or in this order ` rel=<task>:<code>[:<value>]`.., ` lost=<value>`, ` run=<task>` or ` run=idle`, ` ipi=<p>[,<p>]..`\n"
 words wants.PrintedByte = codes "printed ASCII, from the blank to `~`\n"
 words wants.NoReturn = codes "a line feed without a carriage return before it\n"
 words wants.PartialLine =
-    codes "`[<n> ]P<p> [<runner> ]<event> <answer>` and fields behind it, each as a trace has it, and the line's own number\n"
+    codes "`[<n> ]P<p> [<runner> ]<event> <answer>` and fields after it, each as a trace has it, and the line's own number\n"
 words wanted = script_words wanted
 
 -- the machine's processors

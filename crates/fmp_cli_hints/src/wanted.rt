@@ -130,7 +130,7 @@ fn words(wanted: Wanted) -> &'static [u8]
             b"a number or a name without a `&`: what a call gives back stands in its answer\n",
         Wanted::Runner => b"who runs there: the name of a task or a handler, or `-`\n",
         Wanted::Answer => {
-            b"a blank and the answer: a code, as `E_OK`, and a value behind `:` where it has one; or `wait`, `spin`, `gone`, `idle`, `held`, `taken` or `none`\n"
+            b"a blank and the answer: a code, as `E_OK`, and a value after `:` where it has one; or `wait`, `spin`, `gone`, `idle`, `held`, `taken` or `none`\n"
         }
         Wanted::Tail => {
             b"the end of the line, or in this order ` rel=<task>:<code>[:<value>]`.., ` lost=<value>`, ` run=<task>` or ` run=idle`, ` ipi=<p>[,<p>]..`\n"
@@ -138,7 +138,7 @@ fn words(wanted: Wanted) -> &'static [u8]
         Wanted::PrintedByte => b"printed ASCII, from the blank to `~`\n",
         Wanted::NoReturn => b"a line feed without a carriage return before it\n",
         Wanted::PartialLine => {
-            b"`[<n> ]P<p> [<runner> ]<event> <answer>` and fields behind it, each as a trace has it, and the line's own number\n"
+            b"`[<n> ]P<p> [<runner> ]<event> <answer>` and fields after it, each as a trace has it, and the line's own number\n"
         }
         _ => script_words(wanted),
     }

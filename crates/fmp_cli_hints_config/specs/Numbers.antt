@@ -35,7 +35,7 @@ abbrev pub defined_line : List ℕ → List ℕ → Option ℕ
 defined_line text word = defined_from word Outside None (lexed_text text).lexemes
 
 unfoldable pub defined_words : List ℕ
-defined_words = codes ": the name stands for a number where that is all that follows it, in digits or behind 0x: no sign, parentheses, suffix or sum.\n"
+defined_words = codes ": the name stands for a number where that is all that follows it, in digits or after 0x: no sign, parentheses, suffix or sum.\n"
 
 -- what is told of a name, with the line of its `#define` if it has one
 abbrev pub report_name : Option ℕ → List ℕ
@@ -45,7 +45,7 @@ report_name (Some line) = codes "  `#define` in line " ++ decimal line ++ define
 -- what is told of digits
 abbrev pub report_digits : Bool → List ℕ
 report_digits true = []
-report_digits false = codes "  A number is written in digits, without a leading zero, or behind 0x, and has no suffix.\n"
+report_digits false = codes "  A number is written in digits, without a leading zero, or after 0x, and has no suffix.\n"
 
 unfoldable pub report_word : List ℕ → List ℕ → List ℕ
 report_word text word = if is_identifier word then report_name (defined_line text word) else report_digits (is_some (numeral word))

@@ -63,7 +63,7 @@ pub(crate) fn defined_line(text: &[u8], word: &[u8]) -> Option<u32>
 fn defined_words() -> &'static [u8]
     ensures { result.now ≡ spec.defined_words }
 {
-    b": the name stands for a number where that is all that follows it, in digits or behind 0x: no sign, parentheses, suffix or sum.\n"
+    b": the name stands for a number where that is all that follows it, in digits or after 0x: no sign, parentheses, suffix or sum.\n"
 }
 
 /// Adds what is told of a name, with the line of its `#define` if it has one.
@@ -89,7 +89,7 @@ fn put_digits(out: &mut Vec<u8>, is_number: bool) -> Result<(), AllocError>
         return Ok(());
     }
     out.extend_from_slice(
-        b"  A number is written in digits, without a leading zero, or behind 0x, and has no suffix.\n",
+        b"  A number is written in digits, without a leading zero, or after 0x, and has no suffix.\n",
     )
 }
 

@@ -7,10 +7,10 @@ use Rattle.fmp_cli_hints_question.specs.declared.rows.TheConstants.{LINE_ROWS}
 
 -- what is told of the name of a call without its arguments
 unfoldable pub call_words : List ℕ → List ℕ
-call_words word = codes "  A call has its arguments behind it: write `" ++ word ++ codes "(*)`.\n"
+call_words word = codes "  A call has its arguments after it: write `" ++ word ++ codes "(*)`.\n"
 
 unfoldable pub comma_words : List ℕ
-comma_words = codes "  A blank stands behind each comma, as in `snd_dtq(D1, 1)`.\n"
+comma_words = codes "  A blank stands after each comma, as in `snd_dtq(D1, 1)`.\n"
 
 unfoldable pub star_words : List ℕ
 star_words = codes "  `*` stands for the words between, as in `P1 * tick taken`.\n"

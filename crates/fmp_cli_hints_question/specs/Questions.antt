@@ -20,7 +20,7 @@ words question.BadForm =
 words question.UnknownName =
     codes "a name of the configuration, a processor, a call, a code, a word of a trace or of a state, or a `*` in the word\n"
 words question.TooLong = codes "at most 255 steps, and at most 1024 bytes in a pattern\n"
-words question.NoLine = codes "a word that stands behind those before it in some line of a trace or of a state, or a `*` for the words between\n"
+words question.NoLine = codes "a word that comes after those before it in some line of a trace or of a state, or a `*` for the words between\n"
 
 -- the number of a fault, and its words after it
 abbrev pub code_of : QuestionFault → List ℕ

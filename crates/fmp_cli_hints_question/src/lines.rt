@@ -13,7 +13,7 @@ use std::alloc::AllocError;
 fn put_call_words(out: &mut Vec<u8>, word: &[u8]) -> Result<(), AllocError>
     ensures { OnOk result (out.new.items ≡ out.old.items ++ spec.call_words word.now) }
 {
-    out.extend_from_slice(b"  A call has its arguments behind it: write `")?;
+    out.extend_from_slice(b"  A call has its arguments after it: write `")?;
     out.extend_from_slice(word)?;
     out.extend_from_slice(b"(*)`.\n")
 }
@@ -23,7 +23,7 @@ fn put_call_words(out: &mut Vec<u8>, word: &[u8]) -> Result<(), AllocError>
 fn comma_words() -> &'static [u8]
     ensures { result.now ≡ spec.comma_words }
 {
-    b"  A blank stands behind each comma, as in `snd_dtq(D1, 1)`.\n"
+    b"  A blank stands after each comma, as in `snd_dtq(D1, 1)`.\n"
 }
 
 /// What is told of any word.

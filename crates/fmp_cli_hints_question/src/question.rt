@@ -24,7 +24,7 @@ fn wanted_at(fault: QuestionFault) -> &'static [u8]
         }
         QuestionFault::TooLong => b"at most 255 steps, and at most 1024 bytes in a pattern\n",
         QuestionFault::NoLine => {
-            b"a word that stands behind those before it in some line of a trace or of a state, or a `*` for the words between\n"
+            b"a word that comes after those before it in some line of a trace or of a state, or a `*` for the words between\n"
         }
     }
 }

@@ -54,7 +54,7 @@ pub const LINE_ROWS: [(&[u8], &[u8]); 17] = [
     ),
     (
         b"E_OK",
-        b"  A call stands before it, and behind it the value that the call tells, as in `get_pid() E_OK:1`: write `get_pid() E_OK*`.\n",
+        b"  A call stands before it, and after it the value that the call returns, as in `get_pid() E_OK:1`: write `get_pid() E_OK*`.\n",
     ),
     (b"wait", CALL),
     (b"spin", CALL),
@@ -65,16 +65,16 @@ pub const LINE_ROWS: [(&[u8], &[u8]); 17] = [
     (b"latch", PROCESSOR),
     (
         b"ready",
-        b"  The names stand behind a `=`, as in `P1 run=T1 ready=T2,T3`: write `P1 * ready=*T2*`.\n",
+        b"  The names stand after a `=`, as in `P1 run=T1 ready=T2,T3`: write `P1 * ready=*T2*`.\n",
     ),
-    (b"run", b"  The name stands behind a `=`: write `run=T1`.\n"),
+    (b"run", b"  The name stands after a `=`: write `run=T1`.\n"),
     (
         b"due",
-        b"  The names stand behind a `=`, as in `P1 run=T1 due=A1`: write `P1 * due=*A1*`.\n",
+        b"  The names stand after a `=`, as in `P1 run=T1 due=A1`: write `P1 * due=*A1*`.\n",
     ),
     (
         b"rel",
-        b"  The name and the code stand behind a `=`: write `rel=T1:E_OK`.\n",
+        b"  The name and the code stand after a `=`: write `rel=T1:E_OK`.\n",
     ),
 ];
 

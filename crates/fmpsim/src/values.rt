@@ -84,6 +84,6 @@ pub fn refused_number<'a>(words: &'a [String], error: &clap::Error) -> Option<Wr
 /// Tells the option that is near where the words ask for one that is not there: `-V` in place of `-v`.
 pub fn tell_near_option<R: Eprint>(rt: &R, words: &[String]) {
     if words.iter().any(|word| word.as_str() == "-v") {
-        let _ = eprintln!(rt; "  near: -V, which tells the version");
+        let _ = eprintln!(rt; "  near: -V, which prints the version");
     }
 }
