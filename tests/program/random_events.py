@@ -1,6 +1,6 @@
 """random_events.py PROGRAM SEED PROCESSORS MASTER: random events on a machine with so many processors, whose time is that of the processor
 MASTER, or of each where this is 0. `calls` plays them on the kernel and `check` on the plain machine: these answer alike. After every
-fifth event `check --show` tells the state that `calls --state` tells: both tell the kernel's. Who keeps what `calls --changes` tells has each of these states.
+fifth event `check --show` tells of the plain machine the state that `calls --state` tells of the kernel. Who keeps what `calls --changes` tells has each of these states.
 Prints how many calls were accepted."""
 import subprocess
 import sys

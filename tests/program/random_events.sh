@@ -1,5 +1,5 @@
 # Events that look random, the same in every run, over 1 to 8 processors: `calls` plays them on the kernel and `check` on the plain
-# machine, which answer alike. `check --show` tells the kernel's state as `calls --state` does, and `calls --changes` what leads from one to the next.
+# machine, which answer alike. `check --show` tells the plain machine's state as `calls --state` does the kernel's, and `calls --changes` what leads from one to the next.
 
 random_events() {
     local seeds=(1 2 3 5 8 13 21 34 55 89) accepted=0 well=no at words
