@@ -17,7 +17,7 @@ options() {
 
 # what the option of all commands is about
 about_diagnostics() {
-    "$program" --help | sed -nE 's/^ +--diagnostics <FORM> +(.*)$/\1/p'
+    "$program" --help | sed -nE 's/^ +--diagnostics=<FORM> +(.*)$/\1/p'
 }
 
 # as it stands between single quotes, in each of these shells

@@ -455,6 +455,7 @@ fn diagnostics<'a>(alloc: Global) -> Arg<'a> {
     Arg::new(alloc, "diagnostics")
         .long("diagnostics")
         .value_name("FORM")
+        .require_equals(true)
         .action(ArgAction::Set)
         .help("How each command reports faults, plain or gcc, by which editors jump to the place")
 }
