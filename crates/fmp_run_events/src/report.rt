@@ -41,6 +41,7 @@ fn with_state(
 }
 
 /// Compares a trace with what the machine answers to its events.
+#[derive(Drop)]
 struct Comparer {
     shown: Shown,
 }
