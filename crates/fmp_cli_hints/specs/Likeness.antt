@@ -48,10 +48,10 @@ looks_like line = if is_some (after_mark line) then Some Marked else likeness_by
 abbrev pub report : Likeness → List ℕ
 report Marked = codes "  A byte order mark stands before the line: save the text without it.\n"
 report Configuration = codes "  This looks like a configuration, which is the first of the two texts.\n"
-report Events = codes "  This looks like events, which `fmpsim calls` and `fmpsim shrink` read as the second of the two texts.\n"
+report Events = codes "  This looks like events, which `fmpsim calls` and `fmpsim shrink` read as the second text, or like a partial trace: `fmpsim check --partial`.\n"
 report Scripts = codes "  This looks like scripts, which `fmpsim smp` and `fmpsim explore` read as the second of the two texts.\n"
 report Trace = codes "  This looks like a trace, which `fmpsim check` reads as the second of the two texts. `tools/from-trace` makes events of one.\n"
-report States = codes "  This looks like a trace with states, as `fmpsim calls --state` writes it. `tools/from-trace` makes events of one.\n"
+report States = codes "  This looks like a trace with states, as of `fmpsim calls --state`: `grep -v '^ '` leaves the trace. `tools/from-trace` makes events of one.\n"
 
 -- such lines are among those of a text of this form
 abbrev pub is_own : TextForm → Likeness → Bool

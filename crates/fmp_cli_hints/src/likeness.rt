@@ -82,7 +82,7 @@ fn report(likeness: Likeness) -> &'static [u8]
             b"  This looks like a configuration, which is the first of the two texts.\n"
         }
         Likeness::Events => {
-            b"  This looks like events, which `fmpsim calls` and `fmpsim shrink` read as the second of the two texts.\n"
+            b"  This looks like events, which `fmpsim calls` and `fmpsim shrink` read as the second text, or like a partial trace: `fmpsim check --partial`.\n"
         }
         Likeness::Scripts => {
             b"  This looks like scripts, which `fmpsim smp` and `fmpsim explore` read as the second of the two texts.\n"
@@ -91,7 +91,7 @@ fn report(likeness: Likeness) -> &'static [u8]
             b"  This looks like a trace, which `fmpsim check` reads as the second of the two texts. `tools/from-trace` makes events of one.\n"
         }
         Likeness::States => {
-            b"  This looks like a trace with states, as `fmpsim calls --state` writes it. `tools/from-trace` makes events of one.\n"
+            b"  This looks like a trace with states, as of `fmpsim calls --state`: `grep -v '^ '` leaves the trace. `tools/from-trace` makes events of one.\n"
         }
     }
 }
