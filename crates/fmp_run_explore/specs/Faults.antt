@@ -31,19 +31,34 @@ as_run (Ok value) = Ok tt
 as_run (Err (Run fault)) = Err fault
 as_run (Err (Question fault place)) = Ok tt
 
--- a fault of a text, or of the question for the names of a right configuration, is its first one
+-- where the fault is one that a run without a question may have, this holds of it
+abbrev pub OfRun : (RunFault → Type 0) → ExploreFault → Type 0
+OfRun Holds (Run fault) = Holds fault
+OfRun Holds (Question fault place) = Unit {0}
+
+-- a fault of a text is its first one
 abbrev pub IsConfigFault : List ℕ → ExploreFault → Type 0
-IsConfigFault config_text (Run fault) = FirstConfigFault config_text fault
-IsConfigFault config_text (Question fault place) = Unit {0}
+IsConfigFault config_text = OfRun (FirstConfigFault config_text)
 
 abbrev pub IsScriptFault : List ℕ → List ℕ → ExploreFault → Type 0
-IsScriptFault config_text script_text (Run fault) = FirstScriptFault config_text script_text fault
-IsScriptFault config_text script_text (Question fault place) = Unit {0}
+IsScriptFault config_text script_text = OfRun (FirstScriptFault config_text script_text)
+
+-- a question was not read: it has this fault, at the byte of this number from 0, or memory ran out
+abbrev pub IsUnasked : (QuestionFault → ℕ → Type 0) → ExploreFault → Type 0
+IsUnasked IsFault (Run fault) = fault ≡ Memory
+IsUnasked IsFault (Question fault place) = IsFault fault place
+
+-- a fault of the question is as `IsFault` says, for the names of a right configuration
+abbrev pub QuestionFaultOver : (NameLists → QuestionFault → ℕ → Type 0) → List ℕ → ExploreFault → Type 0
+QuestionFaultOver IsFault config_text (Run fault) = Unit {0}
+QuestionFaultOver IsFault config_text (Question fault place) = (config : Setup) × SaysConfig config_text config × IsFault config.names fault place
+
+-- one of a question of steps is the first one of its text
+abbrev pub IsFirstOfQuestion : List ℕ → NameLists → QuestionFault → ℕ → Type 0
+IsFirstOfQuestion text names fault place = question_in names text ≡ Err (fault, place)
 
 abbrev pub IsQuestionFault : List ℕ → List ℕ → ExploreFault → Type 0
-IsQuestionFault config_text text (Run fault) = Unit {0}
-IsQuestionFault config_text text (Question fault place) =
-    (config : Setup) × SaysConfig config_text config × (question_in config.names text ≡ Err (fault, place))
+IsQuestionFault config_text text = QuestionFaultOver (IsFirstOfQuestion text) config_text
 
 -- What a run that is asked a question over a configuration and another text owes to these and to its devices, whatever it writes.
 pub record OwesSearch {T : Type 0} (IsTextFault : List ℕ → List ℕ → ExploreFault → Type 0) (IsAskedFault : List ℕ → ExploreFault → Type 0)
@@ -54,11 +69,6 @@ pub record OwesSearch {T : Type 0} (IsTextFault : List ℕ → List ℕ → Expl
   pub question_fault : IsKnown config.old.left → IfErr result (IsAskedFault (bytes_of config.old.left))
   -- no thread was started, so that none could fail
   pub no_thread_fault : IfErr (as_run result) (λ fault. is_thread_fault fault ≡ false)
-
--- a question was not read: it has this first fault for these names, or memory ran out
-abbrev pub IsNoQuestion : NameLists → List ℕ → ExploreFault → Type 0
-IsNoQuestion names text (Run fault) = fault ≡ Memory
-IsNoQuestion names text (Question fault place) = question_in names text ≡ Err (fault, place)
 
 -- the number and the words of a fault of a question
 abbrev pub words_of : QuestionFault → List ℕ

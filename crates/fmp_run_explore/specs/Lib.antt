@@ -1,5 +1,6 @@
 pub mod Explored  -- What a search through all orders says, and what is written of it.
 pub mod Faults  -- The faults of a run through all orders.
+pub mod Asked  -- What a search is given that is asked a question over a configuration and scripts.
 pub mod Views  -- The orders from which a search is to go on, as contracts see them.
 pub mod Left  -- What is left to go on from, beside what was found of all orders.
 pub mod Gone  -- How far a search through all orders went.

@@ -1,76 +1,46 @@
 //! What a search is asked, as three texts say it.
-ghost use Rattle.std.specs.Prelude.{◌≡◌, ◌-◌, ◌<◌, ◌^◌, [], Ok, OnOk, IfOk, IfErr, false};
-ghost use Rattle.fmp_text_scripts.specs.ScriptGrammar.{SpellsScripts};
-ghost use Rattle.fmp_text_scripts.specs.Scripts.{AreInBits};
-ghost use Rattle.fmp_run_devices.specs.Devices.{IsKnown, bytes_of};
-ghost use Rattle.fmp_run_texts.specs.Faults.{failed_write, is_thread_fault};
-ghost use Rattle.fmp_run_texts.specs.Texts.{CountsReads, SaysConfig};
-ghost use Rattle.fmp_search_question.specs.Reading.{question_in};
-ghost use Rattle.fmp_run_explore.specs.Faults as faults;
+ghost use Rattle.std.specs.Prelude.{◌≡◌, ◌-◌, ◌<◌, ◌^◌};
+ghost use Rattle.fmp_run_devices.specs.Ends.{source_ends};
+ghost use Rattle.fmp_run_explore.specs.Asked.{ReadsAsked};
 
+use crate::asker::Asker;
 use crate::fault::ExploreFault;
-use fmp_names::Names;
 use fmp_rules::Config;
 use fmp_run_devices::Source;
-use fmp_run_texts::{RunFault, texts_from};
-use fmp_search_pattern::Question;
-use fmp_search_question::{ReadFault, read_question};
+use fmp_run_texts::{ScriptReader, texts_from};
 use fmp_text_scripts::Scripts;
 use std::alloc::Global;
 
-/// A machine, the scripts of what runs on it, and what is looked for in their orders.
+/// A machine, the scripts of what runs on it, and what is asked of their orders.
 #[derive(Drop)]
-pub(crate) struct Asked {
-    pub(crate) config: Config,
-    pub(crate) scripts: Scripts,
-    pub(crate) question: Question,
-}
-
-/// The question of a text, or its first fault.
-pub fn question_from(alloc: Global, names: &Names, text: &[u8]) -> Result<Question, ExploreFault>
-    ensures asks { IfOk result (λ q. question_in names.now text.now ≡ Ok q) }
-    ensures fault { IfErr result (faults.IsNoQuestion names.now text.now) }
-{
-    match read_question(alloc, names, text) {
-        Ok(question) => Ok(question),
-        Err(ReadFault::Memory) => Err(ExploreFault::Run(RunFault::Memory)),
-        Err(ReadFault::Text(fault, place)) => Err(ExploreFault::Question(fault, place)),
-    }
+pub struct Asked<T> {
+    pub config: Config,
+    pub scripts: Scripts,
+    pub question: T,
 }
 
 /// Reads a configuration and scripts to their ends, and a question, and judges them. It has no writer in hand, so nothing is written before all
 /// are accepted.
-pub(crate) fn asked_from<R: Source, S: Source>(
+pub fn asked_from<Q: Asker, R: Source, S: Source>(
     alloc: Global,
+    asker: &Q,
     config: &mut R,
     scripts: &mut S,
-    question: &[u8],
-) -> Result<Asked, ExploreFault>
+) -> Result<Asked<Q::Out>, ExploreFault>
     requires config_calls { R.failures config.old < 2 ^ 64 - 1 }
     requires script_calls { S.failures scripts.old < 2 ^ 64 - 1 }
-    ensures says { IsKnown (R.left config.old) → IfOk result (λ a. SaysConfig (bytes_of (R.left config.old)) a.config) }
-    ensures spells { IsKnown (S.left scripts.old) → IfOk result (λ a. SpellsScripts a.config.names (bytes_of (S.left scripts.old)) a.scripts) }
-    ensures asks { IfOk result (λ a. question_in a.config.names question.now ≡ Ok a.question) }
-    ensures in_bits { IfOk result (λ a. AreInBits a.scripts) }
-    ensures config_read { IsKnown (R.left config.old) → OnOk result (bytes_of (R.left config.new) ≡ []) }
-    ensures scripts_read { IsKnown (S.left scripts.old) → OnOk result (bytes_of (S.left scripts.new) ≡ []) }
-    ensures config_fault { IsKnown (R.left config.old) → IfErr result (faults.IsConfigFault (bytes_of (R.left config.old))) }
-    ensures text_fault { IsKnown (R.left config.old) → IsKnown (S.left scripts.old)
-        → IfErr result (faults.IsScriptFault (bytes_of (R.left config.old)) (bytes_of (S.left scripts.old))) }
-    ensures question_fault { IsKnown (R.left config.old) → IfErr result (faults.IsQuestionFault (bytes_of (R.left config.old)) question.now) }
-    ensures reads { CountsReads (faults.as_run result) (R.failures config.old) (R.failures config.new) (S.failures scripts.old) (S.failures scripts.new) }
-    ensures no_write { failed_write (faults.as_run result) ≡ false }
-    ensures no_thread_fault { IfErr (faults.as_run result) (λ fault. is_thread_fault fault ≡ false) }
+    ensures { ReadsAsked (Q.asks asker.now) (Q.keeps asker.now) (Q.is_fault asker.now) (source_ends R.left R.failures config.old config.new)
+        (source_ends S.left S.failures scripts.old scripts.new) result }
 {
-    let (machine, list) = match texts_from(alloc, config, scripts) {
+    let (machine, list) = match texts_from(alloc, &ScriptReader, config, scripts) {
         Ok(texts) => texts,
         Err(fault) => return Err(ExploreFault::Run(fault)),
     };
-    match question_from(alloc, machine.names(), question) {
-        Ok(asked) => Ok(Asked {
+    match asker.ask(alloc, machine.names()) {
+        Ok(question) => Ok(Asked {
             config: machine,
             scripts: list,
-            question: asked,
+            question,
         }),
         Err(fault) => Err(fault),
     }

@@ -22,7 +22,7 @@ use std::marker::Model;
 /// the search was asked.
 #[derive(Drop)]
 pub struct Layer {
-    pub(crate) asked: Asked,
+    pub(crate) asked: Asked<Question>,
     pub(crate) rules: Rules,
     roots: Roots,
 }
@@ -41,7 +41,7 @@ impl Model for Layer {
 
 impl Layer {
     /// What is told along these steps, which can be made one after the other.
-    pub(crate) fn of(asked: Asked, rules: Rules, roots: Roots) -> Layer
+    pub(crate) fn of(asked: Asked<Question>, rules: Rules, roots: Roots) -> Layer
         requires made { CanBeMade (places.origin asked.config asked.scripts rules asked.question) roots }
         requires in_bits { AreInBits asked.scripts }
         ensures { result ≡ layer_of asked.config asked.scripts rules asked.question roots }

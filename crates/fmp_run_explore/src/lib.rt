@@ -6,8 +6,12 @@
 //! all, is `LeavesLayer` in `specs/Left`. How many steps come of a question that no order shows is `HasCome` in `specs/Came`, how far the search went
 //! is `IsGone` in `specs/Gone`, and which calls of the scripts are made `SaysMade` in `specs/Made`. Orders, and when one shows a question, are in
 //! `fmp_search_orders`.
+//!
+//! A search for something else in the orders of scripts asks by an [`Asker`] of its own: [`asked_from`] reads both texts and what is asked, and what
+//! it gives of them is `ReadsAsked` in `specs/Asked`.
 #![tactic(auto)]
 
+mod asker;
 mod asking;
 mod came;
 mod fault;
@@ -19,7 +23,8 @@ mod searching;
 mod telling;
 mod writing;
 
-pub use asking::question_from;
+pub use asker::{Asker, StepsAsker, question_from};
+pub use asking::{Asked, asked_from};
 pub use fault::{ExploreFault, QuestionLine};
 pub use finding::Finding;
 pub use fmp_search::{Extent, Met, Progress};

@@ -9,6 +9,7 @@ ghost use Rattle.fmp_run_explore.specs.Faults as faults;
 ghost use Rattle.fmp_run_explore.specs.Gone.{IsGone};
 ghost use Rattle.fmp_run_explore.specs.Left.{LeavesLayer};
 
+use crate::asker::StepsAsker;
 use crate::asking::asked_from;
 use crate::fault::ExploreFault;
 use crate::layer::Outcome;
@@ -62,7 +63,7 @@ pub fn run_explore<R: Source, S: Source, W: Sink, P: Progress>(
     // Less is known than was asked for, with room that is left, only where the search was ended.
     ensures ended { IfOk result (λ o. IsEndedBy (P.over progress.new) o.finding) }
 {
-    let asked = match asked_from(alloc, config, scripts, question) {
+    let asked = match asked_from(alloc, &StepsAsker { text: question }, config, scripts) {
         Ok(asked) => asked,
         Err(fault) => return Err(fault),
     };

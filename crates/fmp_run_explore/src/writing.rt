@@ -13,6 +13,7 @@ use crate::searching::found;
 use fmp_run_devices::{Sink, write_out};
 use fmp_search::Progress;
 use fmp_search_orders::Rules;
+use fmp_search_pattern::Question;
 use std::alloc::Global;
 
 /// Why what was found was not written, or nothing was found.
@@ -27,7 +28,7 @@ pub(crate) enum WriteFault {
 /// Goes through every order of what was read, and writes what is known of them. There is room for so many places besides the first.
 pub(crate) fn found_written<W: Sink, P: Progress>(
     alloc: Global,
-    asked: Asked,
+    asked: Asked<Question>,
     rules: Rules,
     output: &mut W,
     progress: &mut P,

@@ -1,8 +1,8 @@
 -- What is found of all orders that go on from one, and told.
-use Rattle.std.proofs.Common.{◌≡◌, ◌∙◌, ℕ, ◌≤◌, List, length, Ok, ap, subst, sym, arith}
+use Rattle.std.proofs.Common.{◌≡◌, ◌∙◌, ℕ, ◌≤◌, List, length, Ok, ap, sym, arith}
 use Rattle.std.proofs.lemmas.List.{length-map}
 use Rattle.fmp_codes.specs.declared.records.Record.{Record}
-use Rattle.fmp_names.specs.Names.{AreValid, NameLists}
+use Rattle.fmp_names.specs.Names.{AreValid}
 use Rattle.fmp_text_scripts.specs.ScriptGrammar.{SpellsScripts}
 use Rattle.fmp_text_scripts.specs.Scripts.{Steps, AreInBits}
 use Rattle.fmp_setup.specs.Setup.{Setup}
@@ -44,16 +44,16 @@ module _ (c : Setup) (scripts : List Steps) (rules : Rules) (question : List Ste
       }
 
 -- what was read, and what is written of it
-pub explored_from : (c : Setup) (scripts : List Steps) (config_text script_text begun_text question_text : List ℕ) (names : NameLists) (question : List Step) (rules : Rules) (turns room : ℕ)
-    (output : List ℕ) (finding : Finding) → SaysConfig config_text c → SpellsScripts c.names script_text scripts → names ≡ c.names → question_in names question_text ≡ Ok question →
+pub explored_from : (c : Setup) (scripts : List Steps) (config_text script_text begun_text question_text : List ℕ) (question : List Step) (rules : Rules) (turns room : ℕ)
+    (output : List ℕ) (finding : Finding) → SaysConfig config_text c → SpellsScripts c.names script_text scripts → question_in c.names question_text ≡ Ok question →
     IsFoundFrom c scripts rules begun_text question turns room output finding → ExploredFrom config_text script_text begun_text question_text rules turns room output finding
-explored_from c scripts config_text script_text begun_text question_text names question rules turns room output finding says spells same asks found = record {
+explored_from c scripts config_text script_text begun_text question_text question rules turns room output finding says spells asks found = record {
   config = c;
   scripts = scripts;
   question = question;
   says = says;
   spells = spells;
-  asks = subst (λ (l : NameLists). question_in l question_text ≡ Ok question) same asks;
+  asks = asks;
   begun = found.begun;
   order = found.order;
   trace = found.trace;

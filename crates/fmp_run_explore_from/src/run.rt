@@ -12,8 +12,8 @@ use crate::begun::BegunFault;
 use crate::fault::FromFault;
 use crate::searching::found_from;
 use fmp_run_devices::{Sink, Source, write_out};
-use fmp_run_explore::{ExploreFault, Finding, question_from};
-use fmp_run_texts::{RunFault, texts_from};
+use fmp_run_explore::{ExploreFault, Finding, StepsAsker, asked_from};
+use fmp_run_texts::RunFault;
 use fmp_search::Progress;
 use fmp_search_orders::Rules;
 use fmp_text::MOST_BYTES;
@@ -67,21 +67,17 @@ pub fn run_explore_from<R: Source, S: Source, W: Sink, P: Progress>(
     if begun.len() > MOST_BYTES {
         return Err(FromFault::Long);
     }
-    let (machine, list) = match texts_from(alloc, config, scripts) {
-        Ok(texts) => texts,
-        Err(fault) => return Err(FromFault::Explore(ExploreFault::Run(fault))),
-    };
-    let asked = match question_from(alloc, machine.names(), question) {
+    let asked = match asked_from(alloc, &StepsAsker { text: question }, config, scripts) {
         Ok(asked) => asked,
         Err(fault) => return Err(FromFault::Explore(fault)),
     };
     let (finding, text) = match found_from(
         alloc,
-        &machine,
-        &list,
+        &asked.config,
+        &asked.scripts,
         rules,
         begun,
-        &asked,
+        &asked.question,
         progress,
         turns,
         places - 1,

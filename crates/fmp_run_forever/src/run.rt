@@ -9,11 +9,11 @@ ghost use Rattle.fmp_run_forever.specs.Asked as asked;
 ghost use Rattle.fmp_run_forever.specs.Gone.{HasGone};
 ghost use Rattle.fmp_run_forever.specs.Stayed.{IsBegun, IsExplored};
 
-use crate::asking::asked_from;
+use crate::asking::LastingAsker;
 use crate::staying::Stayed;
 use crate::writing::{WriteFault, found_written};
 use fmp_run_devices::{Sink, Source};
-use fmp_run_explore::ExploreFault;
+use fmp_run_explore::{ExploreFault, asked_from};
 use fmp_run_texts::RunFault;
 use fmp_search::Progress;
 use fmp_search_orders::Rules;
@@ -55,14 +55,14 @@ pub fn run_forever<R: Source, S: Source, W: Sink, P: Progress>(
     ensures gone { IsKnown (R.left config.old) → IsKnown (S.left scripts.old)
         → IfOk result (λ s. HasGone (bytes_of (R.left config.old)) (bytes_of (S.left scripts.old)) question.now rules s.lasting.items s.staying s.extent) }
 {
-    let asked = match asked_from(alloc, config, scripts, question) {
+    let asked = match asked_from(alloc, &LastingAsker { text: question }, config, scripts) {
         Ok(asked) => asked,
         Err(fault) => return Err(fault),
     };
     match found_written(alloc, &asked, rules, output, progress, turns, places - 1) {
         Ok((staying, extent)) => Ok(Stayed {
             staying,
-            lasting: asked.lasting,
+            lasting: asked.question,
             extent,
         }),
         Err(WriteFault::Memory) => Err(ExploreFault::Run(RunFault::Memory)),

@@ -5,12 +5,13 @@ ghost use Rattle.fmp_run_forever.specs.Gone.{IsGone};
 ghost use Rattle.fmp_run_forever.specs.Stayed.{IsPartWritten, IsWritten, is_unwritten};
 ghost use Rattle.fmp_text_scripts.specs.Scripts.{AreInBits};
 
-use crate::asking::Asked;
 use crate::searching::found;
 use crate::staying::Staying;
 use fmp_run_devices::{Sink, write_out};
+use fmp_run_explore::Asked;
 use fmp_search::{Extent, Progress};
 use fmp_search_orders::Rules;
+use fmp_search_pattern::Lasting;
 use std::alloc::Global;
 
 /// Why what was found was not written, or nothing was found.
@@ -25,7 +26,7 @@ pub(crate) enum WriteFault {
 /// Goes through every order of what was read, and writes what is known of them. There is room for so many places besides the first.
 pub(crate) fn found_written<W: Sink, P: Progress>(
     alloc: Global,
-    asked: &Asked,
+    asked: &Asked<Vec<Lasting>>,
     rules: Rules,
     output: &mut W,
     progress: &mut P,
@@ -34,17 +35,17 @@ pub(crate) fn found_written<W: Sink, P: Progress>(
 ) -> Result<(Staying, Extent), WriteFault>
     requires output_calls { W.failures output.old < 2 ^ 64 - 1 }
     requires turns { turns ≤ 1000000 }
-    requires few { length asked.now.lasting.items ≤ 64 }
+    requires few { length asked.now.question.items ≤ 64 }
     requires in_bits { AreInBits asked.now.scripts }
     ensures written { IsKnown (W.written output.old)
-        → IfOk result (λ r. IsWritten asked.now.config asked.now.scripts rules asked.now.lasting.items turns (bytes_of (W.written output.old))
+        → IfOk result (λ r. IsWritten asked.now.config asked.now.scripts rules asked.now.question.items turns (bytes_of (W.written output.old))
         (bytes_of (W.written output.new)) r.0) }
-    ensures gone { IfOk result (λ r. IsGone asked.now.config asked.now.scripts rules asked.now.lasting.items r.0 r.1) }
+    ensures gone { IfOk result (λ r. IsGone asked.now.config asked.now.scripts rules asked.now.question.items r.0 r.1) }
     ensures known { IsKnown (W.written output.old) → IsKnown (W.written output.new) }
     ensures passed { OnOk result (W.buffered output.new ≡ []) }
     ensures none_held { W.buffered output.old ≡ [] → result ≢ Err WriteFault.Write → W.buffered output.new ≡ [] }
     ensures part { IsKnown (W.written output.old) → (result ≡ Err WriteFault.Write)
-        → IsPartWritten asked.now.config asked.now.scripts rules asked.now.lasting.items turns (bytes_of (W.written output.old)) (bytes_of (W.written output.new)) }
+        → IsPartWritten asked.now.config asked.now.scripts rules asked.now.question.items turns (bytes_of (W.written output.old)) (bytes_of (W.written output.new)) }
     ensures unwritten { IsKnown (W.written output.old) → (result ≡ Err WriteFault.Memory) → bytes_of (W.written output.new) ≡ bytes_of (W.written output.old) }
     ensures writes { W.failures output.new ≡ W.failures output.old + (if is_unwritten result then 1 else 0) }
 {
@@ -53,7 +54,7 @@ pub(crate) fn found_written<W: Sink, P: Progress>(
         &asked.config,
         &asked.scripts,
         rules,
-        &asked.lasting,
+        &asked.question,
         progress,
         turns,
         more,

@@ -13,10 +13,6 @@ use Rattle.fmp_config_listing.specs.Listing.{listing_of}
 abbrev pub listing_in : Setup → List ℕ → List ℕ
 listing_in config text = listing_of config ++ lines_in text
 
--- this is the listing of a text
-abbrev pub ListsText : List ℕ → List ℕ → Type 0
-ListsText text listing = (config : Setup) × SaysConfig text config × (listing ≡ listing_in config text)
-
 -- the listing of the configuration that a text says was written after old, all of it
 abbrev pub IsListed : List ℕ → List ℕ → List ℕ → Type 0
 IsListed text old new = (config : Setup) × SaysConfig text config × (new ≡ old ++ listing_in config text)

@@ -160,17 +160,17 @@ one_more runs c scripts asked first next before is seed least small = elim (case
 ]
 
 -- what was read, and what is written of it
-pub sought_by : (c : Setup) (scripts : List Steps) (config_text script_text : List ℕ) (question_text : Option (List ℕ)) (names : NameLists) (asked : Option (List Step)) (runs : SeedRuns)
-    (first last : ℕ) (output : List ℕ) (found : SeedSearch) → SaysConfig config_text c → SpellsScripts c.names script_text scripts → names ≡ c.names
-    → AsksFor names question_text asked → Seeks runs c scripts asked first last output found
+pub sought_by : (c : Setup) (scripts : List Steps) (config_text script_text : List ℕ) (question_text : Option (List ℕ)) (asked : Option (List Step)) (runs : SeedRuns)
+    (first last : ℕ) (output : List ℕ) (found : SeedSearch) → SaysConfig config_text c → SpellsScripts c.names script_text scripts
+    → AsksFor c.names question_text asked → Seeks runs c scripts asked first last output found
     → Sought config_text script_text question_text runs first last output found
-sought_by c scripts config_text script_text question_text names asked runs first last output found says spells same asks seeks = record {
+sought_by c scripts config_text script_text question_text asked runs first last output found says spells asks seeks = record {
   config = c;
   scripts = scripts;
   asked = asked;
   says = says;
   spells = spells;
-  asks = subst (λ (l : NameLists). AsksFor l question_text asked) same asks;
+  asks = asks;
   seeks = seeks;
 }
 

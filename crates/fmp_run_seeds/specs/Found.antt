@@ -13,6 +13,7 @@ use Rattle.fmp_text_scripts.specs.Scripts.{Steps}
 use Rattle.fmp_trace_check.specs.Checking.{PrintsAnswers}
 use Rattle.fmp_run_devices.specs.Devices.{BeginsWith}
 use Rattle.fmp_search_pattern.specs.declared.question.Step.{Step}
+use Rattle.fmp_search_question.specs.declared.fault.QuestionFault.{QuestionFault}
 use Rattle.fmp_search_question.specs.Reading.{question_in}
 use Rattle.fmp_search_shrink.specs.Seen.{IsShownAt}
 use Rattle.fmp_show_state.specs.Waits.{waiting_lines}
@@ -20,8 +21,7 @@ use Rattle.fmp_run_texts.specs.declared.status.Status.{Status}
 use Rattle.fmp_run_texts.specs.declared.status.Status.TheVariants.{Done, Different, Limit, Waiting}
 use Rattle.fmp_run_texts.specs.Texts.{SaysConfig}
 use Rattle.fmp_run_explore.specs.declared.fault.ExploreFault.{ExploreFault}
-use Rattle.fmp_run_explore.specs.declared.fault.ExploreFault.TheVariants.{Run, Question}
-use Rattle.fmp_run_explore.specs.Faults as faults
+use Rattle.fmp_run_explore.specs.Faults.{IsFirstOfQuestion, QuestionFaultOver}
 use Rattle.fmp_run_seeds.specs.declared.orders.SeedRuns.{SeedRuns}
 use Rattle.fmp_run_seeds.specs.declared.seeking.SeedFound.{SeedFound}
 use Rattle.fmp_run_seeds.specs.declared.seeking.SeedSearch.{SeedSearch}
@@ -99,16 +99,14 @@ AsksFor names None (Some question) = ⊥
 AsksFor names (Some text) None = ⊥
 AsksFor names (Some text) (Some question) = question_in names text ≡ Ok question
 
--- a question was not read: it has this first fault for these names, or memory ran out
-abbrev pub IsNoQuestion : NameLists → Option (List ℕ) → ExploreFault → Type 0
-IsNoQuestion names (Some text) fault = faults.IsNoQuestion names text fault
-IsNoQuestion names None fault = ⊥
+-- a fault of the question is the first one of its text, and there is none without a question
+abbrev pub IsFirstOfAsked : Option (List ℕ) → NameLists → QuestionFault → ℕ → Type 0
+IsFirstOfAsked (Some text) names fault place = IsFirstOfQuestion text names fault place
+IsFirstOfAsked None names fault place = ⊥
 
--- a fault of the question is its first one, and there is none without a question
+-- the same, for the names of a right configuration
 abbrev pub IsQuestionFault : List ℕ → Option (List ℕ) → ExploreFault → Type 0
-IsQuestionFault config_text (Some text) fault = faults.IsQuestionFault config_text text fault
-IsQuestionFault config_text None (Run fault) = Unit {0}
-IsQuestionFault config_text None (Question fault place) = ⊥
+IsQuestionFault config_text text = QuestionFaultOver (IsFirstOfAsked text) config_text
 
 -- the same of the one text's machine by the other's scripts, and what the third asks
 pub record Sought (config_text script_text : List ℕ) (question_text : Option (List ℕ)) (runs : SeedRuns) (first last : ℕ) (output : List ℕ)

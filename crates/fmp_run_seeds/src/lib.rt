@@ -6,6 +6,7 @@
 //! `fmp_search_orders`.
 #![tactic(auto)]
 
+mod asking;
 mod orders;
 mod progress;
 mod run;

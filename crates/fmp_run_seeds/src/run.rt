@@ -1,5 +1,5 @@
 //! The runs of seeds, from bytes to bytes.
-ghost use Rattle.std.specs.Prelude.{◌-◌, ◌≤◌, ◌<◌, ◌^◌, IfOk, IfErr, option_map};
+ghost use Rattle.std.specs.Prelude.{◌-◌, ◌≤◌, ◌<◌, ◌^◌, IfOk, option_map};
 ghost use Rattle.fmp_run_devices.specs.Ends.{sink_ends, source_ends};
 ghost use Rattle.fmp_run_texts.specs.Owed.{WritesOut};
 ghost use Rattle.fmp_run_explore.specs.Faults.{OwesSearch};
@@ -7,30 +7,14 @@ ghost use Rattle.fmp_run_explore.specs.Faults as faults;
 ghost use Rattle.fmp_run_seeds.specs.Found as spec;
 ghost use Rattle.fmp_run_seeds.specs.Found.{IsBegun, IsEndedBy, IsSought};
 
+use crate::asking::SeedAsker;
 use crate::orders::SeedRuns;
 use crate::progress::SeedProgress;
 use crate::seeking::{SeedSearch, sought};
-use fmp_names::Names;
 use fmp_run_devices::{Sink, Source, write_out};
-use fmp_run_explore::{ExploreFault, question_from};
-use fmp_run_texts::{RunFault, texts_from};
-use fmp_search_pattern::Question;
+use fmp_run_explore::{ExploreFault, asked_from};
+use fmp_run_texts::RunFault;
 use std::alloc::Global;
-
-/// The question of a text, if there is one, or its first fault.
-fn asked_in(
-    alloc: Global,
-    names: &Names,
-    text: Option<&[u8]>,
-) -> Result<Option<Question>, ExploreFault>
-    ensures asks { IfOk result (λ q. spec.AsksFor names.now (option_map (λ t. t.now) text.entry) q) }
-    ensures fault { IfErr result (spec.IsNoQuestion names.now (option_map (λ t. t.now) text.entry)) }
-{
-    match text {
-        None => Ok(None),
-        Some(text) => Ok(Some(question_from(alloc, names, text)?)),
-    }
-}
 
 /// Reads a configuration and scripts, makes the run of each seed from the first to the last, both included, up to the first that is looked for, and writes
 /// the trace of that run: up to the line that shows for the first time what the question asks, or without a question the whole trace of a run at
@@ -71,15 +55,20 @@ pub fn run_seeds<R: Source, S: Source, W: Sink, P: SeedProgress>(
     // Seeds are left only where the search was ended.
     ensures ended { IfOk result (IsEndedBy (P.over progress.new)) }
 {
-    let (machine, list) = match texts_from(alloc, config, scripts) {
-        Ok(texts) => texts,
-        Err(fault) => return Err(ExploreFault::Run(fault)),
-    };
-    let asked = match asked_in(alloc, machine.names(), question) {
+    let asked = match asked_from(alloc, &SeedAsker { text: question }, config, scripts) {
         Ok(asked) => asked,
         Err(fault) => return Err(fault),
     };
-    let (found, text) = match sought(alloc, &machine, &list, &asked, runs, first, last, progress) {
+    let (found, text) = match sought(
+        alloc,
+        &asked.config,
+        &asked.scripts,
+        &asked.question,
+        runs,
+        first,
+        last,
+        progress,
+    ) {
         Ok(sought) => sought,
         Err(_) => return Err(ExploreFault::Run(RunFault::Memory)),
     };

@@ -4,9 +4,9 @@
 //! there. When the answers to events show a question, and what may go, is in `fmp_search_shrink`.
 #![tactic(auto)]
 
+mod events;
 mod finding;
 mod run;
-mod texts;
 
 pub use finding::Shrinking;
 pub use fmp_run_explore::{ExploreFault, QuestionLine};

@@ -10,13 +10,13 @@ ghost use Rattle.fmp_text.specs.Limits.{most_events};
 ghost use Rattle.fmp_run_shrink.specs.Faults.{IsEventFault};
 ghost use Rattle.fmp_run_shrink.specs.Shrunk.{IsBegun, IsShrunkOut, Leaves};
 
+use crate::events::EventReader;
 use crate::finding::Shrinking;
-use crate::texts::texts_from;
 use fmp_codes::Event;
 use fmp_rules::Config;
 use fmp_run_devices::{Sink, Source, write_out};
 use fmp_run_explore::{ExploreFault, question_from};
-use fmp_run_texts::RunFault;
+use fmp_run_texts::{RunFault, texts_from};
 use fmp_search_pattern::Question;
 use fmp_search_shrink::shrink;
 use fmp_trace_events::events_text;
@@ -71,7 +71,7 @@ pub fn run_shrink<R: Source, S: Source, W: Sink>(
         (source_ends R.left R.failures config.old config.new) (source_ends S.left S.failures events.old events.new)
         (sink_ends W.written W.buffered W.failures output.old output.new) result }
 {
-    let (machine, list) = match texts_from(alloc, config, events) {
+    let (machine, list) = match texts_from(alloc, &EventReader, config, events) {
         Ok(texts) => texts,
         Err(fault) => return Err(ExploreFault::Run(fault)),
     };

@@ -12,7 +12,7 @@ ghost use Rattle.fmp_run_smp.specs.Scripted.{InOrder, IsPlayBegun, IsPlayed, IsP
 use crate::ending::{SmpEnd, write_history};
 use fmp_rules::Config;
 use fmp_run_devices::{Sink, Source};
-use fmp_run_texts::{RunFault, texts_from};
+use fmp_run_texts::{RunFault, ScriptReader, texts_from};
 use fmp_smp::{Gate, SmpFault, run_seeded, run_smp};
 use fmp_text_scripts::Scripts;
 use fmp_world::{Ended, SmpRun};
@@ -124,7 +124,7 @@ pub fn run_scripts<T: Threads + Wait + Sync, R: Source, S: Source, W: Sink, G: G
     // With a seed no thread was started.
     ensures no_thread_fault { IfSome seed (λ number. IfErr result (λ fault. is_thread_fault fault ≡ false)) }
 {
-    let (machine, list) = texts_from(alloc, config, scripts)?;
+    let (machine, list) = texts_from(alloc, &ScriptReader, config, scripts)?;
     let run = run_in_order(rt, alloc, &machine, &list, ticks, turns, seed, gate)?;
     drop(run.receipts);
     let names = machine.names();

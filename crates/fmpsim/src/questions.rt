@@ -18,7 +18,7 @@ use fmp_config::Config;
 use fmp_run_events::{Failed, MemSource, Sink, Status};
 use fmp_run_explore::{Finding, Outcome, Progress};
 use fmp_run_forever::Staying;
-use fmp_run_texts::{RunFault, texts_from};
+use fmp_run_texts::{RunFault, ScriptReader, texts_from};
 use fmp_search_question::{QuestionFault, ReadFault, is_lasting, read_lasting, read_question};
 use fmp_text::MOST_BYTES;
 use std::alloc::{AllocError, Global};
@@ -119,7 +119,7 @@ fn texts_of<R: Files + Input + AllocGlobal>(rt: &R, asking: &Asking<'_>) -> Resu
 fn config_of(alloc: Global, texts: &Texts) -> Result<Config, Ending> {
     let mut config = MemSource::new(texts.config.as_slice());
     let mut scripts = MemSource::new(texts.scripts.as_slice());
-    match texts_from(alloc, &mut config, &mut scripts) {
+    match texts_from(alloc, &ScriptReader, &mut config, &mut scripts) {
         Ok((config, _)) => Ok(config),
         Err(fault) => Err(Ending::Faulty(fault, Vec::from_slice(alloc, texts.config.as_slice())?)),
     }

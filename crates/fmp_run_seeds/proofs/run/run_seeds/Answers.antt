@@ -4,7 +4,7 @@ use Rattle.fmp_run_seeds.proofs.Trying.{asked_short, sought_by}
 use Rattle.fmp_run_seeds.proofs.run.run_seeds.Goals as goal
 
 pub sought-requires-clause-short : goal.sought-requires-clause-short
-sought-requires-clause-short g c = asked_short c.names.result.now _ c.in-Ok-asked_in.asked c.in-Ok-asked_in.ensures.asks
+sought-requires-clause-short g c = asked_short c.in-Ok.asked.config.names _ c.in-Ok.asked.question c.in-Ok.ensures.asks
 
 pub returns-in-Ok-write_out-clause-writes : goal.returns-in-Ok-write_out-clause-writes
 returns-in-Ok-write_out-clause-writes g c =
@@ -12,8 +12,8 @@ returns-in-Ok-write_out-clause-writes g c =
       whole = λ configs texts writes.
           let old = bytes_of (g.W.Sink.written c.args.trace.now) in (
             c.in-Ok-sought.sought.1.items,
-            sought_by c.in-Ok.texts.0 c.in-Ok.texts.1 _ _ _ _ c.in-Ok-asked_in.asked c.args.runs c.args.first c.args.last c.in-Ok-sought.sought.1.items c.in-Ok-sought.sought.0
-                (c.in-Ok.ensures.says configs) (c.in-Ok.ensures.spells texts) c.names.ensures.value c.in-Ok-asked_in.ensures.asks c.in-Ok-sought.ensures.seeks,
+            sought_by c.in-Ok.asked.config c.in-Ok.asked.scripts _ _ _ c.in-Ok.asked.question c.args.runs c.args.first c.args.last c.in-Ok-sought.sought.1.items c.in-Ok-sought.sought.0
+                (c.in-Ok.ensures.says configs) (c.in-Ok.ensures.spells texts) c.in-Ok.ensures.asks c.in-Ok-sought.ensures.seeks,
             c.in-Ok-write_out.ensures.ok writes ∙ ap (λ (text : List ℕ). old ++ text) c.as_slice.ensures.value,
           );
       passed = search rules;
@@ -31,8 +31,8 @@ returns-clause-writes g c =
           let new = bytes_of (g.W.Sink.written c.write_out.new.sink) in (
             c.in-Ok-sought.sought.1.items,
             c.in-Ok-sought.sought.0,
-            sought_by c.in-Ok.texts.0 c.in-Ok.texts.1 _ _ _ _ c.in-Ok-asked_in.asked c.args.runs c.args.first c.args.last c.in-Ok-sought.sought.1.items c.in-Ok-sought.sought.0
-                (c.in-Ok.ensures.says configs) (c.in-Ok.ensures.spells texts) c.names.ensures.value c.in-Ok-asked_in.ensures.asks c.in-Ok-sought.ensures.seeks,
+            sought_by c.in-Ok.asked.config c.in-Ok.asked.scripts _ _ _ c.in-Ok.asked.question c.args.runs c.args.first c.args.last c.in-Ok-sought.sought.1.items c.in-Ok-sought.sought.0
+                (c.in-Ok.ensures.says configs) (c.in-Ok.ensures.spells texts) c.in-Ok.ensures.asks c.in-Ok-sought.ensures.seeks,
             subst (λ (text : List ℕ). BeginsWith old text new) c.as_slice.ensures.value (c.in-Err-write_out.ensures.err writes),
           );
       unwritten = search rules;

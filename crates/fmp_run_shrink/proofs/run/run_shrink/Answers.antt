@@ -10,7 +10,7 @@ pub left_of-requires-clause-short : goal.left_of-requires-clause-short
 left_of-requires-clause-short g c = question_short c.names.result.now c.args.question.now c.in-Ok-question_from.asked c.in-Ok-question_from.ensures.asks
 
 pub left_of-requires-clause-on : goal.left_of-requires-clause-on
-left_of-requires-clause-on g c = subst (λ (n : ℕ). AreOn n c.in-Ok.texts.1.items) c.names.ensures.valid.same_processors c.in-Ok.ensures.on
+left_of-requires-clause-on g c = subst (λ (n : ℕ). AreOn n c.in-Ok.texts.1.items) c.names.ensures.valid.same_processors c.in-Ok.ensures.keeps.on
 
 pub returns-in-Ok-write_out-clause-writes : goal.returns-in-Ok-write_out-clause-writes
 returns-in-Ok-write_out-clause-writes g c =
@@ -24,7 +24,7 @@ returns-in-Ok-write_out-clause-writes g c =
               events = c.in-Ok.texts.1.items;
               question = asked;
               says = c.in-Ok.ensures.says configs;
-              lists = c.in-Ok.ensures.lists texts;
+              lists = c.in-Ok.ensures.made texts;
               asks = subst (λ (names : NameLists). question_in names c.args.question.now ≡ Ok asked) c.names.ensures.value c.in-Ok-question_from.ensures.asks;
               leaves = c.in-Ok-left_of.ensures;
             },
@@ -51,7 +51,7 @@ returns-clause-writes g c =
               events = c.in-Ok.texts.1.items;
               question = asked;
               says = c.in-Ok.ensures.says configs;
-              lists = c.in-Ok.ensures.lists texts;
+              lists = c.in-Ok.ensures.made texts;
               asks = subst (λ (names : NameLists). question_in names c.args.question.now ≡ Ok asked) c.names.ensures.value c.in-Ok-question_from.ensures.asks;
               leaves = c.in-Ok-left_of.ensures;
             },
