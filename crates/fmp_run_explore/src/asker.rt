@@ -1,5 +1,5 @@
 //! Questions about the orders of scripts, as texts ask them.
-ghost use Rattle.std.specs.Prelude.{◌≡◌, ℕ, Ok, IfOk, IfErr};
+ghost use Rattle.std.specs.Prelude.{⊤, ◌≡◌, ℕ, Ok, IfOk, IfErr};
 ghost use Rattle.fmp_names.specs.Names.{NameLists};
 ghost use Rattle.fmp_search_question.specs.declared.fault.QuestionFault.{QuestionFault as AnyFault};
 ghost use Rattle.fmp_search_question.specs.Reading.{question_in};
@@ -21,7 +21,7 @@ pub trait Asker {
     ghost asks: { Self → NameLists → Self.Out → Type 0 };
 
     // This holds of it, whatever is asked.
-    ghost keeps: { Self → Self.Out → Type 0 };
+    ghost keeps: { Self → Self.Out → Type 0 } = { λ _ _. ⊤ };
 
     // What is asked has this fault first, at the byte of this number from 0.
     ghost is_fault: { Self → NameLists → AnyFault → ℕ → Type 0 };
@@ -59,8 +59,6 @@ impl<'a> Asker for StepsAsker<'a> {
     type Out = Question;
 
     ghost asks = { λ s names question. question_in names s.text.now ≡ Ok question };
-
-    ghost keeps = { λ _ _. Unit {0} };
 
     ghost is_fault = { λ s. IsFirstOfQuestion s.text.now };
 

@@ -20,8 +20,6 @@ impl<'a> Asker for SeedAsker<'a> {
 
     ghost asks = { λ s names. AsksFor names (option_map (λ t. t.now) s.text) };
 
-    ghost keeps = { λ _ _. Unit {0} };
-
     ghost is_fault = { λ s. IsFirstOfAsked (option_map (λ t. t.now) s.text) };
 
     fn ask(&self, alloc: Global, names: &Names) -> Result<Option<Question>, ExploreFault> {
