@@ -14,3 +14,6 @@ pub returns-clause-fault : goal.returns-clause-fault
 returns-clause-fault c = λ all rest read.
     subst (λ (r : Reading). IsFirst r c.in-Err.fault) (sym (reading_of-prefix c.args.config.now.names all c.args.text.items rest read.prefix read.whole))
     (rw (c.names.ensures.value, c.as_slice.ensures.value) at c.in-Err.ensures.err)
+
+pub returns-clause-accepted : goal.returns-clause-accepted
+returns-clause-accepted c = λ all rest read no. absurd no
