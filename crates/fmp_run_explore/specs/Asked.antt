@@ -1,5 +1,5 @@
 -- What a search is given that is asked a question over a configuration and scripts.
-use Rattle.std.specs.Prelude.{◌≡◌, ℕ, false, List, [], Result, OnOk, IfOk, IfErr}
+use Rattle.std.specs.Prelude.{◌≡◌, ℕ, false, [], Result, OnOk, IfOk, IfErr}
 use Rattle.fmp_names.specs.Names.{NameLists}
 use Rattle.fmp_text_scripts.specs.ScriptGrammar.{SpellsScripts}
 use Rattle.fmp_text_scripts.specs.Scripts.{AreInBits}

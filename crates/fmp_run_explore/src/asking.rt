@@ -1,5 +1,5 @@
 //! What a search is asked, as three texts say it.
-ghost use Rattle.std.specs.Prelude.{◌≡◌, ◌-◌, ◌<◌, ◌^◌};
+ghost use Rattle.std.specs.Prelude.{◌-◌, ◌<◌, ◌^◌};
 ghost use Rattle.fmp_run_devices.specs.Ends.{source_ends};
 ghost use Rattle.fmp_run_explore.specs.Asked.{ReadsAsked};
 

@@ -1,5 +1,4 @@
 //! What is to stay for ever, as a text asks it.
-ghost use Rattle.std.specs.Prelude.{◌≡◌};
 
 use fmp_names::Names;
 use fmp_run_explore::{Asker, ExploreFault};

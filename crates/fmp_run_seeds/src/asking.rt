@@ -1,5 +1,4 @@
 //! What is looked for in the runs of seeds, as a text asks it where there is one.
-ghost use Rattle.std.specs.Prelude.{◌≡◌};
 
 use fmp_names::Names;
 use fmp_run_explore::{Asker, ExploreFault, question_from};

@@ -1,5 +1,4 @@
 //! Lists of events, as a run reads them.
-ghost use Rattle.std.specs.Prelude.{◌≡◌};
 
 use fmp_codes::Event;
 use fmp_rules::Config;
