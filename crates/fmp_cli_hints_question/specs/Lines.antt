@@ -1,6 +1,7 @@
 -- What is told of a word of a question that no line has after the words before it.
-use Rattle.std.specs.Prelude.{ℕ, Bool, true, false, List, [], ◌∷◌, ◌++◌, Option, Some, None, is_some, map, if◌then◌else◌, codes}
-use Rattle.fmp_bytes.specs.Bytes.{comma, cut_at}
+use Rattle.std.specs.Prelude.{ℕ, Bool, true, false, ◌&&◌, ◌==◌, List, [], ◌∷◌, ◌++◌, Option, Some, None, is_none, is_some, map, if◌then◌else◌, codes}
+use Rattle.std.specs.List.{starts_with}
+use Rattle.fmp_bytes.specs.Bytes.{colon, comma, cut_at, following, open_parenthesis}
 use Rattle.fmp_calls.specs.Table.{named}
 use Rattle.fmp_cli_hints.specs.Rows.{report_of}
 use Rattle.fmp_cli_hints_question.specs.declared.rows.TheConstants.{LINE_ROWS}
@@ -24,9 +25,24 @@ goes_on (Some (b ∷ bytes)) = true
 abbrev pub is_joined : List ℕ → Bool
 is_joined word = goes_on (cut_at comma word).1
 
+unfoldable pub bracket_words : List ℕ
+bracket_words = codes "  A question has no brackets: `&` binds closer than `or`.\n"
+
+unfoldable pub release_words : List ℕ
+release_words = codes "  The code stands behind the task: write `rel=T1:E_OK`, or `rel=T1:*` for any.\n"
+
+-- a release without its code
+abbrev pub is_bare_release : List ℕ → Bool
+is_bare_release word = starts_with ◌==◌ word (codes "rel=") && is_none (cut_at colon word).1
+
+-- what is told of a word that is no call and has no comma
+abbrev pub other_hint : List ℕ → List ℕ
+other_hint word =
+    if is_some (following open_parenthesis word) then bracket_words else (if is_bare_release word then release_words else star_words)
+
 -- what is told of any word
 unfoldable pub form_hint : List ℕ → List ℕ
-form_hint word = if is_some (named word) then call_words word else (if is_joined word then comma_words else star_words)
+form_hint word = if is_some (named word) then call_words word else (if is_joined word then comma_words else other_hint word)
 
 abbrev pub row_or_form : List ℕ → List ℕ → List ℕ
 row_or_form word [] = form_hint word

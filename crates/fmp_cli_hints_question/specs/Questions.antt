@@ -1,6 +1,6 @@
 -- What stands beside a fault of a question.
 use Rattle.std.specs.Prelude.{ℕ, Bool, ◌||◌, List, [], ◌∷◌, ◌++◌, length, take, drop, min, ◌==◌, if◌then◌else◌, codes}
-use Rattle.std.specs.List.{ends_with, list_any}
+use Rattle.std.specs.List.{ends_with, list_any, starts_with}
 use Rattle.std.specs.Str.{bytes_eq}
 use Rattle.fmp_bytes.specs.Bytes.{cut_at, space}
 use Rattle.fmp_names.specs.Names.{NameLists}
@@ -66,6 +66,13 @@ has_refused text = bytes_eq text (codes "refused ") || ends_with ◌==◌ text (
 abbrev pub line_or_refused : List ℕ → List ℕ → List ℕ
 line_or_refused before word = if has_refused before then refused_words else order_hint word
 
+unfoldable pub deadlock_words : List ℕ
+deadlock_words = codes "  Behind `deadlock` stands nothing, or `but` and names of tasks with commas and no blanks between: `deadlock but T1,T2`.\n"
+
+-- what is told in a question that begins so
+abbrev pub deadlock_hint : List ℕ → List ℕ
+deadlock_hint before = if starts_with ◌==◌ before (codes "deadlock ") then deadlock_words else []
+
 -- what is told of a word that has no place there
 abbrev pub form_or_refused : List ℕ → List ℕ
 form_or_refused word = if bytes_eq word (codes "refused") then refused_words else []
@@ -73,9 +80,9 @@ form_or_refused word = if bytes_eq word (codes "refused") then refused_words els
 -- with such a fault, where the text goes on so after the words before it
 unfoldable pub hint : NameLists → QuestionFault → List ℕ → List ℕ → List ℕ
 hint names question.BadWord before text = word_hint names (cut_at space text).0
-hint names question.UnknownName before text = word_hint names (cut_at space text).0
+hint names question.UnknownName before text = word_hint names (cut_at space text).0 ++ deadlock_hint before
 hint names question.NoLine before text = line_or_refused before (cut_at space text).0
-hint names question.BadForm before text = form_or_refused (cut_at space text).0
+hint names question.BadForm before text = form_or_refused (cut_at space text).0 ++ deadlock_hint before
 hint names question.TooLong before text = []
 
 abbrev pub empty_words : List ℕ → List ℕ

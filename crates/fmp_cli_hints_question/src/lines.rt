@@ -3,7 +3,7 @@ ghost use Rattle.std.specs.Prelude.{◌≡◌, ◌++◌, OnOk};
 ghost use Rattle.fmp_cli_hints_question.specs.Lines as spec;
 
 use crate::rows::LINE_ROWS;
-use fmp_bytes::cut;
+use fmp_bytes::{cut, following};
 use fmp_calls::find_call;
 use fmp_cli_hints::report_of;
 use std::alloc::AllocError;
@@ -34,6 +34,42 @@ fn star_words() -> &'static [u8]
     b"  `*` stands for the words between, as in `P1 * tick taken`.\n"
 }
 
+/// What is told of a word that begins with a bracket.
+#[tactic(auto, unfolding(crate::specs::Lines::bracket_words))]
+fn bracket_words() -> &'static [u8]
+    ensures { result.now ≡ spec.bracket_words }
+{
+    b"  A question has no brackets: `&` binds closer than `or`.\n"
+}
+
+/// What is told of a release without its code.
+#[tactic(auto, unfolding(crate::specs::Lines::release_words))]
+fn release_words() -> &'static [u8]
+    ensures { result.now ≡ spec.release_words }
+{
+    b"  The code stands behind the task: write `rel=T1:E_OK`, or `rel=T1:*` for any.\n"
+}
+
+/// Whether a word is a release without its code.
+fn is_bare_release(word: &[u8]) -> bool
+    ensures { result ≡ spec.is_bare_release word.now }
+{
+    word.starts_with(b"rel=") && cut(b':', word).1.is_none()
+}
+
+/// What is told of a word that is no call and has no comma.
+fn other_hint(word: &[u8]) -> &'static [u8]
+    ensures { result.now ≡ spec.other_hint word.now }
+{
+    if following(b'(', word).is_some() {
+        bracket_words()
+    } else if is_bare_release(word) {
+        release_words()
+    } else {
+        star_words()
+    }
+}
+
 /// Whether a comma of a word stands before other bytes.
 fn is_joined(word: &[u8]) -> bool
     ensures { result ≡ spec.is_joined word.now }
@@ -54,7 +90,7 @@ fn put_form_hint(out: &mut Vec<u8>, word: &[u8]) -> Result<(), AllocError>
     } else if is_joined(word) {
         out.extend_from_slice(comma_words())
     } else {
-        out.extend_from_slice(star_words())
+        out.extend_from_slice(other_hint(word))
     }
 }
 

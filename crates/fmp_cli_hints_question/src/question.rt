@@ -135,6 +135,25 @@ fn put_line_or_refused(out: &mut Vec<u8>, before: &[u8], word: &[u8]) -> Result<
     }
 }
 
+/// What is told of a question that begins with `deadlock`.
+#[tactic(auto, unfolding(crate::specs::Questions::deadlock_words))]
+fn deadlock_words() -> &'static [u8]
+    ensures { result.now ≡ spec.deadlock_words }
+{
+    b"  Behind `deadlock` stands nothing, or `but` and names of tasks with commas and no blanks between: `deadlock but T1,T2`.\n"
+}
+
+/// What is told in a question that begins so.
+fn deadlock_hint(before: &[u8]) -> &'static [u8]
+    ensures { result.now ≡ spec.deadlock_hint before.now }
+{
+    if before.starts_with(b"deadlock ") {
+        deadlock_words()
+    } else {
+        b""
+    }
+}
+
 /// What is told of a word that has no place there.
 fn form_or_refused(word: &[u8]) -> &'static [u8]
     ensures { result.now ≡ spec.form_or_refused word.now }
@@ -160,11 +179,16 @@ fn put_hint(
 {
     let (word, _rest) = cut(b' ', text);
     match fault {
-        QuestionFault::BadWord | QuestionFault::UnknownName => {
-            put_word_hint(alloc, out, names, word)
+        QuestionFault::BadWord => put_word_hint(alloc, out, names, word),
+        QuestionFault::UnknownName => {
+            put_word_hint(alloc, out, names, word)?;
+            out.extend_from_slice(deadlock_hint(before))
         }
         QuestionFault::NoLine => put_line_or_refused(out, before, word),
-        QuestionFault::BadForm => out.extend_from_slice(form_or_refused(word)),
+        QuestionFault::BadForm => {
+            out.extend_from_slice(form_or_refused(word))?;
+            out.extend_from_slice(deadlock_hint(before))
+        }
         QuestionFault::TooLong => Ok(()),
     }
 }

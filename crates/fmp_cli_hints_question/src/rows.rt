@@ -56,10 +56,22 @@ pub const LINE_ROWS: [(&[u8], &[u8]); 17] = [
         b"E_OK",
         b"  A call stands before it, and after it the value that the call returns, as in `get_pid() E_OK:1`: write `get_pid() E_OK*`.\n",
     ),
-    (b"wait", CALL),
-    (b"spin", CALL),
-    (b"gone", CALL),
-    (b"idle", CALL),
+    (
+        b"wait",
+        b"  It answers a call, as in `P1 T1 slp_tsk() wait`: write `T1 * wait`.\n",
+    ),
+    (
+        b"spin",
+        b"  It answers a call, as in `P1 T1 loc_spn(L1) spin`: write `T1 * spin`.\n",
+    ),
+    (
+        b"gone",
+        b"  It answers a call, as in `P1 T1 ext_tsk() gone`: write `T1 * gone`.\n",
+    ),
+    (
+        b"idle",
+        b"  It answers a call that nobody could make, as in `P2 - get_pid() idle`: write `P2 * idle`. A processor that runs nothing is `P2 run=-`.\n",
+    ),
     (b"locked", PROCESSOR),
     (b"disabled", PROCESSOR),
     (b"latch", PROCESSOR),
@@ -79,8 +91,6 @@ pub const LINE_ROWS: [(&[u8], &[u8]); 17] = [
 ];
 
 const TIMER: &[u8] = b"  It answers a tick or an interrupt, as in `P1 T1 tick taken`.\n";
-
-const CALL: &[u8] = b"  It answers a call, as in `P1 T1 slp_tsk() wait`: write `T1 * wait`.\n";
 
 const PROCESSOR: &[u8] =
     b"  What the processor runs stands before it, as in `P1 run=T1 latch`: write `P1 * latch`.\n";
