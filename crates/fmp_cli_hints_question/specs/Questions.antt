@@ -67,7 +67,7 @@ abbrev pub line_or_refused : List ℕ → List ℕ → List ℕ
 line_or_refused before word = if has_refused before then refused_words else order_hint word
 
 unfoldable pub deadlock_words : List ℕ
-deadlock_words = codes "  Behind `deadlock` stands nothing, or `but` and names of tasks with commas and no blanks between: `deadlock but T1,T2`.\n"
+deadlock_words = codes "  After `deadlock` stands nothing, or `but` and names of tasks with commas and no blanks between: `deadlock but T1,T2`.\n"
 
 -- what is told in a question that begins so
 abbrev pub deadlock_hint : List ℕ → List ℕ

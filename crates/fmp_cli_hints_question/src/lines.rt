@@ -1,10 +1,11 @@
 //! What is told of a word of a question that no line has after the words before it.
 ghost use Rattle.std.specs.Prelude.{◌≡◌, ◌++◌, OnOk};
+ghost use Rattle.std.specs.Option.{option_copied};
 ghost use Rattle.fmp_cli_hints_question.specs.Lines as spec;
 
 use crate::rows::LINE_ROWS;
 use fmp_bytes::{cut, following};
-use fmp_calls::find_call;
+use fmp_calls::{ArgumentKind, find_call, form};
 use fmp_cli_hints::report_of;
 use std::alloc::AllocError;
 
@@ -47,7 +48,7 @@ fn bracket_words() -> &'static [u8]
 fn release_words() -> &'static [u8]
     ensures { result.now ≡ spec.release_words }
 {
-    b"  The code stands behind the task: write `rel=T1:E_OK`, or `rel=T1:*` for any.\n"
+    b"  The code stands after the task: write `rel=T1:E_OK`, or `rel=T1:*` for any.\n"
 }
 
 /// Whether a word is a release without its code.
@@ -55,6 +56,45 @@ fn is_bare_release(word: &[u8]) -> bool
     ensures { result ≡ spec.is_bare_release word.now }
 {
     word.starts_with(b"rel=") && cut(b':', word).1.is_none()
+}
+
+/// What is told of a call that has a number for an object.
+#[tactic(auto, unfolding(crate::specs::Lines::number_words))]
+fn number_words() -> &'static [u8]
+    ensures { result.now ≡ spec.number_words }
+{
+    b"  A line has the name of an object in place of its number, and `TSK_SELF` for the caller.\n"
+}
+
+/// Whether the first argument of a call is an object.
+fn takes_object(kinds: &[ArgumentKind]) -> bool
+    ensures { result ≡ spec.takes_object kinds.now }
+{
+    match kinds {
+        [ArgumentKind::Object(_), ..] => true,
+        _ => false,
+    }
+}
+
+/// Whether text after a `(` begins with a digit.
+fn begins_with_digit(text: Option<&[u8]>) -> bool
+    ensures { result ≡ spec.begins_with_digit (option_copied text.entry) }
+{
+    match text {
+        Some([first, ..]) => first.is_ascii_digit(),
+        _ => false,
+    }
+}
+
+/// Whether a word is a call that has a number for an object.
+fn is_numbered(word: &[u8]) -> bool
+    ensures { result ≡ spec.is_numbered word.now }
+{
+    let (name, arguments) = cut(b'(', word);
+    match find_call(name) {
+        Some(call) => takes_object(form(call).kinds) && begins_with_digit(arguments),
+        None => false,
+    }
 }
 
 /// What is told of a word that is no call and has no comma.
@@ -65,6 +105,8 @@ fn other_hint(word: &[u8]) -> &'static [u8]
         bracket_words()
     } else if is_bare_release(word) {
         release_words()
+    } else if is_numbered(word) {
+        number_words()
     } else {
         star_words()
     }

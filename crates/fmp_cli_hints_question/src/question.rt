@@ -140,7 +140,7 @@ fn put_line_or_refused(out: &mut Vec<u8>, before: &[u8], word: &[u8]) -> Result<
 fn deadlock_words() -> &'static [u8]
     ensures { result.now ≡ spec.deadlock_words }
 {
-    b"  Behind `deadlock` stands nothing, or `but` and names of tasks with commas and no blanks between: `deadlock but T1,T2`.\n"
+    b"  After `deadlock` stands nothing, or `but` and names of tasks with commas and no blanks between: `deadlock but T1,T2`.\n"
 }
 
 /// What is told in a question that begins so.

@@ -37,7 +37,7 @@ pub const QUESTION_ROWS: [(&[u8], &[u8]); 15] = [
 const DIGITS: &[u8] = b"  A number is written in digits, as in `3 times`.\n";
 
 /// What is told of a word of a question that no line has after the words before it.
-pub const LINE_ROWS: [(&[u8], &[u8]); 17] = [
+pub const LINE_ROWS: [(&[u8], &[u8]); 19] = [
     (
         b"tick",
         b"  Who runs stands before it, as in `P1 T1 tick taken`: write `P1 * tick taken`.\n",
@@ -80,6 +80,14 @@ pub const LINE_ROWS: [(&[u8], &[u8]); 17] = [
         b"  The names stand after a `=`, as in `P1 run=T1 ready=T2,T3`: write `P1 * ready=*T2*`.\n",
     ),
     (b"run", b"  The name stands after a `=`: write `run=T1`.\n"),
+    (
+        b"run=idle",
+        b"  It stands after the answer of an event, as in `P1 T1 slp_tsk() wait run=idle`. A processor that runs nothing is `P1 run=-`.\n",
+    ),
+    (
+        b"run=-",
+        b"  It stands after a processor, as in `P1 run=-`. After the answer of an event it is `run=idle`.\n",
+    ),
     (
         b"due",
         b"  The names stand after a `=`, as in `P1 run=T1 due=A1`: write `P1 * due=*A1*`.\n",
