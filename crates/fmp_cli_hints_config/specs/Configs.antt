@@ -1,5 +1,5 @@
 -- What stands beside a fault line of a configuration.
-use Rattle.std.specs.Prelude.{ℕ, ◌+◌, ◌-◌, ◌&&◌, not, Bool, true, false, List, [], ◌∷◌, ◌++◌, length, take, drop, min, nat_lt, nat_le, Option, Some, None, ◌==◌}
+use Rattle.std.specs.Prelude.{ℕ, ◌+◌, ◌-◌, ◌&&◌, not, Bool, true, false, List, [], ◌∷◌, ◌++◌, length, take, drop, min, nat_lt, nat_le, Option, Some, None, ◌==◌, ◌||◌}
 use Rattle.std.specs.Prelude.{if◌then◌else◌}
 use Rattle.std.specs.Option.{option_map_or}
 use Rattle.fmp_bytes.specs.Bytes.{cut_at, line_feed}
@@ -9,7 +9,7 @@ use Rattle.fmp_cli_hints.specs.Excerpts.{excerpt}
 use Rattle.fmp_cli_hints.specs.Likeness.{config_likeness}
 use Rattle.fmp_cli_hints_config.specs.Hints.{word_hint}
 use Rattle.fmp_cli_hints_config.specs.Foreign.{foreign_spot, numbered, words_at}
-use Rattle.fmp_cli_hints_config.specs.Opened.{end_of_text, is_stray, missing_at}
+use Rattle.fmp_cli_hints_config.specs.Opened.{end_of_text, is_misplaced, is_stray, missing_at}
 use Rattle.fmp_cli_hints_config.specs.Projects.{project_line}
 use Rattle.fmp_cli_hints_config.specs.Statements.{statement_at}
 use Rattle.fmp_cli_hints.specs.Wanted.{label, mark_line}
@@ -54,9 +54,14 @@ abbrev pub form_of : Option StatementName → List ℕ
 form_of None = []
 form_of (Some name) = label ++ about name
 
+-- nothing is wrong with the form of a statement: it is not open, or stands at the wrong place
+abbrev pub is_formed : List ℕ → ℕ → List ℕ → Bool
+is_formed text place word = is_stray text place || is_misplaced text place word
+
 -- the form of the statement at a place
 unfoldable pub form_at : List ℕ → ℕ → ConfigFault → List ℕ
-form_at text place fault = if wants_form fault.kind && not (is_stray text place) then form_of (statement_at text place fault.word.bytes) else []
+form_at text place fault =
+    if wants_form fault.kind && not (is_formed text place fault.word.bytes) then form_of (statement_at text place fault.word.bytes) else []
 
 -- a byte that is missing after what stands before a place, and the form of its statement
 unfoldable pub missed : List ℕ → ℕ → StatementName × ℕ → List ℕ

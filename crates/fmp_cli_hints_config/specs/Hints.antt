@@ -4,7 +4,7 @@ use Rattle.fmp_bytes.specs.Bytes.{following, number_sign}
 use Rattle.fmp_config.specs.declared.fault.ConfigFault.{ConfigFault}
 use Rattle.fmp_cli_hints_config.specs.Classes.{near_class}
 use Rattle.fmp_cli_hints_config.specs.Numbers.{number_hint}
-use Rattle.fmp_cli_hints_config.specs.Opened.{is_stray, item_in}
+use Rattle.fmp_cli_hints_config.specs.Opened.{is_misplaced, is_stray, item_in}
 use Rattle.fmp_cli_hints_config.specs.Statements.{statement_at}
 use Rattle.fmp_cli_hints_config.specs.Taken.{taken_hint}
 use Rattle.fmp_cli_hints.specs.Hints.{near_line}
@@ -42,15 +42,19 @@ abbrev pub report_item : Option (StatementName × Item) → List ℕ
 report_item None = []
 report_item (Some (name, item)) = codes "  here: " ++ word_of name item ++ written item
 
--- of a token that does not fit that a `;` stands where no statement is open, or which word has to stand there
-unfoldable pub syntax_hint : List ℕ → ℕ → List ℕ
-syntax_hint text place =
-    if is_stray text place then codes "  No `;` stands here: a class ends with its `}`, and each statement with one `;`.\n"
-    else report_item (item_in (take place text))
+-- of a statement that may not stand where it does which may stand where
+unfoldable pub place_words : List ℕ
+place_words = codes "  Not here: `TIMER` and `LIMITS` stand before the first class, `DEF_CLASS` and `CLASS` outside of classes. A `}` ends a class.\n"
+
+-- of a token that does not fit that a `;` or a `}` stands where nothing is open, that a statement stands at the wrong place, or which word has to stand there
+unfoldable pub syntax_hint : List ℕ → ℕ → List ℕ → List ℕ
+syntax_hint text place word =
+    if is_stray text place then codes "  No `;` and no `}` stands here: a class ends with one `}`, and each statement with one `;`.\n"
+    else (if is_misplaced text place word then place_words else report_item (item_in (take place text)))
 
 -- what is told of the word at a place, with this fault
 abbrev pub hint_as : ConfigKind → List ℕ → ℕ → List ℕ → List ℕ
-hint_as kinds.Syntax text place word = syntax_hint text place
+hint_as kinds.Syntax text place word = syntax_hint text place word
 hint_as kinds.NameTaken text place word = taken_hint (take place text) word
 hint_as kinds.BadAttribute text place word = attribute_hint (statement_at text place word) word
 hint_as kinds.Unsupported text place word = statement_hint word

@@ -122,9 +122,14 @@ awaits_class opened = option_map_or (λ o. is_definition o.name && is_name (item
 abbrev pub awaits_name : Option Opened → Bool
 awaits_name opened = option_map_or (λ o. is_name (item_at o.scan o.rest)) opened false
 
--- a `;` at a place where no statement is open
+-- a `;` or a `}` at a place where no statement is open
 unfoldable pub is_stray : List ℕ → ℕ → Bool
-is_stray text place = is_some (following 59 (drop place text)) && is_none (opened_in (take place text))
+is_stray text place =
+    (is_some (following 59 (drop place text)) || is_some (following 125 (drop place text))) && is_none (opened_in (take place text))
+
+-- the first word of a statement at such a place
+unfoldable pub is_misplaced : List ℕ → ℕ → List ℕ → Bool
+is_misplaced text place word = is_some (statement_of word) && is_none (opened_in (take place text))
 
 -- only a token that does not fit tells what is missing before it
 abbrev pub missing_at : List ℕ → ℕ → ConfigKind → Option (StatementName × ℕ)

@@ -5,7 +5,7 @@ ghost use Rattle.fmp_cli_hints_config.specs.Configs as spec;
 
 use crate::foreign::{foreign_spot, put_numbered, words_at};
 use crate::hints::put_word_hint;
-use crate::opened::{end_of_text, is_stray, missing_at};
+use crate::opened::{end_of_text, is_misplaced, is_stray, missing_at};
 use crate::projects::put_project_line;
 use crate::statements::statement_at;
 use fmp_bytes::cut;
@@ -82,6 +82,15 @@ fn put_form(out: &mut Vec<u8>, name: Option<StatementName>) -> Result<(), AllocE
     }
 }
 
+/// Whether nothing is wrong with the form of a statement: none is open, or it stands at the wrong place.
+fn is_formed(text: &[u8], place: usize, word: &[u8]) -> bool
+    requires within { place ≤ length text.now }
+    requires few { length text.now ≤ most_bytes }
+    ensures { result ≡ spec.is_formed text.now place word.now }
+{
+    is_stray(text, place) || is_misplaced(text, place, word)
+}
+
 /// Adds the form of the statement at the place of a fault, if the fault is told with it.
 #[tactic(auto, unfolding(crate::specs::Configs::form_at))]
 fn put_form_at(
@@ -94,7 +103,7 @@ fn put_form_at(
     requires few { length text.now ≤ most_bytes }
     ensures { OnOk result (out.new.items ≡ out.old.items ++ spec.form_at text.now place fault.now) }
 {
-    if wants_form(fault.kind) && !is_stray(text, place) {
+    if wants_form(fault.kind) && !is_formed(text, place, fault.word.as_bytes()) {
         put_form(out, statement_at(text, place, fault.word.as_bytes()))
     } else {
         Ok(())

@@ -5,7 +5,7 @@ ghost use Rattle.fmp_cli_hints_config.specs.Hints as spec;
 
 use crate::classes::near_class;
 use crate::numbers::put_number_hint;
-use crate::opened::{is_stray, item_in};
+use crate::opened::{is_misplaced, is_stray, item_in};
 use crate::statements::statement_at;
 use crate::taken::put_taken_hint;
 use fmp_bytes::following;
@@ -72,17 +72,34 @@ fn put_item(out: &mut Vec<u8>, item: Option<(StatementName, Item)>) -> Result<()
     out.extend_from_slice(written(item))
 }
 
-/// Adds what is told of a token that does not fit: that a `;` stands where no statement is open, or which word has to stand there.
+/// What is told of a statement that may not stand where it does.
+#[tactic(auto, unfolding(crate::specs::Hints::place_words))]
+fn place_words() -> &'static [u8]
+    ensures { result.now ≡ spec.place_words }
+{
+    b"  Not here: `TIMER` and `LIMITS` stand before the first class, `DEF_CLASS` and `CLASS` outside of classes. A `}` ends a class.\n"
+}
+
+/// Adds what is told of a token that does not fit: that a `;` or a `}` stands where nothing is open, that a statement stands at the
+/// wrong place, or which word has to stand there.
 #[tactic(auto, unfolding(crate::specs::Hints::syntax_hint))]
-fn put_syntax_hint(out: &mut Vec<u8>, text: &[u8], place: usize) -> Result<(), AllocError>
+fn put_syntax_hint(
+    out: &mut Vec<u8>,
+    text: &[u8],
+    place: usize,
+    word: &[u8],
+) -> Result<(), AllocError>
     requires within { place ≤ length text.now }
     requires few { length text.now ≤ most_bytes }
-    ensures { OnOk result (out.new.items ≡ out.old.items ++ spec.syntax_hint text.now place) }
+    ensures { OnOk result (out.new.items ≡ out.old.items ++ spec.syntax_hint text.now place word.now) }
 {
     if is_stray(text, place) {
         return out.extend_from_slice(
-            b"  No `;` stands here: a class ends with its `}`, and each statement with one `;`.\n",
+            b"  No `;` and no `}` stands here: a class ends with one `}`, and each statement with one `;`.\n",
         );
+    }
+    if is_misplaced(text, place, word) {
+        return out.extend_from_slice(place_words());
     }
     put_item(out, item_in(&text[..place]))
 }
@@ -102,7 +119,7 @@ pub(crate) fn put_word_hint(
 {
     let word = fault.word.as_bytes();
     match fault.kind {
-        ConfigKind::Syntax => put_syntax_hint(out, text, place),
+        ConfigKind::Syntax => put_syntax_hint(out, text, place, word),
         ConfigKind::NameTaken => put_taken_hint(out, &text[..place], word),
         ConfigKind::BadAttribute => {
             put_attribute_hint(alloc, out, statement_at(text, place, word), word)

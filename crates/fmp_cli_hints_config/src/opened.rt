@@ -210,14 +210,26 @@ pub(crate) fn awaits_name(opened: &Option<Opened>) -> bool
     }
 }
 
-/// Whether a `;` stands at a place where no statement is open.
+/// Whether a `;` or a `}` stands at a place where no statement is open.
 #[tactic(auto, unfolding(crate::specs::Opened::is_stray))]
 pub(crate) fn is_stray(text: &[u8], place: usize) -> bool
     requires within { place ≤ length text.now }
     requires few { length text.now ≤ most_bytes }
     ensures { result ≡ spec.is_stray text.now place }
 {
-    following(b';', &text[place..]).is_some() && opened_in(&text[..place]).is_none()
+    let rest = &text[place..];
+    (following(b';', rest).is_some() || following(b'}', rest).is_some())
+        && opened_in(&text[..place]).is_none()
+}
+
+/// Whether the first word of a statement stands at a place where no statement is open.
+#[tactic(auto, unfolding(crate::specs::Opened::is_misplaced))]
+pub(crate) fn is_misplaced(text: &[u8], place: usize, word: &[u8]) -> bool
+    requires within { place ≤ length text.now }
+    requires few { length text.now ≤ most_bytes }
+    ensures { result ≡ spec.is_misplaced text.now place word.now }
+{
+    find_statement(word).is_some() && opened_in(&text[..place]).is_none()
 }
 
 /// The statement that is open at the end of a text, and the word that has to follow, where it has to be a word.
