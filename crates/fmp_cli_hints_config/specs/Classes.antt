@@ -1,5 +1,5 @@
 -- The class that is nearest to a word.
-use Rattle.std.specs.Prelude.{ℕ, Bool, not, ◌&&◌, false, List, [], ◌∷◌, take, Option, None, if◌then◌else◌}
+use Rattle.std.specs.Prelude.{ℕ, Bool, not, ◌&&◌, false, List, [], ◌∷◌, Option, None, if◌then◌else◌}
 use Rattle.fmp_cli_hints_config.specs.Opened.{Opened, awaits_class, after_token, is_inside}
 use Rattle.fmp_cli_help.specs.Near.{nearer}
 use Rattle.fmp_config_tokens.specs.Lexing.{Lexeme, lexed_text}

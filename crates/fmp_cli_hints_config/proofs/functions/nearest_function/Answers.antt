@@ -1,4 +1,4 @@
-use Rattle.std.proofs.Common.{◌≡◌, ◌≤◌, ◌-◌, ◌+◌, ℕ, List, Option, Some, None, drop, ap, sym, ◌∙◌, arith}
+use Rattle.std.proofs.Common.{◌≡◌, ◌≤◌, ◌-◌, ◌+◌, ℕ, List, Option, drop, ap, sym, ◌∙◌, arith}
 use Rattle.std.specs.Option.{option_copied}
 use Rattle.fmp_calls.specs.declared.kinds.NameKind.TheVariants.{Function}
 use Rattle.fmp_cli_help.specs.Near.{nearest}
