@@ -3,7 +3,7 @@ use Rattle.std.specs.Prelude.{ℕ, Bool, true, false, ◌&&◌, ◌==◌, List, 
 use Rattle.std.specs.Char.{is_ascii_digit}
 use Rattle.std.specs.List.{starts_with}
 use Rattle.std.specs.Option.{option_map_or}
-use Rattle.fmp_bytes.specs.Bytes.{colon, comma, cut_at, following, open_parenthesis}
+use Rattle.fmp_bytes.specs.Bytes.{colon, comma, cut_at, equals_sign, following, open_parenthesis}
 use Rattle.fmp_calls.specs.Table.{kinds_of, named}
 use Rattle.fmp_calls.specs.declared.kinds.ArgumentKind.{ArgumentKind}
 use Rattle.fmp_calls.specs.declared.kinds.ArgumentKind.TheVariants as kinds
@@ -27,7 +27,7 @@ goes_on (Some []) = false
 goes_on (Some (b ∷ bytes)) = true
 
 abbrev pub is_joined : List ℕ → Bool
-is_joined word = goes_on (cut_at comma word).1
+is_joined word = goes_on (cut_at comma word).1 && is_none (cut_at equals_sign word).1
 
 unfoldable pub bracket_words : List ℕ
 bracket_words = codes "  A question has no brackets: `&` binds closer than `or`.\n"

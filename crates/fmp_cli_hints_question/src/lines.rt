@@ -112,13 +112,13 @@ fn other_hint(word: &[u8]) -> &'static [u8]
     }
 }
 
-/// Whether a comma of a word stands before other bytes.
+/// Whether a comma of a word stands before other bytes. After a `=` there may be such commas.
 fn is_joined(word: &[u8]) -> bool
     ensures { result ≡ spec.is_joined word.now }
 {
     match cut(b',', word).1 {
         None | Some([]) => false,
-        Some([_, ..]) => true,
+        Some([_, ..]) => cut(b'=', word).1.is_none(),
     }
 }
 
