@@ -9,7 +9,6 @@ use Rattle.fmp_calls.specs.declared.kinds.ObjectKind.{ObjectKind}
 use Rattle.fmp_calls.specs.declared.kinds.NameKind.TheVariants.{Object}
 use Rattle.fmp_calls.specs.Kinds.{place_of}
 use Rattle.std.specs.Global.{Vec}
-use Rattle.indexmap.specs.IndexSet.{IndexSet}
 use Rattle.fmp_names.specs.Names.{NameLists, name_of, texts}
 use Rattle.fmp_names.specs.Pieces.{AreExtended, AreFronts, IsPieceSet}
 
@@ -62,9 +61,9 @@ front_name lists kind place n pieces p placed fronts few there some =
     let test : eqb n 0 ≡ false = ne_eqb n 0 (λ e. omega (arith, front.1, e)) in
     rw (test, ← placed) front.2
 
--- how many names a kind has, by its set of names
-pub names_at : {S : Type 0} (objects : List (IndexSet (Vec ℕ) S)) (place : ℕ) (names : IndexSet (Vec ℕ) S) → place < length (map texts objects) → names ≡ get_or objects place names
-    → length (get_or (map texts objects) place []) ≡ length names.keys
+-- how many names a kind has, by its list of names
+pub names_at : (objects : List (Vec (Vec ℕ))) (place : ℕ) (names : Vec (Vec ℕ)) → place < length (map texts objects) → names ≡ get_or objects place names
+    → length (get_or (map texts objects) place []) ≡ length names.items
 names_at objects place names within is =
     ap (λ (l : List (List ℕ)). length l) (get_or-map texts objects place names [] (omega (arith, within, length-map objects texts)))
-    ∙ ap (λ (s : IndexSet (Vec ℕ) _). length (texts s)) (sym is) ∙ length-map names.keys (λ (v : Vec ℕ). v.items)
+    ∙ ap (λ (s : Vec (Vec ℕ)). length (texts s)) (sym is) ∙ length-map names.items (λ (v : Vec ℕ). v.items)

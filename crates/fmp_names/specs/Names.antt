@@ -7,8 +7,6 @@ use Rattle.std.specs.Map.{keys_of, lookup}
 use Rattle.std.specs.Option.{option_map_or}
 use Rattle.std.specs.Global.{Vec}
 use Rattle.std.specs.Str.{bytes_eq}
-use Rattle.indexmap.specs.IndexMap.{IndexMap}
-use Rattle.indexmap.specs.IndexSet.{IndexSet}
 use Rattle.fmp_bytes.specs.Bytes.{following, is_identifier, letter_p}
 use Rattle.fmp_bytes.specs.Numerals.{are_digits}
 use Rattle.fmp_names.specs.Constants.{constant_in}
@@ -132,16 +130,16 @@ pub record AreValid (lists : NameLists) : Type 0 where
   pub distinct : (name : List ℕ) → sum_by (times name) lists.objects + times name (defined_names lists) ≤ 1
   pub functions_distinct : (name : List ℕ) → times name lists.functions ≤ 1
 
--- the names of an index set, in its order
-abbrev pub texts : {S : Type 0} → IndexSet (Vec ℕ) S → List (List ℕ)
-texts set = map (λ v. v.items) set.keys
+-- the names of a list
+abbrev pub texts : Vec (Vec ℕ) → List (List ℕ)
+texts list = map (λ v. v.items) list.items
 
--- the entries of an index map from names to numbers, in its order
-abbrev pub definitions : {S : Type 0} → IndexMap (Vec ℕ) ℕ S → List (List ℕ × ℕ)
-definitions table = map (λ e. (e.0.items, e.1)) table.entries
+-- the names of a list with the numbers that they stand for
+abbrev pub definitions : Vec (Vec ℕ × ℕ) → List (List ℕ × ℕ)
+definitions list = map (λ e. (e.0.items, e.1)) list.items
 
 -- the lists that tables of names hold
-abbrev pub lists_of : {S T : Type 0} → ℕ → List (IndexSet (Vec ℕ) S) → IndexSet (Vec ℕ) S → IndexMap (Vec ℕ) ℕ T → NameLists
+abbrev pub lists_of : ℕ → List (Vec (Vec ℕ)) → Vec (Vec ℕ) → Vec (Vec ℕ × ℕ) → NameLists
 lists_of processors objects functions defined = record {
   processors = processors;
   objects = map texts objects;

@@ -1,10 +1,11 @@
 //! The names of a configuration.
-ghost use Rattle.std.specs.Prelude.{◌≡◌, ◌≤◌, ◌++◌, ◌∷◌, [], ◌<◌, map, get_or, slice_set, OnOk, OnErr, IfSome, Some, slice_get, take, option_map, pos, true, false};
-ghost use Rattle.std.specs.Prelude.{IsTrue, ◌↔◌};
+ghost use Rattle.std.specs.Prelude.{◌≡◌, ◌≤◌, ◌++◌, ◌∷◌, [], ◌<◌, map, get_or, slice_set, OnOk, OnErr, IfSome, Some, slice_get, take, option_map, pos, true, false, length, position};
+ghost use Rattle.std.specs.Prelude.{IsTrue, ◌↔◌, ◌&&◌, nat_eq};
+ghost use Rattle.std.specs.Cmp.Lexicographic.{pointwise};
 ghost use Rattle.std.specs.Option.{option_copied};
 ghost use Rattle.std.specs.List.{list_any};
-ghost use Rattle.std.specs.Map.{keys_of};
-ghost use Rattle.indexmap.specs.IndexSet.{index_set_len};
+ghost use Rattle.std.specs.Map.{keys_of, lookup};
+ghost use Rattle.std.specs.Str.{bytes_eq};
 ghost use Rattle.fmp_calls.specs.declared.kinds.ObjectKind.{ObjectKind};
 ghost use Rattle.fmp_calls.specs.Kinds.{most_of};
 ghost use Rattle.fmp_calls.specs.Known.{IsKnown};
@@ -15,7 +16,6 @@ use crate::likely::Likely;
 use crate::pieces::{Piece, Pieces};
 use fmp_bytes::{are_digits, following, is_identifier};
 use fmp_calls::{KnownCall, NameKind, ObjectKind};
-use indexmap::{IndexMap, IndexSet};
 use std::alloc::{AllocError, Global};
 use std::marker::Model;
 
@@ -32,9 +32,9 @@ pub const MOST_DEFINED: usize = 1024;
 pub struct Names {
     alloc: Global,
     processors: u8,
-    objects: [IndexSet<Vec<u8>>; 8],
-    functions: IndexSet<Vec<u8>>,
-    defined: IndexMap<Vec<u8>, u32>,
+    objects: [Vec<Vec<u8>>; 8],
+    functions: Vec<Vec<u8>>,
+    defined: Vec<(Vec<u8>, u32)>,
     /// What words may name, for readers that compare a name before they believe it.
     likely: Likely,
     /// The short names of objects, for printing.
@@ -88,34 +88,65 @@ pub fn is_reserved(word: &[u8]) -> bool
     word == b"idle".as_slice() || is_processor_word(word) || is_constant(word)
 }
 
-/// Whether the set holds a name of exactly these bytes.
+/// Whether one of the texts has exactly these bytes.
+fn is_among(list: &[Vec<u8>], name: &[u8]) -> bool
+    ensures { result ≡ list_any (λ v. bytes_eq name.now v.items) list.now }
+{
+    list.iter().any(|it| name == it.as_slice())
+}
+
+/// Whether the list holds a name of exactly these bytes.
 #[tactic(auto, using(crate::proofs::Listed::list_any_map))]
-fn has_name(set: &IndexSet<Vec<u8>>, name: &[u8]) -> bool
+fn has_name(set: &Vec<Vec<u8>>, name: &[u8]) -> bool
     ensures { result ≡ spec.has_name (spec.texts set.now) name.now }
 {
-    set.contains(name)
+    is_among(set, name)
+}
+
+/// The place of a name in a list.
+fn index_of(list: &Vec<Vec<u8>>, name: &[u8]) -> Option<usize>
+    ensures index { result ≡ position (λ v. bytes_eq name.now v.items) list.now.items }
+    ensures within { IfSome result (λ i. i < length list.now.items) }
+{
+    list.iter().position(|it| name == it.as_slice())
+}
+
+/// The number that the name stands for in a list of definitions.
+fn number_among(defined: &[(Vec<u8>, u32)], name: &[u8]) -> Option<u32>
+    ensures { result ≡ lookup (λ v. bytes_eq name.now v.items) defined.now }
+{
+    match defined {
+        [] => None,
+        [first, rest @ ..] => {
+            if name == first.0.as_slice() {
+                Some(first.1)
+            } else {
+                number_among(rest, name)
+            }
+        }
+    }
 }
 
 /// Whether the objects of at least one kind have this name among theirs.
-fn some_has_name(sets: &[IndexSet<Vec<u8>>; 8], name: &[u8]) -> bool
+fn some_has_name(sets: &[Vec<Vec<u8>>; 8], name: &[u8]) -> bool
     ensures { result ≡ list_any (λ set. spec.has_name (spec.texts set) name.now) sets.now }
 {
     sets.iter().any(|set| has_name(set, name))
 }
 
 /// Adds a name after all others of the set, which must not hold it yet. An `Err` changes nothing.
-fn insert_name(set: &mut IndexSet<Vec<u8>>, name: Vec<u8>) -> Result<(), AllocError>
+fn insert_name(set: &mut Vec<Vec<u8>>, name: Vec<u8>) -> Result<(), AllocError>
     requires { spec.has_name (spec.texts set.old) name.items ≡ false }
     ensures ok { OnOk result (spec.texts set.new ≡ spec.texts set.old ++ name.items ∷ []) }
     ensures err { OnErr result (spec.texts set.new ≡ spec.texts set.old) }
 {
-    set.insert(name)?;
+    set.push(name)?;
     Ok(())
 }
 
 /// Adds a name after the others of the kind at this place, which must not have it yet. An `Err` changes nothing.
 fn insert_object(
-    objects: &mut [IndexSet<Vec<u8>>; 8],
+    objects: &mut [Vec<Vec<u8>>; 8],
     place: usize,
     name: Vec<u8>,
 ) -> Result<(), AllocError>
@@ -131,7 +162,7 @@ fn insert_object(
 /// Keeps in mind that the next object of a kind has this name.
 fn remember(
     likely: &mut Likely,
-    objects: &[IndexSet<Vec<u8>>; 8],
+    objects: &[Vec<Vec<u8>>; 8],
     kind: ObjectKind,
     name: &[u8],
 ) -> Result<(), AllocError> {
@@ -141,7 +172,7 @@ fn remember(
 
 /// Adds a name that is not defined yet with the number that it stands for, after all others. An `Err` changes nothing.
 fn insert_definition(
-    defined: &mut IndexMap<Vec<u8>, u32>,
+    defined: &mut Vec<(Vec<u8>, u32)>,
     name: Vec<u8>,
     number: u32,
 ) -> Result<(), AllocError>
@@ -149,19 +180,47 @@ fn insert_definition(
     ensures ok { OnOk result (spec.definitions defined.new ≡ spec.definitions defined.old ++ (name.items, number) ∷ []) }
     ensures err { OnErr result (spec.definitions defined.new ≡ spec.definitions defined.old) }
 {
-    defined.insert(name, number)?;
+    defined.push((name, number))?;
     Ok(())
 }
 
+/// Whether both have the same texts in the same order.
+fn are_same_texts(one: &[Vec<u8>], other: &[Vec<u8>]) -> bool
+    ensures { result ≡ pointwise (λ x y. bytes_eq x.items y.items) one.now other.now }
+{
+    match one {
+        [] => other.is_empty(),
+        [a, ones @ ..] => match other {
+            [] => false,
+            [b, others @ ..] => a.as_slice() == b.as_slice() && are_same_texts(ones, others),
+        },
+    }
+}
+
+/// Whether both have the same texts with the same numbers in the same order.
+fn are_same_pairs(one: &[(Vec<u8>, u32)], other: &[(Vec<u8>, u32)]) -> bool
+    ensures { result ≡ pointwise (λ x y. bytes_eq x.0.items y.0.items && nat_eq x.1 y.1) one.now other.now }
+{
+    match one {
+        [] => other.is_empty(),
+        [a, ones @ ..] => match other {
+            [] => false,
+            [b, others @ ..] => {
+                a.0.as_slice() == b.0.as_slice() && a.1 == b.1 && are_same_pairs(ones, others)
+            }
+        },
+    }
+}
+
 /// Whether both hold the same names in the same order.
-fn is_same_set(one: &IndexSet<Vec<u8>>, other: &IndexSet<Vec<u8>>) -> bool
+fn is_same_set(one: &Vec<Vec<u8>>, other: &Vec<Vec<u8>>) -> bool
     ensures { IsTrue result ↔ (spec.texts one.now ≡ spec.texts other.now) }
 {
-    one.as_slice() == other.as_slice()
+    are_same_texts(one, other)
 }
 
 /// Whether in each kind of objects both have the same names in the same order.
-fn are_same_sets(one: &[IndexSet<Vec<u8>>; 8], other: &[IndexSet<Vec<u8>>; 8]) -> bool
+fn are_same_sets(one: &[Vec<Vec<u8>>; 8], other: &[Vec<Vec<u8>>; 8]) -> bool
     ensures { IsTrue result ↔ (map spec.texts one.now ≡ map spec.texts other.now) }
 {
     for place in 0..8 {
@@ -173,10 +232,10 @@ fn are_same_sets(one: &[IndexSet<Vec<u8>>; 8], other: &[IndexSet<Vec<u8>>; 8]) -
 }
 
 /// Whether both define the same names in the same order, and for the same numbers.
-fn are_same_definitions(one: &IndexMap<Vec<u8>, u32>, other: &IndexMap<Vec<u8>, u32>) -> bool
+fn are_same_definitions(one: &Vec<(Vec<u8>, u32)>, other: &Vec<(Vec<u8>, u32)>) -> bool
     ensures { IsTrue result ↔ (spec.definitions one.now ≡ spec.definitions other.now) }
 {
-    one.as_slice() == other.as_slice()
+    are_same_pairs(one, other)
 }
 
 impl Names {
@@ -190,17 +249,17 @@ impl Names {
             alloc,
             processors,
             objects: [
-                IndexSet::new(alloc),
-                IndexSet::new(alloc),
-                IndexSet::new(alloc),
-                IndexSet::new(alloc),
-                IndexSet::new(alloc),
-                IndexSet::new(alloc),
-                IndexSet::new(alloc),
-                IndexSet::new(alloc),
+                Vec::new(alloc),
+                Vec::new(alloc),
+                Vec::new(alloc),
+                Vec::new(alloc),
+                Vec::new(alloc),
+                Vec::new(alloc),
+                Vec::new(alloc),
+                Vec::new(alloc),
             ],
-            functions: IndexSet::new(alloc),
-            defined: IndexMap::new(alloc),
+            functions: Vec::new(alloc),
+            defined: Vec::new(alloc),
             likely: Likely::new(alloc),
             pieces: Pieces::new(alloc),
         }
@@ -297,14 +356,14 @@ impl Names {
     pub fn defined(&self, name: &[u8]) -> Option<u32>
         ensures { result ≡ spec.number_defined self.now name.now }
     {
-        self.defined.get(name).copied()
+        number_among(&self.defined, name)
     }
 
     /// Whether this name stands for a number.
     pub fn contains_defined(&self, name: &[u8]) -> bool
         ensures { result ≡ spec.is_defined self.now name.now }
     {
-        self.defined.contains_key(name)
+        self.defined(name).is_some()
     }
 
     /// Whether two have the same number of processors and the same names in the same order, the defined ones with the same numbers.
@@ -333,7 +392,7 @@ impl Names {
         ensures most { (k : ObjectKind) → kind ≡ NameKind.Object k → IfSome result (λ n. n ≤ most_of k) }
     {
         let list = self.list(kind);
-        let index = list.get_index_of(name)?;
+        let index = index_of(list, name)?;
         let count = list.len();
         prove!(index < count);
         Some(index + 1)
@@ -387,14 +446,14 @@ impl Names {
     fn nth(&self, kind: NameKind, index: usize) -> Option<&[u8]>
         ensures { option_copied result ≡ slice_get (spec.names_of self.now kind) index }
     {
-        let name = self.list(kind).get_index(index)?;
+        let name = self.list(kind).get(index)?;
         Some(name.as_slice())
     }
 
     /// The names of the kind, in the order of their numbers.
-    fn list(&self, kind: NameKind) -> &IndexSet<Vec<u8>>
+    fn list(&self, kind: NameKind) -> &Vec<Vec<u8>>
         ensures names { spec.texts result.now ≡ spec.names_of self.now kind }
-        ensures most { (k : ObjectKind) → kind ≡ NameKind.Object k → index_set_len result.now ≤ most_of k }
+        ensures most { (k : ObjectKind) → kind ≡ NameKind.Object k → length result.now.items ≤ most_of k }
     {
         match kind {
             NameKind::Object(kind) => &self.objects[kind.place()],

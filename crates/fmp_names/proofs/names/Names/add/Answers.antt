@@ -33,7 +33,7 @@ invariant_of-self-in-Object c =
     let kinds = c.self.invariant.0.kinds in
     let within : c.place-place.result < length (map texts c.self.inside.objects) = omega (arith, kinds, placed.within) in
     let names = names_at c.self.inside.objects c.place-place.result c.index-self-place.result within c.index-self-place.is in
-    let long : c.len-number.result + 1 ≡ length (get_or (map texts c.self.inside.objects) c.place-place.result []) + 1 = let counted = rw (← c.index-self-place.is) at c.len-number.ensures.len in omega (arith, names, counted) in
+    let long : c.len-number.result + 1 ≡ length (get_or (map texts c.self.inside.objects) c.place-place.result []) + 1 = let counted = rw (← c.index-self-place.is) at c.len-number.ensures in omega (arith, names, counted) in
     let limit = rw (← placed.value) at (c.self.invariant.0.limits c.in-Object.kind) in
     let copied = c.in_ok-copy.ensures.items in (
       valid,
