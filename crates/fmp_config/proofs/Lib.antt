@@ -3,6 +3,7 @@ pub mod Ranges  -- The numbers of a statement are in their ranges, and an object
 pub mod Places  -- Where a statement stands that may stand there.
 pub mod Whole  -- A statement of which all parts were read has the names that it has to have.
 pub mod Words  -- Which bytes are a text.
+pub mod Table  -- The defined names in their table.
 pub mod Defined  -- What was read stays sound where a name is defined.
 pub mod Created  -- What was read stays sound where an object is created.
 pub mod Turned  -- Reading token after token, as a loop does.

@@ -4,9 +4,7 @@ use Rattle.std.specs.Prelude.{Bool, true, false, Option, None}
 use Rattle.fmp_config.specs.declared.draft.OpenClass.{OpenClass}
 use Rattle.fmp_config.specs.declared.draft.Phase.{Phase}
 use Rattle.fmp_config.specs.declared.draft.Phase.TheVariants as phases
-use Rattle.fmp_config.specs.declared.draft.Draft.{Draft as Drafted}
 use Rattle.fmp_setup.specs.Building.{of_processors}
-use Rattle.fmp_setup.specs.Parts.{setup_of}
 use Rattle.fmp_setup.specs.Setup.{Setup}
 
 -- the configuration so far, the class whose statements follow, how far the text has come, and which statements stood
@@ -16,9 +14,6 @@ pub record Draft : Type 0 where
   pub phase : Phase
   pub timer_stood : Bool
   pub limits_stood : Bool
-
-abbrev pub draft_of : Drafted → Draft
-draft_of d = record { setup = setup_of d.parts.value; open_class = d.open_class; phase = d.phase; timer_stood = d.timer_stood; limits_stood = d.limits_stood }
 
 -- before the first statement
 abbrev pub blank_draft : Draft

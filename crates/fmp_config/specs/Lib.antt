@@ -1,4 +1,6 @@
+pub mod Indexed  -- The table of the defined names.
 pub mod Drafts  -- What was read of a configuration.
+pub mod Drafted  -- What a draft holds.
 pub mod Numbers  -- The numbers of a statement, and classes.
 pub mod Places  -- Where a statement may stand.
 pub mod Objects  -- A name that is to be new, and what the statement of an object says, or its first fault.

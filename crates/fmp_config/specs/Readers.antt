@@ -2,7 +2,7 @@
 use Rattle.std.specs.Prelude.{Bool, Option, Some, None, if◌then◌else◌}
 use Rattle.fmp_config_statements.specs.Forms.{Form}
 use Rattle.fmp_config.specs.declared.reader.Reader.{Reader}
-use Rattle.fmp_config.specs.Drafts.{draft_of}
+use Rattle.fmp_config.specs.Drafted.{draft_of}
 use Rattle.fmp_config.specs.Reading.{State}
 
 -- a statement, while its tokens follow

@@ -7,8 +7,8 @@ ghost use Rattle.fmp_config.specs.Judging as spec;
 ghost use Rattle.fmp_config.specs.Objects as objects;
 ghost use Rattle.fmp_config.specs.Places as places;
 ghost use Rattle.fmp_config.specs.Sound.{Fit};
-ghost use Rattle.fmp_setup.specs.Parts.{setup_of};
 
+use crate::indexed::IndexedParts;
 use crate::numbers::{Numbers, class_of, number_within, numbers_of};
 use fmp_calls::{NameKind, ObjectKind};
 use fmp_codes::{Pri, Proc};
@@ -17,7 +17,7 @@ use fmp_config_statements::{
     attributes_in,
 };
 use fmp_setup::{
-    Class, CyclicFields, DataQueueSetup, EventflagSetup, Fields, Limits, Order, Parts, PoolSetup,
+    Class, CyclicFields, DataQueueSetup, EventflagSetup, Fields, Limits, Order, PoolSetup,
     SemaphoreSetup, TaskFields, Timer,
 };
 use std::alloc::{AllocError, Global};
@@ -46,7 +46,7 @@ const MOST_CLASSES: usize = 32;
 /// The parts that were read, the class whose statements follow, how far the text has come, and which statements stood.
 #[derive(Drop)]
 pub struct Draft {
-    pub parts: Box<Parts>,
+    pub parts: IndexedParts,
     pub open_class: Option<OpenClass>,
     phase: Phase,
     timer_stood: bool,
@@ -55,9 +55,14 @@ pub struct Draft {
 
 /// A name that is to be new, where there is room for one more.
 #[tactic(auto, unfolding(crate::specs::Objects::new_name))]
-fn new_name<'a>(parts: &Parts, room: bool, line: u32, name: &Word<'a>) -> Result<(), Fault<'a>>
-    ensures value { result ≡ objects.new_name (setup_of parts.now) room line name.now }
-    ensures new { OnOk result (is_refused (setup_of parts.now) name.now.text ≡ false) }
+fn new_name<'a>(
+    parts: &IndexedParts,
+    room: bool,
+    line: u32,
+    name: &Word<'a>,
+) -> Result<(), Fault<'a>>
+    ensures value { result ≡ objects.new_name parts.now room line name.now }
+    ensures new { OnOk result (is_refused parts.now name.now.text ≡ false) }
     ensures room { OnOk result (room ≡ true) }
 {
     if parts.is_refused(name.text()) {
@@ -207,25 +212,25 @@ fn fields_of(kind: ObjectKind, attributes: Attributes, numbers: Numbers) -> Fiel
 /// The fields of an object that is created in a class, or the first fault.
 #[tactic(auto, using(crate::proofs::Ranges::fit), unfolding(crate::specs::Objects::fields_in))]
 fn fields_in<'a>(
-    parts: &Parts,
+    parts: &IndexedParts,
     class: &Class,
     kind: ObjectKind,
     form: &Form<'a>,
 ) -> Result<Fields, Fault<'a>>
-    requires { (setup_of parts.now).limits.priorities ≤ 32 }
-    ensures value { result ≡ objects.fields_in (setup_of parts.now) class.now kind form.now }
-    ensures new { OnOk result (is_refused (setup_of parts.now) form.now.pieces.name.text ≡ false) }
-    ensures room { OnOk result (has_room (setup_of parts.now).names (Object kind) ≡ true) }
+    requires { parts.now.limits.priorities ≤ 32 }
+    ensures value { result ≡ objects.fields_in parts.now class.now kind form.now }
+    ensures new { OnOk result (is_refused parts.now form.now.pieces.name.text ≡ false) }
+    ensures room { OnOk result (has_room parts.now.names (Object kind) ≡ true) }
     ensures kind { IfOk result (λ f. kind_of f ≡ kind) }
 {
     let (line, pieces) = (form.line(), form.pieces());
     new_name(
         parts,
-        parts.names.has_room(NameKind::Object(kind)),
+        parts.plain().names.has_room(NameKind::Object(kind)),
         line,
         pieces.name(),
     )?;
-    served(parts.timer, class, kind, line, pieces.name())?;
+    served(parts.plain().timer, class, kind, line, pieces.name())?;
     let attributes = attributes_in(allowed(kind), pieces.series())?;
     let numbers = numbers_of(parts, StatementName::Create(kind), pieces)?;
     fitting_counts(kind, numbers, pieces.first())?;
@@ -234,24 +239,24 @@ fn fields_in<'a>(
 
 /// The processors whose ticks count: each for itself, or the one that is named.
 #[tactic(auto, unfolding(crate::specs::Judging::timer_of))]
-fn timer_of<'a>(parts: &Parts, word: &Word<'a>) -> Result<Timer, Fault<'a>>
-    ensures { result ≡ spec.timer_of (setup_of parts.now) word.now }
+fn timer_of<'a>(parts: &IndexedParts, word: &Word<'a>) -> Result<Timer, Fault<'a>>
+    ensures { result ≡ spec.timer_of parts.now word.now }
 {
     if word.text().is_empty() {
         return Ok(Timer::Local);
     }
     let range = Range {
         least: 1,
-        most: u64::from(parts.names.processors()),
+        most: u64::from(parts.plain().names.processors()),
     };
-    let number = number_within(&parts.names, range, word)?;
+    let number = number_within(parts, range, word)?;
     Ok(Timer::Global(Proc::new(number as u8)))
 }
 
 impl Draft {
     ghost use Rattle.std.specs.Prelude.{◌≡◌, true, None};
     ghost use Rattle.fmp_config.specs.Drafts as drafts;
-    ghost use Rattle.fmp_config.specs.Drafts.{draft_of};
+    ghost use Rattle.fmp_config.specs.Drafted.{draft_of};
     ghost use Rattle.fmp_config.specs.Judging as spec;
     ghost use Rattle.fmp_config.specs.Objects as objects;
     ghost use Rattle.fmp_config.specs.Places as places;
@@ -265,7 +270,7 @@ impl Draft {
         ensures { IfOk result (λ d. draft_of d ≡ drafts.blank_draft) }
     {
         Ok(Draft {
-            parts: Box::new(alloc, Parts::new(alloc, 1))?,
+            parts: IndexedParts::blank(alloc)?,
             open_class: None,
             phase: Phase::Start,
             timer_stood: false,
@@ -315,13 +320,13 @@ impl Draft {
         requires { MayStandFor name.now number }
         ensures { Leads result (draft_of self.new) (spec.define (draft_of self.old) line name.now number) }
     {
-        if let Some(known) = self.parts.names.defined(name.text()) {
+        if let Some(known) = self.parts.defined(name.text()) {
             if u64::from(known) == number {
                 return Ok(());
             }
             return Err(Fault::at(ConfigKind::NameTaken, name).into());
         }
-        let room = self.parts.names.has_room_to_define();
+        let room = self.parts.plain().names.has_room_to_define();
         new_name(&self.parts, room, line, name)?;
         self.parts.define(name.text(), number as u32)?;
         Ok(())
@@ -415,7 +420,7 @@ impl Draft {
         ensures { Leads result (draft_of self.new) (spec.define_class (draft_of self.old) form.now) }
     {
         let (line, pieces) = (form.line(), form.pieces());
-        let room = self.parts.classes.len() < MOST_CLASSES;
+        let room = self.parts.plain().classes.len() < MOST_CLASSES;
         new_name(&self.parts, room, line, pieces.name())?;
         let class = class_of(&self.parts, line, pieces)?;
         self.parts.add_class(pieces.name().text(), class)?;
@@ -428,7 +433,7 @@ impl Draft {
         ensures { Leads result (draft_of self.new) (spec.begin_class (draft_of self.old) form.now) }
     {
         let name = form.pieces().name();
-        let Some(class) = self.parts.class_named(name.text()) else {
+        let Some(class) = self.parts.plain().class_named(name.text()) else {
             return Err(Fault::at(ConfigKind::UnknownClass, name).into());
         };
         let line = form.line();

@@ -10,6 +10,7 @@
 
 mod draft;
 mod fault;
+mod indexed;
 mod numbers;
 mod reader;
 mod reading;
@@ -18,6 +19,7 @@ pub use draft::{Draft, OpenClass, Phase};
 pub use fault::ConfigFault;
 pub use fmp_config_statements::ConfigKind;
 pub use fmp_setup::Config;
+pub use indexed::IndexedParts;
 pub use numbers::Numbers;
 pub use reader::Reader;
 pub use reading::{MOST_BYTES, read_config};

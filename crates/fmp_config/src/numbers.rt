@@ -1,13 +1,12 @@
 //! The numbers of a statement, and classes.
 ghost use Rattle.std.specs.Prelude.{◌≡◌, ◌≤◌, ◌<◌, ◌^◌, length, true, Some, IfOk};
 ghost use Rattle.fmp_config.specs.Numbers as spec;
-ghost use Rattle.fmp_setup.specs.Parts.{setup_of};
 ghost use Rattle.fmp_setup.specs.Valid.{is_class_of};
 
+use crate::indexed::IndexedParts;
 use fmp_codes::Proc;
 use fmp_config_statements::{ConfigKind, Fault, Pieces, Range, StatementName, Word, numeral};
-use fmp_names::Names;
-use fmp_setup::{Class, Parts, is_class_of};
+use fmp_setup::{Class, is_class_of};
 
 /// The numbers of a statement, 0 where it has none.
 #[derive(Clone, Copy)]
@@ -18,31 +17,35 @@ pub struct Numbers {
 
 /// What a text stands for: a numeral, or a defined name.
 #[tactic(auto, unfolding(crate::specs::Numbers::value_of))]
-fn value_of(names: &Names, text: &[u8]) -> Option<u64>
-    ensures { result ≡ spec.value_of names.now text.now }
+fn value_of(parts: &IndexedParts, text: &[u8]) -> Option<u64>
+    ensures { result ≡ spec.value_of parts.now.names text.now }
 {
     if let Some(number) = numeral(text) {
         return Some(number);
     }
-    names.defined(text).map(u64::from)
+    parts.defined(text).map(u64::from)
 }
 
 /// The number of a word, or its fault.
 #[tactic(auto, unfolding(crate::specs::Numbers::value_at))]
-pub fn value_at<'a>(names: &Names, word: &Word<'a>) -> Result<u64, Fault<'a>>
-    ensures { result ≡ spec.value_at names.now word.now }
+pub fn value_at<'a>(parts: &IndexedParts, word: &Word<'a>) -> Result<u64, Fault<'a>>
+    ensures { result ≡ spec.value_at parts.now.names word.now }
 {
-    value_of(names, word.text()).ok_or(Fault::at(ConfigKind::OutOfRange, word))
+    value_of(parts, word.text()).ok_or(Fault::at(ConfigKind::OutOfRange, word))
 }
 
 /// The number of a word in a range, or its fault.
 #[tactic(auto, unfolding(crate::specs::Numbers::number_within))]
-pub fn number_within<'a>(names: &Names, range: Range, word: &Word<'a>) -> Result<u64, Fault<'a>>
-    ensures value { result ≡ spec.number_within names.now range word.now }
+pub fn number_within<'a>(
+    parts: &IndexedParts,
+    range: Range,
+    word: &Word<'a>,
+) -> Result<u64, Fault<'a>>
+    ensures value { result ≡ spec.number_within parts.now.names range word.now }
     ensures least { IfOk result (λ n. range.least ≤ n) }
     ensures most { IfOk result (λ n. n ≤ range.most) }
 {
-    let number = value_at(names, word)?;
+    let number = value_at(parts, word)?;
     if range.least <= number && number <= range.most {
         Ok(number)
     } else {
@@ -52,29 +55,36 @@ pub fn number_within<'a>(names: &Names, range: Range, word: &Word<'a>) -> Result
 
 /// The number of a word where the statement has such a number, else 0.
 #[tactic(auto, unfolding(crate::specs::Numbers::number_at))]
-fn number_at<'a>(names: &Names, range: Option<Range>, word: &Word<'a>) -> Result<u64, Fault<'a>>
-    ensures value { result ≡ spec.number_at names.now range word.now }
+fn number_at<'a>(
+    parts: &IndexedParts,
+    range: Option<Range>,
+    word: &Word<'a>,
+) -> Result<u64, Fault<'a>>
+    ensures value { result ≡ spec.number_at parts.now.names range word.now }
     ensures range { IfOk result (λ n. spec.IsInRange range n) }
 {
     match range {
         None => Ok(0),
-        Some(range) => number_within(names, range, word),
+        Some(range) => number_within(parts, range, word),
     }
 }
 
 /// Both numbers of a statement, from left to right, or the first fault.
 #[tactic(auto, unfolding(crate::specs::Numbers::numbers_of))]
 pub fn numbers_of<'a>(
-    parts: &Parts,
+    parts: &IndexedParts,
     name: StatementName,
     pieces: &Pieces<'a>,
 ) -> Result<Numbers, Fault<'a>>
-    ensures value { result ≡ spec.numbers_of (setup_of parts.now) name pieces.now }
-    ensures ranges { IfOk result (λ n. spec.AreInRanges (setup_of parts.now) name n) }
+    ensures value { result ≡ spec.numbers_of parts.now name pieces.now }
+    ensures ranges { IfOk result (λ n. spec.AreInRanges parts.now name n) }
 {
-    let first_range = name.first_range(parts.names.processors(), parts.limits.priorities);
-    let first = number_at(&parts.names, first_range, pieces.first())?;
-    let second = number_at(&parts.names, name.second_range(), pieces.second())?;
+    let first_range = name.first_range(
+        parts.plain().names.processors(),
+        parts.plain().limits.priorities,
+    );
+    let first = number_at(parts, first_range, pieces.first())?;
+    let second = number_at(parts, name.second_range(), pieces.second())?;
     Ok(Numbers { first, second })
 }
 
@@ -93,11 +103,11 @@ fn numbered_processor(processors: u8, number: u64) -> Option<Proc>
 
 /// The processor of a word, or its fault, which has the line of the statement.
 #[tactic(auto, unfolding(crate::specs::Numbers::processor_at))]
-fn processor_at<'a>(parts: &Parts, line: u32, word: &Word<'a>) -> Result<Proc, Fault<'a>>
-    ensures { result ≡ spec.processor_at (setup_of parts.now) line word.now }
+fn processor_at<'a>(parts: &IndexedParts, line: u32, word: &Word<'a>) -> Result<Proc, Fault<'a>>
+    ensures { result ≡ spec.processor_at parts.now line word.now }
 {
-    let number = value_at(&parts.names, word)?;
-    numbered_processor(parts.names.processors(), number).ok_or(Fault::within(
+    let number = value_at(parts, word)?;
+    numbered_processor(parts.plain().names.processors(), number).ok_or(Fault::within(
         ConfigKind::BadClass,
         line,
         word,
@@ -106,17 +116,17 @@ fn processor_at<'a>(parts: &Parts, line: u32, word: &Word<'a>) -> Result<Proc, F
 
 /// A word of a list that has to be a number.
 #[tactic(auto, unfolding(crate::specs::Numbers::number_step))]
-fn number_step<'a>(parts: &Parts, word: &Word<'a>) -> Result<(), Fault<'a>>
-    ensures { result ≡ spec.number_step (setup_of parts.now) tt word.now }
+fn number_step<'a>(parts: &IndexedParts, word: &Word<'a>) -> Result<(), Fault<'a>>
+    ensures { result ≡ spec.number_step parts.now tt word.now }
 {
-    value_at(&parts.names, word)?;
+    value_at(parts, word)?;
     Ok(())
 }
 
 /// The first fault of words that have to be numbers.
 #[tactic(auto, unfolding(crate::specs::Numbers::all_numbers))]
-fn all_numbers<'a>(parts: &Parts, words: &[Word<'a>]) -> Result<(), Fault<'a>>
-    ensures { result ≡ spec.all_numbers (setup_of parts.now) words.now }
+fn all_numbers<'a>(parts: &IndexedParts, words: &[Word<'a>]) -> Result<(), Fault<'a>>
+    ensures { result ≡ spec.all_numbers parts.now words.now }
 {
     for word in words {
         number_step(parts, word)?;
@@ -127,12 +137,12 @@ fn all_numbers<'a>(parts: &Parts, words: &[Word<'a>]) -> Result<(), Fault<'a>>
 /// A list of processors with that of one word more.
 #[tactic(auto, unfolding(crate::specs::Numbers::member_step))]
 fn member_step<'a>(
-    parts: &Parts,
+    parts: &IndexedParts,
     line: u32,
     members: [bool; 8],
     word: &Word<'a>,
 ) -> Result<[bool; 8], Fault<'a>>
-    ensures { result ≡ spec.member_step (setup_of parts.now) line members word.now }
+    ensures { result ≡ spec.member_step parts.now line members word.now }
 {
     let p = processor_at(parts, line, word)?;
     let mut members = members;
@@ -142,8 +152,12 @@ fn member_step<'a>(
 
 /// The processors of a list, or the first fault.
 #[tactic(auto, unfolding(crate::specs::Numbers::members_in))]
-fn members_in<'a>(parts: &Parts, line: u32, words: &[Word<'a>]) -> Result<[bool; 8], Fault<'a>>
-    ensures { result ≡ spec.members_in (setup_of parts.now) line words.now }
+fn members_in<'a>(
+    parts: &IndexedParts,
+    line: u32,
+    words: &[Word<'a>],
+) -> Result<[bool; 8], Fault<'a>>
+    ensures { result ≡ spec.members_in parts.now line words.now }
 {
     let mut members = [false; 8];
     for word in words {
@@ -172,13 +186,22 @@ fn sound_class<'a>(
 
 /// The class of a definition that begins in a line, or its first fault.
 #[tactic(auto, unfolding(crate::specs::Numbers::class_of))]
-pub fn class_of<'a>(parts: &Parts, line: u32, pieces: &Pieces<'a>) -> Result<Class, Fault<'a>>
-    ensures { result ≡ spec.class_of (setup_of parts.now) line pieces.now }
+pub fn class_of<'a>(
+    parts: &IndexedParts,
+    line: u32,
+    pieces: &Pieces<'a>,
+) -> Result<Class, Fault<'a>>
+    ensures { result ≡ spec.class_of parts.now line pieces.now }
 {
-    value_at(&parts.names, pieces.first())?;
+    value_at(parts, pieces.first())?;
     all_numbers(parts, pieces.series())?;
     let initial = processor_at(parts, line, pieces.first())?;
     let members = members_in(parts, line, pieces.series())?;
     let class = Class { initial, members };
-    sound_class(parts.names.processors(), line, pieces.first(), class)
+    sound_class(
+        parts.plain().names.processors(),
+        line,
+        pieces.first(),
+        class,
+    )
 }

@@ -1,6 +1,6 @@
 //! Reading a configuration token by token.
 ghost use Rattle.std.specs.Prelude.{◌≡◌, ◌≤◌, ◌<◌, ◌+◌, ◌^◌, OnOk};
-ghost use Rattle.fmp_config.specs.Drafts.{draft_of};
+ghost use Rattle.fmp_config.specs.Drafted.{draft_of};
 ghost use Rattle.fmp_config.specs.Reading as spec;
 ghost use Rattle.fmp_config.specs.Sound.{IsSound};
 
@@ -64,7 +64,7 @@ impl<'a> Reader<'a> {
     ghost use Rattle.fmp_config.specs.Reading.{depth_in};
     ghost use Rattle.fmp_config.specs.Readers.{state_of};
     ghost use Rattle.fmp_config.specs.Sound.{IsSound, IsSoundDirective, IsSoundState, IsWhole};
-    ghost use Rattle.fmp_config.specs.Drafts.{draft_of};
+    ghost use Rattle.fmp_config.specs.Drafted.{draft_of};
     ghost use Rattle.fmp_config_statements.specs.Forms.{is_complete};
     ghost use Rattle.fmp_config_statements.specs.Named.{IsPromised};
     ghost use Rattle.fmp_config_statements.specs.Parts.{depth_of};
@@ -207,5 +207,5 @@ fn closed<'a>(draft: Draft) -> Result<Config, Fault<'a>>
     if draft.is_at_start() {
         return Err(Fault::of_line(ConfigKind::NoProcessors, 1));
     }
-    Ok(Config::of(draft.parts))
+    Ok(Config::of(draft.parts.into_parts()))
 }

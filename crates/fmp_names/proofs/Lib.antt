@@ -1,4 +1,4 @@
-pub mod Defined  -- The defined names in an index map.
+pub mod Defined  -- The defined names in a list.
 pub mod Listed  -- Tests and counts of the names in lists.
 pub mod Valid  -- One name more keeps what holds of all names.
 pub mod Placed  -- A name's number and a number's name give each other back.

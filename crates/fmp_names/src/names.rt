@@ -88,11 +88,18 @@ pub fn is_reserved(word: &[u8]) -> bool
     word == b"idle".as_slice() || is_processor_word(word) || is_constant(word)
 }
 
+/// Whether both are the same bytes. It looks at the last ones first, since names often begin alike.
+fn are_same_bytes(one: &[u8], other: &[u8]) -> bool
+    ensures { result ≡ bytes_eq one.now other.now }
+{
+    one.len() == other.len() && one.last() == other.last() && one == other
+}
+
 /// Whether one of the texts has exactly these bytes.
 fn is_among(list: &[Vec<u8>], name: &[u8]) -> bool
     ensures { result ≡ list_any (λ v. bytes_eq name.now v.items) list.now }
 {
-    list.iter().any(|it| name == it.as_slice())
+    list.iter().any(|it| are_same_bytes(name, it.as_slice()))
 }
 
 /// Whether the list holds a name of exactly these bytes.
@@ -108,7 +115,8 @@ fn index_of(list: &Vec<Vec<u8>>, name: &[u8]) -> Option<usize>
     ensures index { result ≡ position (λ v. bytes_eq name.now v.items) list.now.items }
     ensures within { IfSome result (λ i. i < length list.now.items) }
 {
-    list.iter().position(|it| name == it.as_slice())
+    list.iter()
+        .position(|it| are_same_bytes(name, it.as_slice()))
 }
 
 /// The number that the name stands for in a list of definitions.
@@ -118,7 +126,7 @@ fn number_among(defined: &[(Vec<u8>, u32)], name: &[u8]) -> Option<u32>
     match defined {
         [] => None,
         [first, rest @ ..] => {
-            if name == first.0.as_slice() {
+            if are_same_bytes(name, first.0.as_slice()) {
                 Some(first.1)
             } else {
                 number_among(rest, name)
@@ -357,13 +365,6 @@ impl Names {
         ensures { result ≡ spec.number_defined self.now name.now }
     {
         number_among(&self.defined, name)
-    }
-
-    /// Whether this name stands for a number.
-    pub fn contains_defined(&self, name: &[u8]) -> bool
-        ensures { result ≡ spec.is_defined self.now name.now }
-    {
-        self.defined(name).is_some()
     }
 
     /// Whether two have the same number of processors and the same names in the same order, the defined ones with the same numbers.

@@ -15,7 +15,7 @@ use crate::setup::{
 };
 use fmp_calls::{NameKind, ObjectKind};
 use fmp_codes::Pri;
-use fmp_names::{Names, is_reserved};
+use fmp_names::Names;
 use std::alloc::{AllocError, Global};
 
 /// A class and its name.
@@ -98,6 +98,7 @@ pub struct Parts {
 fn add_function(names: &mut Names, function: &[u8]) -> Result<(), AllocError>
     requires name { is_name function.now ≡ true }
     ensures ok { OnOk result (names.new ≡ spec.with_function names.old function.now) }
+    ensures defined { names.new.defined ≡ names.old.defined }
 {
     if !names.contains_function(function) {
         names.add(NameKind::Function, function)?;
@@ -129,6 +130,7 @@ fn add_object_names(
     requires room { has_room names.old (Object kind) ≡ true }
     requires function { spec.has_function kind ≡ true → is_name function.now ≡ true }
     ensures ok { OnOk result (names.new ≡ spec.with_object_names names.old kind name.now function.now) }
+    ensures defined { names.new.defined ≡ names.old.defined }
 {
     names.add(NameKind::Object(kind), name)?;
     if has_function(kind) {
@@ -153,7 +155,7 @@ fn is_name_of_one(classes: &[NamedClass], name: &[u8]) -> bool
 }
 
 impl Parts {
-    ghost use Rattle.std.specs.Prelude.{◌≡◌, ◌≤◌, true, false, find, OnOk};
+    ghost use Rattle.std.specs.Prelude.{◌≡◌, ◌≤◌, true, false, find, OnOk, OnErr};
 
     /// A configuration of so many processors, and nothing else yet: ticks count locally, one wakeup is queued at most, and
     /// priorities go from 1 to 16.
@@ -183,21 +185,10 @@ impl Parts {
     }
 
     /// Whether a class has this name.
-    fn has_class(&self, name: &[u8]) -> bool
+    pub fn has_class(&self, name: &[u8]) -> bool
         ensures { result ≡ has_name (setup_of self.now).class_names name.now }
     {
         is_name_of_one(&self.classes, name)
-    }
-
-    /// Whether no class, object or defined name that is added may have this name.
-    #[tactic(auto, unfolding(crate::specs::Building::is_refused))]
-    pub fn is_refused(&self, name: &[u8]) -> bool
-        ensures { result ≡ spec.is_refused (setup_of self.now) name.now }
-    {
-        is_reserved(name)
-            || self.has_class(name)
-            || self.names.contains_object(name)
-            || self.names.contains_defined(name)
     }
 
     /// The first class that was defined with this name, together with the name.
@@ -222,6 +213,7 @@ impl Parts {
     #[tactic(auto, unfolding(crate::specs::Building::with_class))]
     pub fn add_class(&mut self, name: &[u8], class: Class) -> Result<(), AllocError>
         ensures ok { OnOk result (setup_of self.new ≡ spec.with_class (setup_of self.old) name.now class) }
+        ensures names { self.new.names ≡ self.old.names }
     {
         let name = Vec::from_slice(self.alloc, name)?;
         self.classes.push(NamedClass { name, class })?;
@@ -233,6 +225,7 @@ impl Parts {
     fn push(&mut self, class: Class, function: u8, fields: Fields) -> Result<(), AllocError>
         requires few { (setup_of self.old).spin_locks < 255 }
         ensures ok { OnOk result (setup_of self.new ≡ spec.with_setup (setup_of self.old) class function fields) }
+        ensures names { self.new.names ≡ self.old.names }
     {
         match fields {
             Fields::Task(task) => self.tasks.push(TaskSetup {
@@ -277,19 +270,21 @@ impl Parts {
         requires function { spec.has_function (spec.kind_of fields) ≡ true → is_name function.now ≡ true }
         requires valid { IsValid (setup_of self.old) }
         ensures ok { OnOk result (setup_of self.new ≡ spec.with_object (setup_of self.old) class name.now function.now fields) }
+        ensures defined { self.new.names.defined ≡ self.old.names.defined }
     {
         add_object_names(&mut self.names, fields.kind(), name, function)?;
         let number = function_number(&self.names, function);
         self.push(class, number as u8, fields)
     }
 
-    /// Lets a name stand for a number.
+    /// Lets a name stand for a number. An `Err` defines nothing.
     #[tactic(auto, unfolding(crate::specs::Building::with_defined))]
     pub fn define(&mut self, name: &[u8], number: u32) -> Result<(), AllocError>
         requires name { is_name name.now ≡ true }
         requires new { spec.is_refused (setup_of self.old) name.now ≡ false }
         requires room { has_room_to_define (setup_of self.old).names ≡ true }
         ensures ok { OnOk result (setup_of self.new ≡ spec.with_defined (setup_of self.old) name.now number) }
+        ensures err { OnErr result (self.new.names ≡ self.old.names) }
     {
         self.names.define(name, number)
     }

@@ -13,7 +13,7 @@ fn is_free(names: &Names, kind: NameKind, name: &[u8]) -> bool
 {
     match kind {
         NameKind::Object(_) => {
-            !is_reserved(name) && !names.contains_object(name) && !names.contains_defined(name)
+            !is_reserved(name) && !names.contains_object(name) && names.defined(name).is_none()
         }
         NameKind::Function => !names.contains_function(name),
     }

@@ -1,8 +1,7 @@
 use Rattle.std.proofs.Common.{◌≡◌, drop}
 use Rattle.fmp_config.specs.Numbers.{number_step, all_numbers}
-use Rattle.fmp_setup.specs.Parts.{setup_of}
 use Rattle.fmp_config_statements.specs.Folds.{each}
 use Rattle.fmp_config.proofs.numbers.all_numbers.Given as goal
 
 abbrev pub invariant-loop-word : goal.invariant-loop-word
-invariant-loop-word l = each (number_step (setup_of l.parts)) tt (drop l.word-index l.words) ≡ all_numbers (setup_of l.fn.parts) l.fn.words
+invariant-loop-word l = each (number_step l.parts) tt (drop l.word-index l.words) ≡ all_numbers l.fn.parts l.fn.words

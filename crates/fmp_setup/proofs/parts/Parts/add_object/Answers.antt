@@ -31,4 +31,5 @@ returns c = record {
       ∙ object_pushed (setup_of c.args.self.now) c.add_object_names.new.names c.args.class c.args.name.now c.args.function.now c.args.fields c.function_number-number.result refl
       (names_are (goal.at.returns c).In_ok-add_object_names) c.function_number-number.ensures)
       c.push.ensures.ok;
+  defined = ap (λ (n : NameLists). n.defined) c.push.ensures.names ∙ c.add_object_names.ensures.defined;
 }
