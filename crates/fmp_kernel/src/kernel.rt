@@ -24,7 +24,8 @@ use std::marker::Model;
 /// The kernel. Contracts see its state with lists, which stands for a safe state of the model.
 #[derive(Drop)]
 pub struct Kernel {
-    pub(crate) machine: KernelMachine,
+    /// In a box, so that who owns a kernel moves and lets go of one pointer.
+    pub(crate) machine: Box<KernelMachine>,
 }
 
 impl Model for Kernel {
@@ -34,9 +35,9 @@ impl Model for Kernel {
 
     ghost Value = { World Queues };
 
-    ghost view = { λ a. a.machine };
+    ghost view = { λ a. a.machine.value };
 
-    ghost invariant = { λ a. IsKept a.machine };
+    ghost invariant = { λ a. IsKept a.machine.value };
 }
 
 impl Kernel {
@@ -51,8 +52,9 @@ impl Kernel {
         ensures safe { IfOk result (λ k. Safe listed k) }
         ensures lists { IfOk result (λ k. ListsAreRight k) }
     {
-        let mut machine = KernelMachine::blank(config)?;
-        boot(&mut machine, config);
+        let blank = KernelMachine::blank(config)?;
+        let mut machine = Box::new(config.allocator(), blank)?;
+        boot(&mut *machine, config);
         Ok(Kernel { machine })
     }
 
@@ -113,7 +115,7 @@ impl Kernel {
         ensures taken { TakesRequest self.old report.old.event report.new self.new }
         ensures top { RunsTop listed self.old report.old.event report.new self.new }
     {
-        step_recorded(&mut self.machine, report);
+        step_recorded(&mut *self.machine, report);
     }
 
     /// The machine between two events.

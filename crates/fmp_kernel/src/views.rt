@@ -73,7 +73,7 @@ impl Kernel {
         ensures lists { result ≡ is_held self.now p }
         ensures model { (m : State) → Stands self.now m → result ≡ is_held m p }
     {
-        is_held(&self.machine, p)
+        is_held(&*self.machine, p)
     }
 
     /// The ready tasks of a priority on a processor, in their precedence.

@@ -4,4 +4,4 @@ use Rattle.fmp_kernel_order.specs.Queues.{Queues}
 use Rattle.fmp_kernel.proofs.kernel.Kernel.held.Goals as goal
 
 pub returns-clause-model : goal.returns-clause-model
-returns-clause-model c = λ m stands. c.is_held.ensures ∙ ap (λ (w : World Queues). is_held w c.args.p) (c.self.view_is ∙ stands.same)
+returns-clause-model c = λ m stands. c.is_held.ensures ∙ ap (λ (w : World Queues). is_held w c.args.p) (c.deref.ensures ∙ c.self.view_is ∙ stands.same)

@@ -7,8 +7,8 @@ use Rattle.fmp_kernel.proofs.Kept.{kept_timed}
 use Rattle.fmp_kernel.proofs.kernel.Kernel.is_untimed.Goals as goal
 
 pub is_untimed-requires : goal.is_untimed-requires
-is_untimed-requires c = kept_timed _ c.self.invariant
+is_untimed-requires c = rw c.deref.ensures (kept_timed _ c.self.invariant)
 
 pub returns-clause-model : goal.returns-clause-model
 returns-clause-model c = λ m stands.
-    c.is_untimed.ensures ∙ ap (λ (w : World Queues). list_all is_none w.waits_left && list_all is_none w.cyclics_left && list_all is_none w.alarms_left) (c.self.view_is ∙ stands.same)
+    c.is_untimed.ensures ∙ ap (λ (w : World Queues). list_all is_none w.waits_left && list_all is_none w.cyclics_left && list_all is_none w.alarms_left) (c.deref.ensures ∙ c.self.view_is ∙ stands.same)

@@ -5,4 +5,4 @@ use Rattle.fmp_kernel_order.specs.Queues.{Queues}
 use Rattle.fmp_kernel.proofs.kernel.Kernel.pending.Goals as goal
 
 pub returns-clause-model : goal.returns-clause-model
-returns-clause-model c = λ m stands. ap (λ (x : Processor). x.latch) c.processor.ensures ∙ ap (λ (w : World Queues). (processor w c.args.p).latch) (c.self.view_is ∙ stands.same)
+returns-clause-model c = λ m stands. ap (λ (x : Processor). x.latch) c.processor.ensures ∙ ap (λ (w : World Queues). (processor w c.args.p).latch) (c.deref.ensures ∙ c.self.view_is ∙ stands.same)

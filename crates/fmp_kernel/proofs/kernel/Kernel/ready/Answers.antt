@@ -4,5 +4,5 @@ use Rattle.fmp_kernel.proofs.kernel.Kernel.ready.Goals as goal
 
 pub returns-clause-model : goal.returns-clause-model
 returns-clause-model c =
-    let report = rw c.self.view_is at c.ready.ensures in
+    let report = rw (c.deref.ensures, c.self.view_is) at c.ready.ensures in
     λ m stands. report ∙ (tells_alike c.args.self.now m stands).ready c.args.p c.args.priority

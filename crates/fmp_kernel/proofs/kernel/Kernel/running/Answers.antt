@@ -5,4 +5,4 @@ use Rattle.fmp_kernel_order.specs.Queues.{Queues}
 use Rattle.fmp_kernel.proofs.kernel.Kernel.running.Goals as goal
 
 pub returns-clause-model : goal.returns-clause-model
-returns-clause-model c = λ m stands. ap (λ (x : Processor). x.running) c.processor.ensures ∙ ap (λ (w : World Queues). (processor w c.args.p).running) (c.self.view_is ∙ stands.same)
+returns-clause-model c = λ m stands. ap (λ (x : Processor). x.running) c.processor.ensures ∙ ap (λ (w : World Queues). (processor w c.args.p).running) (c.deref.ensures ∙ c.self.view_is ∙ stands.same)
