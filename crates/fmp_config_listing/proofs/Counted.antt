@@ -2,6 +2,7 @@
 use Rattle.std.proofs.Common.{◌≡◌, ◌≤◌, ◌<◌, ℕ, suc, ◌+◌, ◌-◌, false, List, ◌∷◌, ◌++◌, length, drop, drop-cons, None, Some, add-one, eqb, ne_eqb, refl, sym, ap, ap₂, ◌∙◌, append_assoc, append-nil, arith}
 use Rattle.std.specs.Prelude.{slice_get}
 use Rattle.std.proofs.lemmas.Option.{slice_get_within, get_or_from_slice_get}
+use Rattle.fmp_out.specs.Putting.{Adds, Owes, Putting}
 use Rattle.fmp_calls.specs.declared.kinds.ObjectKind.{ObjectKind}
 use Rattle.fmp_calls.specs.declared.kinds.NameKind.TheVariants.{Function}
 use Rattle.fmp_names.specs.Names.{NameLists, name_of}
@@ -17,14 +18,16 @@ module _ (c : Setup) (kind : ObjectKind) where
   objects_more i = rw (add-one) refl
 
   -- nothing was written of none
-  pub no_object_yet : (old : List ℕ) → old ≡ old ++ objects_to c kind 0
+  pub no_object_yet : (old : Putting) → Adds (objects_to c kind 0) old old
   unfolding objects_to
-  no_object_yet old = sym (append-nil old)
+  no_object_yet old whole = (whole, sym (append-nil old.bytes))
 
   -- what was written of the first of them, and one line more
-  pub object_next : (i : ℕ) (old between new : List ℕ) → between ≡ old ++ objects_to c kind i → new ≡ between ++ object_line c kind i → new ≡ old ++ objects_to c kind (i + 1)
-  object_next i old between new so_far line =
-      line ∙ ap (λ (xs : List ℕ). xs ++ object_line c kind i) so_far ∙ append_assoc old (objects_to c kind i) (object_line c kind i) ∙ ap (λ (xs : List ℕ). old ++ xs) (sym (objects_more i))
+  pub object_next : (i : ℕ) (old between new : Putting) → Adds (objects_to c kind i) old between → Adds (object_line c kind i) between new → Adds (objects_to c kind (i + 1)) old new
+  object_next i old between new so_far line whole =
+      let last = line whole in
+      let first = so_far last.0 in
+      (first.0, last.1 ∙ ap (λ (xs : List ℕ). xs ++ object_line c kind i) first.1 ∙ append_assoc old.bytes (objects_to c kind i) (object_line c kind i) ∙ ap (λ (xs : List ℕ). old.bytes ++ xs) (sym (objects_more i)))
 
 module _ (lists : NameLists) where
   pub is_within : (n : ℕ) (name : List ℕ) → name_of lists Function n ≡ Some name → n ≤ length lists.functions
@@ -43,13 +46,17 @@ module _ (lists : NameLists) where
       ∙ ap (λ (k : ℕ). name ∷ drop k lists.functions) same
 
   -- one line more, before those of the functions after it
-  pub function_more : (n : ℕ) (name out new all : List ℕ) → name_of lists Function n ≡ Some name → new ≡ out ++ function_line n name
-      → out ++ functions_from n (drop (n - 1) lists.functions) ≡ all → new ++ functions_from (n + 1) (drop ((n + 1) - 1) lists.functions) ≡ all
-  function_more n name out new all is line made =
+  pub function_more : (n : ℕ) (name : List ℕ) (old out new : Putting) (all : List ℕ) → name_of lists Function n ≡ Some name → Adds (function_line n name) out new
+      → Owes (functions_from n (drop (n - 1) lists.functions)) all old out → Owes (functions_from (n + 1) (drop ((n + 1) - 1) lists.functions)) all old new
+  function_more n name old out new all is line made whole =
       let same : (n + 1) - 1 ≡ n = omega arith in
-      ap₂ (λ (xs : List ℕ) (k : ℕ). xs ++ functions_from (n + 1) (drop k lists.functions)) line same
-      ∙ append_assoc out (function_line n name) (functions_from (n + 1) (drop n lists.functions))
-      ∙ ap (λ (names : List (List ℕ)). out ++ functions_from n names) (sym (next_function n name is)) ∙ made
+      let last = line whole in
+      let first = made last.0 in (
+        first.0,
+        ap₂ (λ (xs : List ℕ) (k : ℕ). xs ++ functions_from (n + 1) (drop k lists.functions)) last.1 same
+            ∙ append_assoc out.bytes (function_line n name) (functions_from (n + 1) (drop n lists.functions))
+            ∙ ap (λ (names : List (List ℕ)). out.bytes ++ functions_from n names) (sym (next_function n name is)) ∙ first.1,
+      )
 
   no_place : (n : ℕ) → 1 ≤ n → name_of lists Function n ≡ None → slice_get lists.functions (n - 1) ≡ None
   unfolding name_of
@@ -58,6 +65,7 @@ module _ (lists : NameLists) where
       rw test at is
 
   -- where there is no function of this number, all lines were written
-  pub functions_done : (n : ℕ) (out all : List ℕ) → 1 ≤ n → name_of lists Function n ≡ None → out ++ functions_from n (drop (n - 1) lists.functions) ≡ all → out ≡ all
-  functions_done n out all least is made =
-      sym (ap (λ (names : List (List ℕ)). out ++ functions_from n names) (past_last lists.functions (n - 1) (no_place n least is)) ∙ append-nil out) ∙ made
+  pub functions_done : (n : ℕ) (old out : Putting) (all : List ℕ) → 1 ≤ n → name_of lists Function n ≡ None → Owes (functions_from n (drop (n - 1) lists.functions)) all old out → Adds all old out
+  functions_done n old out all least is made whole =
+      let last = made whole in
+      (last.0, sym (ap (λ (names : List (List ℕ)). out.bytes ++ functions_from n names) (past_last lists.functions (n - 1) (no_place n least is)) ∙ append-nil out.bytes) ∙ last.1)

@@ -1,13 +1,17 @@
 //! The lines of a listing.
 ghost use Rattle.std.specs.Prelude.{◌≡◌, ◌++◌, ◌+◌, ◌^◌, ◌<◌, OnOk, IfOk};
+ghost use Rattle.fmp_out.specs.Putting.{Adds};
+ghost use Rattle.fmp_trace.specs.Values.{named};
 ghost use Rattle.fmp_config_listing.specs.Listing as spec;
 
 use crate::classes::{put_classes, put_processor};
 use crate::fields::{put_count, put_fields};
 use crate::functions::put_functions;
-use fmp_calls::ObjectKind;
+use fmp_calls::{NameKind, ObjectKind};
+use fmp_names::Names;
+use fmp_out::Text;
 use fmp_setup::{Config, Limits, Timer};
-use fmp_trace::{put_named, put_number};
+use fmp_trace::put_number;
 use std::alloc::{AllocError, Global};
 
 /// The kinds of objects, in the order in which they are told.
@@ -54,59 +58,57 @@ pub fn count(config: &Config, kind: ObjectKind) -> usize
     }
 }
 
+/// Adds the name of an object, or the number where no object has it.
+#[tactic(auto, unfolding(fmp_trace::specs::Values::named))]
+fn put_named(out: &mut Text, names: &Names, kind: ObjectKind, number: usize)
+    ensures { Adds (named names.now kind number) out.old out.new }
+{
+    match names.name(NameKind::Object(kind), number) {
+        Some(name) => out.put(name),
+        None => out.put_number(number as u64),
+    }
+}
+
 /// Adds the kind of the object at a place, from 0, its number and its name.
 #[tactic(auto, unfolding(crate::specs::Listing::object_head))]
-fn put_object_head(
-    out: &mut Vec<u8>,
-    config: &Config,
-    kind: ObjectKind,
-    index: usize,
-) -> Result<(), AllocError>
+fn put_object_head(out: &mut Text, config: &Config, kind: ObjectKind, index: usize)
     requires { index + 1 < 2 ^ 64 }
-    ensures { OnOk result (out.new.items ≡ out.old.items ++ spec.object_head config.now kind index) }
+    ensures { Adds (spec.object_head config.now kind index) out.old out.new }
 {
-    out.extend_from_slice(word(kind))?;
-    out.push(b' ')?;
-    put_number(out, (index + 1) as u64)?;
-    out.push(b' ')?;
-    put_named(out, config.names(), kind, index + 1)
+    out.put(word(kind));
+    out.put_byte(b' ');
+    out.put_number((index + 1) as u64);
+    out.put_byte(b' ');
+    put_named(out, config.names(), kind, index + 1);
 }
 
 /// Adds the line of the object at a place of its kind, from 0.
 #[tactic(auto, unfolding(crate::specs::Listing::object_line))]
-fn put_object_line(
-    out: &mut Vec<u8>,
-    config: &Config,
-    kind: ObjectKind,
-    index: usize,
-) -> Result<(), AllocError>
+fn put_object_line(out: &mut Text, config: &Config, kind: ObjectKind, index: usize)
     requires { index + 1 < 2 ^ 64 }
-    ensures { OnOk result (out.new.items ≡ out.old.items ++ spec.object_line config.now kind index) }
+    ensures { Adds (spec.object_line config.now kind index) out.old out.new }
 {
-    put_object_head(out, config, kind, index)?;
-    put_fields(out, config, kind, index)?;
-    out.push(b'\n')?;
-    Ok(())
+    put_object_head(out, config, kind, index);
+    put_fields(out, config, kind, index);
+    out.put_byte(b'\n');
 }
 
 /// Adds the lines of the objects of a kind.
-fn put_objects(out: &mut Vec<u8>, config: &Config, kind: ObjectKind) -> Result<(), AllocError>
-    ensures { OnOk result (out.new.items ≡ out.old.items ++ spec.objects_to config.now kind (spec.count config.now kind)) }
+fn put_objects(out: &mut Text, config: &Config, kind: ObjectKind)
+    ensures { Adds (spec.objects_to config.now kind (spec.count config.now kind)) out.old out.new }
 {
     for index in 0..count(config, kind) {
-        put_object_line(out, config, kind, index)?;
+        put_object_line(out, config, kind, index);
     }
-    Ok(())
 }
 
 /// Adds the lines of the objects of some kinds.
-fn put_kinds(out: &mut Vec<u8>, config: &Config, kinds: &[ObjectKind]) -> Result<(), AllocError>
-    ensures { OnOk result (out.new.items ≡ out.old.items ++ spec.objects_over config.now kinds.now) }
+fn put_kinds(out: &mut Text, config: &Config, kinds: &[ObjectKind])
+    ensures { Adds (spec.objects_over config.now kinds.now) out.old out.new }
 {
     for kind in kinds {
-        put_objects(out, config, *kind)?;
+        put_objects(out, config, *kind);
     }
-    Ok(())
 }
 
 /// Adds the line of the number of processors: `processors`, a blank and the number. The error is want of memory.
@@ -120,60 +122,68 @@ pub fn put_processors_line(out: &mut Vec<u8>, processors: u8) -> Result<(), Allo
     Ok(())
 }
 
+/// The same for the listing.
+#[tactic(auto, unfolding(crate::specs::Listing::processors_line))]
+fn put_processors(out: &mut Text, processors: u64)
+    ensures { Adds (spec.processors_line processors) out.old out.new }
+{
+    out.put(b"processors ");
+    out.put_number(processors);
+    out.put_byte(b'\n');
+}
+
 /// Adds whose ticks count: those of each processor for itself, or those of one for all.
-fn put_timer(out: &mut Vec<u8>, timer: Timer) -> Result<(), AllocError>
-    ensures { OnOk result (out.new.items ≡ out.old.items ++ spec.timer_text timer) }
+fn put_timer(out: &mut Text, timer: Timer)
+    ensures { Adds (spec.timer_text timer) out.old out.new }
 {
     match timer {
-        Timer::Local => out.extend_from_slice(b" local"),
+        Timer::Local => out.put(b" local"),
         Timer::Global(master) => {
-            out.extend_from_slice(b" global")?;
-            put_processor(out, u64::from(master.number))
+            out.put(b" global");
+            put_processor(out, u64::from(master.number));
         }
     }
 }
 
 /// Adds the line of the timer.
 #[tactic(auto, unfolding(crate::specs::Listing::timer_line))]
-fn put_timer_line(out: &mut Vec<u8>, timer: Timer) -> Result<(), AllocError>
-    ensures { OnOk result (out.new.items ≡ out.old.items ++ spec.timer_line timer) }
+fn put_timer_line(out: &mut Text, timer: Timer)
+    ensures { Adds (spec.timer_line timer) out.old out.new }
 {
-    out.extend_from_slice(b"timer")?;
-    put_timer(out, timer)?;
-    out.push(b'\n')?;
-    Ok(())
+    out.put(b"timer");
+    put_timer(out, timer);
+    out.put_byte(b'\n');
 }
 
 /// Adds the line of the limits.
 #[tactic(auto, unfolding(crate::specs::Listing::limits_line))]
-fn put_limits_line(out: &mut Vec<u8>, limits: Limits) -> Result<(), AllocError>
-    ensures { OnOk result (out.new.items ≡ out.old.items ++ spec.limits_line limits) }
+fn put_limits_line(out: &mut Text, limits: Limits)
+    ensures { Adds (spec.limits_line limits) out.old out.new }
 {
-    out.extend_from_slice(b"limits")?;
-    put_count(out, b"wupcnt", u64::from(limits.wakeups))?;
-    put_count(out, b"pri", u64::from(limits.priorities))?;
-    out.push(b'\n')?;
-    Ok(())
+    out.put(b"limits");
+    put_count(out, b"wupcnt", u64::from(limits.wakeups));
+    put_count(out, b"pri", u64::from(limits.priorities));
+    out.put_byte(b'\n');
 }
 
 /// Adds the listing of a configuration.
 #[tactic(auto, unfolding(crate::specs::Listing::listing_of))]
-fn put_listing(out: &mut Vec<u8>, config: &Config) -> Result<(), AllocError>
-    ensures { OnOk result (out.new.items ≡ out.old.items ++ spec.listing_of config.now) }
+fn put_listing(out: &mut Text, config: &Config)
+    ensures { Adds (spec.listing_of config.now) out.old out.new }
 {
-    put_processors_line(out, config.processors())?;
-    put_timer_line(out, config.timer())?;
-    put_limits_line(out, config.limits())?;
-    put_classes(out, config.classes())?;
-    put_kinds(out, config, KINDS)?;
-    put_functions(out, config)
+    put_processors(out, u64::from(config.processors()));
+    put_timer_line(out, config.timer());
+    put_limits_line(out, config.limits());
+    put_classes(out, config.classes());
+    put_kinds(out, config, KINDS);
+    put_functions(out, config);
 }
 
 /// The listing of a configuration. The error is want of memory.
 pub fn listing_text(alloc: Global, config: &Config) -> Result<Vec<u8>, AllocError>
     ensures { IfOk result (λ text. text.items ≡ spec.listing_of config.now) }
 {
-    let mut out = Vec::new(alloc);
-    put_listing(&mut out, config)?;
-    Ok(out)
+    let mut out = Text::new(alloc);
+    put_listing(&mut out, config);
+    out.finish()
 }

@@ -1,9 +1,10 @@
-use Rattle.std.proofs.Common.{◌≡◌, ◌++◌, drop, map}
+use Rattle.std.proofs.Common.{drop, map}
+use Rattle.fmp_out.specs.Putting.{Owes}
 use Rattle.fmp_config_listing.specs.Classes.{class_lines}
 use Rattle.fmp_config_listing.proofs.classes.put_classes.Given as goal
 
--- the lines so far, and those of the classes that are left
+-- the lines of the classes that are left
 abbrev pub invariant-loop-named : goal.invariant-loop-named
 invariant-loop-named l =
-    l.out.items ++ class_lines (map (λ c. c.name.items) (drop l.named-index l.classes)) (map (λ c. c.class) (drop l.named-index l.classes))
-    ≡ l.fn.out.items ++ class_lines (map (λ c. c.name.items) l.fn.classes) (map (λ c. c.class) l.fn.classes)
+    Owes (class_lines (map (λ c. c.name.items) (drop l.named-index l.classes)) (map (λ c. c.class) (drop l.named-index l.classes)))
+    (class_lines (map (λ c. c.name.items) l.fn.classes) (map (λ c. c.class) l.fn.classes)) l.fn.out l.out

@@ -17,10 +17,10 @@ loop-name-preserved c =
     record {
       least = omega arith;
       most = omega (arith, within);
-      made = function_more c.args.config.now.names c.loop-name.number c.in-Some.name.now c.loop-name.out.items _ _ there c.in_ok-put_function_line.ensures c.loop-name.invariant.made;
+      made = function_more c.args.config.now.names c.loop-name.number c.in-Some.name.now c.args.out.now c.loop-name.out _ _ there c.put_function_line.ensures c.loop-name.invariant.made;
     }
 
 pub returns : goal.returns
 returns c =
     let none = ap (λ (l : NameLists). name_of l Function c.loop-name.number) (sym c.names-names.ensures.value) ∙ sym c.in_default.ensures in
-    functions_done c.args.config.now.names c.loop-name.number c.loop-name.out.items _ c.loop-name.invariant.least none c.loop-name.invariant.made
+    functions_done c.args.config.now.names c.loop-name.number c.args.out.now c.loop-name.out _ c.loop-name.invariant.least none c.loop-name.invariant.made

@@ -1,13 +1,14 @@
-use Rattle.std.proofs.Common.{◌≡◌, ◌≤◌, ◌++◌, ◌+◌, ◌-◌, drop, length}
+use Rattle.std.proofs.Common.{◌≤◌, ◌+◌, ◌-◌, drop, length}
+use Rattle.fmp_out.specs.Putting.{Owes}
 use Rattle.fmp_config_listing.specs.Functions.{functions_from}
 use Rattle.fmp_config_listing.proofs.functions.put_functions.Given as goal
 
--- the lines so far, and those of the functions that are left
+-- the lines of the functions that are left
 abbrev pub invariant-loop-name : goal.invariant-loop-name
 invariant-loop-name l = record {
   least : 1 ≤ l.number;
   most : l.number ≤ length l.config.names.functions + 1;
-  made : l.out.items ++ functions_from l.number (drop (l.number - 1) l.config.names.functions) ≡ l.fn.out.items ++ functions_from 1 l.config.names.functions;
+  made : Owes (functions_from l.number (drop (l.number - 1) l.config.names.functions)) (functions_from 1 l.config.names.functions) l.fn.out l.out;
 }
 
 abbrev pub decreases-loop-name : goal.decreases-loop-name
