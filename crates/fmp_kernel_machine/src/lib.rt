@@ -11,6 +11,7 @@
 mod machine;
 mod object_words;
 mod places;
+mod views;
 mod words;
 
 pub use machine::KernelMachine;

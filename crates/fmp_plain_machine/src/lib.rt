@@ -26,6 +26,7 @@ mod object_words;
 mod order;
 mod resources;
 mod tops;
+mod views;
 mod waiting;
 mod words;
 

@@ -7,7 +7,7 @@ ghost use Rattle.fmp_show_life.specs.Watches.{seen_of};
 use crate::lines::put_line;
 use crate::things::Thing;
 use fmp_names::Names;
-use fmp_show_views::Views;
+use fmp_step_words::Views;
 use std::alloc::{AllocError, Global};
 use std::marker::Model;
 use std::mem;

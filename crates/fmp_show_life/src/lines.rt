@@ -12,7 +12,7 @@ use fmp_rules::TaskRecord;
 use fmp_show_state::{
     put_any_wait, put_flag, put_left, put_numbers, put_object, put_ticks, put_values,
 };
-use fmp_show_views::Views;
+use fmp_step_words::Views;
 use fmp_trace::{put_named, put_number, put_task};
 use std::alloc::AllocError;
 

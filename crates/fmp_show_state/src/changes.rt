@@ -8,7 +8,7 @@ use fmp_calls::ObjectKind;
 use fmp_codes::{Object, Proc};
 use fmp_names::Names;
 use fmp_rules::{Eventflag, Pool, Semaphore};
-use fmp_show_views::Views;
+use fmp_step_words::Views;
 use fmp_trace::{put_named, put_number, put_signed};
 use std::alloc::AllocError;
 

@@ -8,7 +8,7 @@ use fmp_calls::ObjectKind;
 use fmp_codes::Object;
 use fmp_names::Names;
 use fmp_rules::CyclicSetup;
-use fmp_show_views::Views;
+use fmp_step_words::Views;
 use fmp_trace::{put_named, put_number};
 use std::alloc::AllocError;
 

@@ -6,7 +6,7 @@ ghost use Rattle.fmp_show_state.specs.States as spec;
 use fmp_codes::{Pri, Proc, Runner, Task};
 use fmp_names::Names;
 use fmp_rules::Processor;
-use fmp_show_views::Views;
+use fmp_step_words::Views;
 use fmp_trace::{put_number, put_runner, put_task};
 use std::alloc::{AllocError, Global};
 

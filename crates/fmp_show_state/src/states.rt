@@ -6,7 +6,7 @@ use crate::changes::put_changes;
 use crate::processors::put_processors;
 use crate::tasks::put_tasks;
 use fmp_names::Names;
-use fmp_show_views::Views;
+use fmp_step_words::Views;
 use std::alloc::AllocError;
 
 /// Adds the lines of a machine's state without the one that ends it: one for each processor, then one for each task that waits, is

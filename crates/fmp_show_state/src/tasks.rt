@@ -8,7 +8,7 @@ use fmp_calls::ObjectKind;
 use fmp_codes::{Object, Task};
 use fmp_names::Names;
 use fmp_rules::{TaskRecord, Wait};
-use fmp_show_views::Views;
+use fmp_step_words::Views;
 use fmp_trace::{put_named, put_number, put_task};
 use std::alloc::AllocError;
 

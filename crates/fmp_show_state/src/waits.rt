@@ -6,7 +6,7 @@ use crate::tasks::put_task_words;
 use fmp_codes::Task;
 use fmp_names::Names;
 use fmp_rules::TaskRecord;
-use fmp_show_views::Views;
+use fmp_step_words::Views;
 use std::alloc::AllocError;
 
 /// Adds the line of a task, if it waits.

@@ -2,7 +2,8 @@
 //!
 //! A machine that keeps its tasks by the words of the definitions is one of [`Words`], and one that keeps the objects, too, is
 //! one of [`Objects`]. The checks of the calls, and the changes of tasks and processors, are functions over them, so that
-//! each is written and proved once. A machine on which events are played has an [`Overview`], too.
+//! each is written and proved once. A machine on which events are played has an [`Overview`], too, and one whose state is told
+//! [`Views`].
 #![tactic(auto)]
 
 mod arguments;
@@ -12,6 +13,7 @@ mod overview;
 mod processors;
 mod tasks;
 mod tops;
+mod views;
 mod words;
 
 pub use arguments::{
@@ -27,4 +29,5 @@ pub use tasks::{
     activate, change_priority, finish, make_ready, migrate, release, rotate, start, wait_for,
 };
 pub use tops::Tops;
+pub use views::Views;
 pub use words::Words;

@@ -4,10 +4,10 @@ ghost use Rattle.fmp_codes.specs.declared.numbers.Pri.{Pri as AnyPri};
 ghost use Rattle.fmp_rules.specs.World.{item};
 ghost use Rattle.fmp_rules.specs.Objects.{values, pool};
 
+use crate::objects::Objects;
 use arrayvec::ArrayVec;
 use fmp_codes::{Object, Pri, Proc, Runner, Task};
 use fmp_rules::Pool;
-use fmp_step_words::Objects;
 
 /// A machine that also shows what no call looks up.
 pub trait Views: Objects {

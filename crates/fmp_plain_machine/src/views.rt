@@ -1,9 +1,9 @@
 //! What the plain machine shows.
-use crate::views::Views;
+use crate::machine::PlainMachine;
 use arrayvec::ArrayVec;
 use fmp_codes::{Object, Pri, Proc, Runner, Task};
-use fmp_plain_machine::PlainMachine;
 use fmp_rules::Pool;
+use fmp_step_words::Views;
 
 impl Views for PlainMachine {
     fn ready(&self, p: Proc, priority: Pri) -> ArrayVec<Task, 64> {

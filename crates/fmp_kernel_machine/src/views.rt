@@ -1,9 +1,9 @@
 //! What the kernel shows.
-use crate::views::Views;
+use crate::machine::KernelMachine;
 use arrayvec::ArrayVec;
 use fmp_codes::{Object, Pri, Proc, Runner, Task};
-use fmp_kernel_machine::KernelMachine;
 use fmp_rules::Pool;
+use fmp_step_words::Views;
 
 impl Views for KernelMachine {
     fn ready(&self, p: Proc, priority: Pri) -> ArrayVec<Task, 64> {

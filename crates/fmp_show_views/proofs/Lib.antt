@@ -1,1 +1,0 @@
-pub mod Words  -- What the bits of a word say of the ready tasks.
