@@ -13,8 +13,8 @@ use Rattle.fmp_codes.specs.declared.calls.TimeCall.TheVariants as time
 use Rattle.fmp_codes.specs.declared.calls.SystemCall.TheVariants as system
 use Rattle.fmp_codes.specs.declared.calls.SpinCall.TheVariants as spin
 use Rattle.fmp_bytes.specs.Bytes.{is_of, is_identifier}
-use Rattle.fmp_calls.specs.declared.kinds.Value.{Value}
-use Rattle.fmp_calls.specs.Kinds.{are_of_kinds}
+use Rattle.fmp_codes.specs.declared.kinds.Value.{Value}
+use Rattle.fmp_codes.specs.Kinds.{are_of_kinds}
 use Rattle.fmp_calls.specs.Entries.{arguments_from, values_in}
 use Rattle.fmp_calls.specs.Table.{line_of, text_of, is_bare, kinds_of, name_of, values_of, call_of, named}
 use Rattle.fmp_calls.specs.Entries.{Line}

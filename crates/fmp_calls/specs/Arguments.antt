@@ -4,8 +4,8 @@ use Rattle.fmp_codes.specs.Records.{IsWithin}
 use Rattle.fmp_codes.specs.declared.calls.Call.{Call}
 use Rattle.fmp_codes.specs.declared.records.Event.{Event}
 use Rattle.fmp_codes.specs.declared.records.Event.TheVariants as events
-use Rattle.fmp_calls.specs.declared.kinds.Value.{Value}
-use Rattle.fmp_calls.specs.declared.kinds.Value.TheVariants as values
+use Rattle.fmp_codes.specs.declared.kinds.Value.{Value}
+use Rattle.fmp_codes.specs.declared.kinds.Value.TheVariants as values
 use Rattle.fmp_calls.specs.Table.{values_of}
 
 -- within 32 bits, or 64 where it is data

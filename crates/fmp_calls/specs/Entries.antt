@@ -2,11 +2,11 @@
 -- What stands in the table of the calls: how a call is written, and what it is made of.
 use Rattle.std.specs.Prelude.{ℕ, ◌+◌, ℤ, pos, Bool, false, List, [], ◌∷◌, get_or}
 use Rattle.fmp_codes.specs.declared.calls.Mode.{Mode}
-use Rattle.fmp_codes.specs.declared.calls.Mode.TheVariants.{Andw}
-use Rattle.fmp_calls.specs.declared.kinds.ArgumentKind.{ArgumentKind}
-use Rattle.fmp_calls.specs.declared.kinds.ArgumentKind.TheVariants as kinds
-use Rattle.fmp_calls.specs.declared.kinds.Value.{Value}
-use Rattle.fmp_calls.specs.declared.kinds.Value.TheVariants as values
+use Rattle.fmp_codes.specs.declared.kinds.ArgumentKind.{ArgumentKind}
+use Rattle.fmp_codes.specs.declared.kinds.ArgumentKind.TheVariants as kinds
+use Rattle.fmp_codes.specs.declared.kinds.Value.{Value}
+use Rattle.fmp_codes.specs.declared.kinds.Value.TheVariants as values
+use Rattle.fmp_codes.specs.Kinds.{number_in, pattern_in, data_in, mode_in}
 
 -- ---- arguments
 
@@ -23,22 +23,6 @@ value_of kinds.Pattern bits = values.Pattern bits
 value_of kinds.Data value = values.Data value
 value_of kinds.Mode mode = values.Mode mode
 value_of _ number = values.Number number
-
-abbrev pub number_in : Value → ℤ
-number_in (values.Number n) = n
-number_in _ = pos 0
-
-abbrev pub pattern_in : Value → ℕ
-pattern_in (values.Pattern bits) = bits
-pattern_in _ = 0
-
-abbrev pub data_in : Value → ℤ
-data_in (values.Data value) = value
-data_in _ = pos 0
-
-abbrev pub mode_in : Value → Mode
-mode_in (values.Mode mode) = mode
-mode_in _ = Andw
 
 -- the argument that a value is, where it is one of the kind
 abbrev pub argument_in : (kind : ArgumentKind) → Value → ArgumentOf kind

@@ -1,6 +1,6 @@
 -- Calls with how they are written, as the table has them for readers that guess.
 use Rattle.std.specs.Prelude.{◌≡◌, ◌≤◌, List, [], ◌∷◌, length}
-use Rattle.fmp_calls.specs.Kinds.{most_arguments}
+use Rattle.fmp_codes.specs.Kinds.{most_arguments}
 use Rattle.fmp_calls.specs.Table.{text_of, is_bare, kinds_of}
 use Rattle.fmp_calls.specs.declared.table.KnownCall.{KnownCall}
 

@@ -11,10 +11,10 @@ use Rattle.fmp_calls.specs.declared.table.buffer.TheConstants.{BUFFER_CALLS}
 use Rattle.fmp_calls.specs.declared.table.time.TheConstants.{TIME_CALLS}
 use Rattle.fmp_calls.specs.declared.table.system.TheConstants.{SYSTEM_CALLS}
 use Rattle.fmp_calls.specs.declared.table.spin.TheConstants.{SPIN_CALLS}
-use Rattle.fmp_calls.specs.declared.kinds.ArgumentKind.{ArgumentKind}
-use Rattle.fmp_calls.specs.declared.kinds.Value.{Value}
+use Rattle.fmp_codes.specs.declared.kinds.ArgumentKind.{ArgumentKind}
+use Rattle.fmp_codes.specs.declared.kinds.Value.{Value}
 use Rattle.fmp_calls.specs.Entries.{Line, line}
-use Rattle.fmp_calls.specs.Kinds.{are_of_kinds}
+use Rattle.fmp_codes.specs.Kinds.{are_of_kinds}
 use Rattle.fmp_calls.specs.Tables.TaskTable as task
 use Rattle.fmp_calls.specs.Tables.SyncTable as sync
 use Rattle.fmp_calls.specs.Tables.BufferTable as buffer

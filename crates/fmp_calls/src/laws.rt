@@ -1,8 +1,8 @@
 //! Laws of the table.
 ghost use Rattle.std.specs.Prelude.{◌≡◌, true, List, Some};
 ghost use Rattle.fmp_codes.specs.declared.calls.Call.{Call};
-ghost use Rattle.fmp_calls.specs.declared.kinds.Value.{Value};
-ghost use Rattle.fmp_calls.specs.Kinds.{are_of_kinds};
+ghost use Rattle.fmp_codes.specs.declared.kinds.Value.{Value};
+ghost use Rattle.fmp_codes.specs.Kinds.{are_of_kinds};
 ghost use Rattle.fmp_calls.specs.Table.{name_of, text_of, kinds_of, values_of, call_of, named};
 
 /// A call is its name with its arguments, and no two calls have one name.

@@ -4,17 +4,17 @@
 //! of them. Reading, printing and listing calls go by this table, so no other crate names a call's text.
 //!
 //! [`find_call`] finds a call by its name; [`form`] and [`values`], or [`parts`] at once, take one apart, and [`with_values`]
-//! puts it together again.
+//! puts it together again. [`likely_call`] guesses one by its first bytes.
 //! The law `tables_agree` says that these give each other back, and that each call stands in the table once. The definitions
 //! are the same lines in `specs/Tables`.
 #![tactic(auto)]
 
-mod kinds;
 mod laws;
+mod likely;
 mod table;
 
-pub use kinds::{ArgumentKind, NameKind, ObjectKind, Value};
 pub use laws::{arguments_have_their_kinds, tables_agree};
+pub use likely::likely_call;
 pub use table::buffer::BUFFER_CALLS;
 pub use table::spin::SPIN_CALLS;
 pub use table::sync::SYNC_CALLS;
@@ -22,6 +22,6 @@ pub use table::system::SYSTEM_CALLS;
 pub use table::task::TASK_CALLS;
 pub use table::time::TIME_CALLS;
 pub use table::{
-    CallForm, KnownCall, MOST_ARGUMENTS, Values, call_at, find_call, form, parts, values,
-    with_known_values, with_values,
+    CallForm, KnownCall, MOST_ARGUMENTS, Values, find_call, form, parts, values, with_known_values,
+    with_values,
 };

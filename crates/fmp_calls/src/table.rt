@@ -3,41 +3,40 @@
 ghost use Rattle.std.specs.Prelude.{◌≡◌, ◌≤◌, true, false, IfSome, Some, None, if◌then◌else◌, length, take, codes};
 ghost use Rattle.std.specs.Str.{bytes_eq};
 ghost use Rattle.fmp_codes.specs.declared.calls.Call.TheVariants.{RetHdr};
-ghost use Rattle.fmp_calls.specs.Kinds as spec;
+ghost use Rattle.fmp_codes.specs.Kinds as spec;
 ghost use Rattle.fmp_calls.specs.Known.{IsKnown, AreKnown};
 ghost use Rattle.fmp_calls.specs.Entries.{value_at as value_of_place};
 ghost use Rattle.fmp_calls.specs.Table.{line_of, text_of, is_bare, kinds_of, call_of, values_of, named};
 
-use crate::kinds::{ArgumentKind, Value};
 use arrayvec::ArrayVec;
-use fmp_codes::Call;
+use fmp_codes::{ArgumentKind, Call, Value};
 
 /// The kind of an argument, as a line names it.
 macro_rules! kind {
-    (task) => { $crate::ArgumentKind::Object($crate::ObjectKind::Task) };
-    (semaphore) => { $crate::ArgumentKind::Object($crate::ObjectKind::Semaphore) };
-    (eventflag) => { $crate::ArgumentKind::Object($crate::ObjectKind::Eventflag) };
-    (data_queue) => { $crate::ArgumentKind::Object($crate::ObjectKind::DataQueue) };
-    (pool) => { $crate::ArgumentKind::Object($crate::ObjectKind::Pool) };
-    (cyclic) => { $crate::ArgumentKind::Object($crate::ObjectKind::Cyclic) };
-    (alarm) => { $crate::ArgumentKind::Object($crate::ObjectKind::Alarm) };
-    (spin_lock) => { $crate::ArgumentKind::Object($crate::ObjectKind::SpinLock) };
-    (priority) => { $crate::ArgumentKind::Priority };
-    (processor) => { $crate::ArgumentKind::Processor };
-    (time) => { $crate::ArgumentKind::Time };
-    (timeout) => { $crate::ArgumentKind::Timeout };
-    (pattern) => { $crate::ArgumentKind::Pattern };
-    (data) => { $crate::ArgumentKind::Data };
-    (mode) => { $crate::ArgumentKind::Mode };
-    (block) => { $crate::ArgumentKind::Block };
+    (task) => { fmp_codes::ArgumentKind::Object(fmp_codes::ObjectKind::Task) };
+    (semaphore) => { fmp_codes::ArgumentKind::Object(fmp_codes::ObjectKind::Semaphore) };
+    (eventflag) => { fmp_codes::ArgumentKind::Object(fmp_codes::ObjectKind::Eventflag) };
+    (data_queue) => { fmp_codes::ArgumentKind::Object(fmp_codes::ObjectKind::DataQueue) };
+    (pool) => { fmp_codes::ArgumentKind::Object(fmp_codes::ObjectKind::Pool) };
+    (cyclic) => { fmp_codes::ArgumentKind::Object(fmp_codes::ObjectKind::Cyclic) };
+    (alarm) => { fmp_codes::ArgumentKind::Object(fmp_codes::ObjectKind::Alarm) };
+    (spin_lock) => { fmp_codes::ArgumentKind::Object(fmp_codes::ObjectKind::SpinLock) };
+    (priority) => { fmp_codes::ArgumentKind::Priority };
+    (processor) => { fmp_codes::ArgumentKind::Processor };
+    (time) => { fmp_codes::ArgumentKind::Time };
+    (timeout) => { fmp_codes::ArgumentKind::Timeout };
+    (pattern) => { fmp_codes::ArgumentKind::Pattern };
+    (data) => { fmp_codes::ArgumentKind::Data };
+    (mode) => { fmp_codes::ArgumentKind::Mode };
+    (block) => { fmp_codes::ArgumentKind::Block };
 }
 
 /// The value of an argument of a kind.
 macro_rules! value {
-    (pattern, $argument:expr) => { $crate::Value::Pattern($argument) };
-    (data, $argument:expr) => { $crate::Value::Data($argument) };
-    (mode, $argument:expr) => { $crate::Value::Mode($argument) };
-    ($kind:ident, $argument:expr) => { $crate::Value::Number($argument) };
+    (pattern, $argument:expr) => { fmp_codes::Value::Pattern($argument) };
+    (data, $argument:expr) => { fmp_codes::Value::Data($argument) };
+    (mode, $argument:expr) => { fmp_codes::Value::Mode($argument) };
+    ($kind:ident, $argument:expr) => { fmp_codes::Value::Number($argument) };
 }
 
 /// The argument of a kind that a value is.

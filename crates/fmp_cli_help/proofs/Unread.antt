@@ -13,7 +13,7 @@ use Rattle.fmp_codes.specs.declared.calls.TimeCall.TheVariants as time
 use Rattle.fmp_codes.specs.declared.calls.SystemCall.TheVariants as system
 use Rattle.fmp_codes.specs.declared.calls.SpinCall.TheVariants as spin
 use Rattle.fmp_calls.specs.Table as table
-use Rattle.fmp_calls.specs.declared.kinds.ObjectKind.TheVariants as objects
+use Rattle.fmp_codes.specs.declared.kinds.ObjectKind.TheVariants as objects
 use Rattle.fmp_calls.proofs.Found.{found_passes}
 use Rattle.fmp_calls.proofs.Matched.{text_of-named}
 use Rattle.fmp_config_statements.specs.Faults as configs

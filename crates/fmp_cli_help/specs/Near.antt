@@ -4,7 +4,7 @@ use Rattle.std.specs.List.{starts_with}
 use Rattle.std.specs.Option.{option_or}
 use Rattle.std.specs.Str.{str_to_ascii_lowercase}
 use Rattle.strsim.specs.Edits.{levenshtein_row}
-use Rattle.fmp_calls.specs.declared.kinds.ObjectKind.{ObjectKind}
+use Rattle.fmp_codes.specs.declared.kinds.ObjectKind.{ObjectKind}
 use Rattle.fmp_calls.specs.declared.table.task.TheConstants.{TASK_CALLS}
 use Rattle.fmp_calls.specs.declared.table.sync.TheConstants.{SYNC_CALLS}
 use Rattle.fmp_calls.specs.declared.table.buffer.TheConstants.{BUFFER_CALLS}

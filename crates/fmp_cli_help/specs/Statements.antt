@@ -1,7 +1,7 @@
 -- How the statements are listed.
 use Rattle.std.specs.Prelude.{ℕ, ◌+◌, ◌^◌, ◌-◌, List, [], ◌∷◌, ◌++◌, Option, Some, None, ◌==◌, nat_lt, codes, decimal, if◌then◌else◌}
 use Rattle.fmp_bytes.specs.Bytes.{comma}
-use Rattle.fmp_calls.specs.declared.kinds.ObjectKind.TheVariants.{Task, Semaphore}
+use Rattle.fmp_codes.specs.declared.kinds.ObjectKind.TheVariants.{Task, Semaphore}
 use Rattle.fmp_cli_help.specs.Fields.{attribute_word, first_word, free_field, second_word, word_of}
 use Rattle.fmp_config_statements.specs.declared.attributes.Attribute.{Attribute}
 use Rattle.fmp_config_statements.specs.declared.parts.Part.{Part}

@@ -4,11 +4,8 @@ ghost use Rattle.fmp_codes.specs.declared.calls.Call.TheVariants as families;
 ghost use Rattle.fmp_cli_help.specs.Calls as spec;
 
 use crate::deeds::deed;
-use fmp_calls::{
-    ArgumentKind, BUFFER_CALLS, ObjectKind, SPIN_CALLS, SYNC_CALLS, SYSTEM_CALLS, TASK_CALLS,
-    TIME_CALLS, form,
-};
-use fmp_codes::{BufferCall, Call, SpinCall, SyncCall, SystemCall, TaskCall, TimeCall};
+use fmp_calls::{BUFFER_CALLS, SPIN_CALLS, SYNC_CALLS, SYSTEM_CALLS, TASK_CALLS, TIME_CALLS, form};
+use fmp_codes::{ArgumentKind, BufferCall, Call, ObjectKind, SpinCall, SyncCall, SystemCall, TaskCall, TimeCall};
 use std::alloc::AllocError;
 
 /// What an argument of a kind is called.

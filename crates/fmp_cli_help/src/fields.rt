@@ -2,7 +2,7 @@
 ghost use Rattle.std.specs.Prelude.{◌≡◌};
 ghost use Rattle.fmp_cli_help.specs.Fields as spec;
 
-use fmp_calls::ObjectKind;
+use fmp_codes::ObjectKind;
 use fmp_config_statements::{Item, StatementName};
 
 /// What the identifier of what a statement names is called.

@@ -3,7 +3,7 @@ ghost use Rattle.std.specs.Prelude.{◌≡◌, ◌≤◌, ◌++◌, OnOk, decima
 ghost use Rattle.fmp_cli_help.specs.Statements as spec;
 
 use crate::fields::{attribute_word, first_word, free_field, second_word, word_of};
-use fmp_calls::ObjectKind;
+use fmp_codes::ObjectKind;
 use fmp_config_statements::{Attribute, Part, Range, STATEMENT_NAMES, StatementName, allowed};
 use itoa::Buffer;
 use std::alloc::AllocError;

@@ -4,7 +4,7 @@ use Rattle.std.specs.List.{slice_get}
 use Rattle.std.proofs.lemmas.Bool.{cases_eq, ne_eqb}
 use Rattle.std.proofs.lemmas.List.{drop_more}
 use Rattle.std.proofs.lemmas.Option.{slice_get_within, get_or_from_slice_get}
-use Rattle.fmp_calls.specs.declared.kinds.NameKind.{NameKind}
+use Rattle.fmp_codes.specs.declared.kinds.NameKind.{NameKind}
 use Rattle.fmp_names.specs.Names.{NameLists, name_of, names_of}
 use Rattle.fmp_names.proofs.Placed.{numbered}
 use Rattle.fmp_names.proofs.Listed.{past_last}

@@ -3,8 +3,8 @@ use Rattle.std.specs.Prelude.{ℕ, true, false, ◌+◌, ◌-◌, List, [], ◌+
 use Rattle.std.specs.Option.{option_map_or}
 use Rattle.fmp_bytes.specs.declared.classes.Class.TheVariants.{Argument, Blank, Word}
 use Rattle.fmp_bytes.specs.Bytes.{prefix, after}
-use Rattle.fmp_calls.specs.declared.kinds.ArgumentKind.TheVariants as arguments
-use Rattle.fmp_calls.specs.declared.kinds.ObjectKind.TheVariants.{Task}
+use Rattle.fmp_codes.specs.declared.kinds.ArgumentKind.TheVariants as arguments
+use Rattle.fmp_codes.specs.declared.kinds.ObjectKind.TheVariants.{Task}
 use Rattle.fmp_cli_hints.specs.declared.text.TextForm.{TextForm}
 use Rattle.fmp_cli_hints.specs.declared.text.TextForm.TheVariants as forms
 use Rattle.fmp_cli_hints.specs.declared.wanted.Wanted.{Wanted}

@@ -1,7 +1,7 @@
 -- The nearest of all tasks, handlers and objects of a configuration.
 use Rattle.std.specs.Prelude.{ℕ, List, [], ◌∷◌, Option, None}
-use Rattle.fmp_calls.specs.declared.kinds.NameKind.TheVariants.{Object}
-use Rattle.fmp_calls.specs.declared.kinds.ObjectKind.{ObjectKind}
+use Rattle.fmp_codes.specs.declared.kinds.NameKind.TheVariants.{Object}
+use Rattle.fmp_codes.specs.declared.kinds.ObjectKind.{ObjectKind}
 use Rattle.fmp_cli_help.specs.Near.{nearest}
 use Rattle.fmp_cli_hints.specs.declared.things.TheConstants.{KINDS}
 use Rattle.fmp_names.specs.Names.{NameLists, names_of}

@@ -1,7 +1,7 @@
 //! What is told of the word at fault, beside what is wanted in its place.
 ghost use Rattle.std.specs.Prelude.{◌≡◌, ◌++◌, [], ◌∷◌, None, OnOk, IfOk};
 ghost use Rattle.std.specs.Option.{option_copied};
-ghost use Rattle.fmp_calls.specs.declared.kinds.NameKind.TheVariants.{Object};
+ghost use Rattle.fmp_codes.specs.declared.kinds.NameKind.TheVariants.{Object};
 ghost use Rattle.fmp_cli_hints.specs.Hints as spec;
 ghost use Rattle.fmp_cli_help.specs.Near.{nearest};
 ghost use Rattle.fmp_names.specs.Names.{names_of};
@@ -10,7 +10,8 @@ use crate::rows::{CALL_ROWS, foreign_words, report_of};
 use crate::wanted::Wanted;
 use crate::way::is_code;
 use fmp_bytes::{Class, spelled_number, split_prefix};
-use fmp_calls::{ArgumentKind, NameKind, ObjectKind, find_call};
+use fmp_calls::find_call;
+use fmp_codes::{ArgumentKind, NameKind, ObjectKind};
 use fmp_cli_help::{is_left_out, near_answer, near_call, nearer, put_left_out};
 use fmp_text::{Names, is_name, value_at};
 use itoa::Buffer;

@@ -4,7 +4,7 @@ ghost use Rattle.std.specs.Option.{option_copied};
 ghost use Rattle.fmp_cli_hints.specs.Things as spec;
 
 use crate::hints::near_object;
-use fmp_calls::ObjectKind;
+use fmp_codes::ObjectKind;
 use fmp_text::Names;
 use std::alloc::{AllocError, Global};
 

@@ -9,8 +9,8 @@ ghost use Rattle.fmp_cli_hints.specs.Traces as spec;
 use crate::walk::{Walk, after_name};
 use crate::wanted::Wanted;
 use fmp_bytes::{Class, cut, following, skip, split_prefix};
-use fmp_calls::{NameKind, ObjectKind, find_call, form};
-use fmp_codes::{Call, Event, Proc, Record};
+use fmp_calls::{find_call, form};
+use fmp_codes::{Call, Event, NameKind, ObjectKind, Proc, Record};
 use fmp_text::{Names, TextKind, processor_in, read_call};
 use fmp_trace::{
     guess_event, put_answer, put_event, put_lost, put_releases, put_requests, put_run_change,

@@ -4,8 +4,8 @@ ghost use Rattle.fmp_cli_hints.specs.Places as spec;
 
 use crate::wanted::Wanted;
 use fmp_bytes::{Class, following, skip, split_prefix};
-use fmp_calls::{ArgumentKind, form};
-use fmp_codes::Call;
+use fmp_calls::form;
+use fmp_codes::{ArgumentKind, Call};
 use fmp_text::{Names, is_argument, value_at};
 use std::marker::Model;
 

@@ -2,8 +2,8 @@
 use Rattle.std.specs.Prelude.{ℕ, ◌+◌, ◌-◌, ◌&&◌, Bool, true, false, List, [], ◌++◌, slice_get, position, Option, Some, None, is_none, option_and_then, ◌==◌, codes}
 use Rattle.std.specs.Prelude.{if◌then◌else◌}
 use Rattle.std.specs.Option.{option_map_or}
-use Rattle.fmp_calls.specs.declared.kinds.NameKind.TheVariants.{Object, Function}
-use Rattle.fmp_calls.specs.declared.kinds.ObjectKind.TheVariants.{Task}
+use Rattle.fmp_codes.specs.declared.kinds.NameKind.TheVariants.{Object, Function}
+use Rattle.fmp_codes.specs.declared.kinds.ObjectKind.TheVariants.{Task}
 use Rattle.fmp_cli_hints.specs.Hints.{near_line}
 use Rattle.fmp_cli_hints.specs.Things.{near_thing}
 use Rattle.fmp_cli_hints.specs.Texts.{function_at, task_at}

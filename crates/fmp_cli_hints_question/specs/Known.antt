@@ -3,7 +3,7 @@ use Rattle.std.specs.Prelude.{ℕ, Bool, ◌||◌, List, [], ◌∷◌, ◌++◌
 use Rattle.std.specs.List.{list_any}
 use Rattle.std.specs.Option.{option_or}
 use Rattle.std.specs.Str.{bytes_eq}
-use Rattle.fmp_calls.specs.declared.kinds.NameKind.TheVariants.{Function}
+use Rattle.fmp_codes.specs.declared.kinds.NameKind.TheVariants.{Function}
 use Rattle.fmp_cli_help.specs.Near.{near_answer, nearest}
 use Rattle.fmp_cli_hints_question.specs.declared.rows.TheConstants.{QUESTION_ROWS}
 use Rattle.fmp_cli_hints.specs.Hints.{near_line}

@@ -5,8 +5,8 @@ use Rattle.std.specs.List.{starts_with}
 use Rattle.std.specs.Option.{option_map_or}
 use Rattle.fmp_bytes.specs.Bytes.{colon, comma, cut_at, equals_sign, following, open_parenthesis}
 use Rattle.fmp_calls.specs.Table.{kinds_of, named}
-use Rattle.fmp_calls.specs.declared.kinds.ArgumentKind.{ArgumentKind}
-use Rattle.fmp_calls.specs.declared.kinds.ArgumentKind.TheVariants as kinds
+use Rattle.fmp_codes.specs.declared.kinds.ArgumentKind.{ArgumentKind}
+use Rattle.fmp_codes.specs.declared.kinds.ArgumentKind.TheVariants as kinds
 use Rattle.fmp_cli_hints.specs.Rows.{report_of}
 use Rattle.fmp_cli_hints_question.specs.declared.rows.TheConstants.{LINE_ROWS}
 

@@ -10,6 +10,7 @@
 
 mod calls;
 mod codes;
+mod kinds;
 mod numbers;
 mod records;
 mod release_list;
@@ -17,6 +18,7 @@ mod request_list;
 
 pub use calls::{BufferCall, Call, Mode, SpinCall, SyncCall, SystemCall, TaskCall, TimeCall};
 pub use codes::{Code, codes_are_listed};
+pub use kinds::{ArgumentKind, NameKind, ObjectKind, Value};
 pub use numbers::{Block, Object, Pri, Proc, Task};
 pub use records::{Answer, Event, Record, Release, Runner, worded_answers_are_listed};
 pub use release_list::Releases;

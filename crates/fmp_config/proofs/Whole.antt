@@ -2,8 +2,8 @@
 use Rattle.std.proofs.Common.{◌≡◌, Bool, true, false, not, ◌||◌, ◌&&◌, List, [], ◌∷◌, length, nat_eq, refl, sym, ◌∙◌, arith}
 use Rattle.std.specs.List.{list_any}
 use Rattle.std.proofs.lemmas.Bool.{false≢true, and_parts, eqb-true}
-use Rattle.fmp_calls.specs.declared.kinds.ObjectKind.{ObjectKind}
-use Rattle.fmp_calls.specs.declared.kinds.ObjectKind.TheVariants as objects
+use Rattle.fmp_codes.specs.declared.kinds.ObjectKind.{ObjectKind}
+use Rattle.fmp_codes.specs.declared.kinds.ObjectKind.TheVariants as objects
 use Rattle.fmp_names.specs.Names.{is_name}
 use Rattle.fmp_config_statements.specs.declared.parts.Item.{Item}
 use Rattle.fmp_config_statements.specs.declared.parts.Part.{Part}

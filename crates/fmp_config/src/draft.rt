@@ -2,7 +2,7 @@
 ghost use Rattle.std.specs.Prelude.{◌≡◌, ◌≤◌, true, false, OnOk, IfOk};
 ghost use Rattle.fmp_setup.specs.Building.{is_refused, kind_of};
 ghost use Rattle.fmp_names.specs.Names.{has_room};
-ghost use Rattle.fmp_calls.specs.declared.kinds.NameKind.TheVariants.{Object};
+ghost use Rattle.fmp_codes.specs.declared.kinds.NameKind.TheVariants.{Object};
 ghost use Rattle.fmp_config.specs.Judging as spec;
 ghost use Rattle.fmp_config.specs.Objects as objects;
 ghost use Rattle.fmp_config.specs.Places as places;
@@ -10,8 +10,7 @@ ghost use Rattle.fmp_config.specs.Sound.{Fit};
 
 use crate::indexed::IndexedParts;
 use crate::numbers::{Numbers, class_of, number_within, numbers_of};
-use fmp_calls::{NameKind, ObjectKind};
-use fmp_codes::{Pri, Proc};
+use fmp_codes::{NameKind, ObjectKind, Pri, Proc};
 use fmp_config_statements::{
     Attributes, ConfigKind, Directive, Fault, Form, Range, ReadError, StatementName, Word, allowed,
     attributes_in,

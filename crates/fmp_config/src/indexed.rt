@@ -1,6 +1,6 @@
 //! The parts of a configuration while it is read, with its defined names in a table.
 ghost use Rattle.std.specs.Prelude.{◌≡◌, ◌≤◌, ◌||◌, false, true, OnOk, IfOk};
-ghost use Rattle.fmp_calls.specs.declared.kinds.NameKind.TheVariants.{Object};
+ghost use Rattle.fmp_codes.specs.declared.kinds.NameKind.TheVariants.{Object};
 ghost use Rattle.fmp_names.specs.Names.{has_name, has_room, has_room_to_define, is_name, is_object, is_reserved, number_defined};
 ghost use Rattle.fmp_setup.specs.Building as spec;
 ghost use Rattle.fmp_setup.specs.Parts.{setup_of};

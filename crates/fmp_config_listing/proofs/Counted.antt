@@ -3,8 +3,8 @@ use Rattle.std.proofs.Common.{◌≡◌, ◌≤◌, ◌<◌, ℕ, suc, ◌+◌, 
 use Rattle.std.specs.Prelude.{slice_get}
 use Rattle.std.proofs.lemmas.Option.{slice_get_within, get_or_from_slice_get}
 use Rattle.fmp_out.specs.Putting.{Adds, Owes, Putting}
-use Rattle.fmp_calls.specs.declared.kinds.ObjectKind.{ObjectKind}
-use Rattle.fmp_calls.specs.declared.kinds.NameKind.TheVariants.{Function}
+use Rattle.fmp_codes.specs.declared.kinds.ObjectKind.{ObjectKind}
+use Rattle.fmp_codes.specs.declared.kinds.NameKind.TheVariants.{Function}
 use Rattle.fmp_names.specs.Names.{NameLists, name_of}
 use Rattle.fmp_names.proofs.Placed.{numbered}
 use Rattle.fmp_names.proofs.Listed.{past_last}

@@ -1,7 +1,7 @@
 -- What stands after the number and the name of an object: the fields of its statement under their names.
 use Rattle.std.specs.Prelude.{ℕ, Bool, if◌then◌else◌, unwrap_or, option_map, slice_get, List, [], ◌++◌, codes, decimal}
-use Rattle.fmp_calls.specs.declared.kinds.ObjectKind.{ObjectKind}
-use Rattle.fmp_calls.specs.declared.kinds.ObjectKind.TheVariants.{Task, Semaphore, Eventflag, DataQueue, Pool, Cyclic, Alarm, SpinLock}
+use Rattle.fmp_codes.specs.declared.kinds.ObjectKind.{ObjectKind}
+use Rattle.fmp_codes.specs.declared.kinds.ObjectKind.TheVariants.{Task, Semaphore, Eventflag, DataQueue, Pool, Cyclic, Alarm, SpinLock}
 use Rattle.fmp_setup.specs.Setup.{Setup}
 use Rattle.fmp_setup.specs.declared.setup.Order.{Order}
 use Rattle.fmp_setup.specs.declared.setup.Order.TheVariants.{First, Priority}

@@ -1,6 +1,6 @@
 -- The lines of the functions, and the name of a function in other lines.
 use Rattle.std.specs.Prelude.{ℕ, ◌+◌, unwrap_or, List, [], ◌∷◌, ◌++◌, codes, decimal}
-use Rattle.fmp_calls.specs.declared.kinds.NameKind.TheVariants.{Function}
+use Rattle.fmp_codes.specs.declared.kinds.NameKind.TheVariants.{Function}
 use Rattle.fmp_names.specs.Names.{name_of}
 use Rattle.fmp_setup.specs.Setup.{Setup}
 

@@ -5,7 +5,7 @@ ghost use Rattle.fmp_config_listing.specs.Fields as spec;
 
 use crate::classes::put_class;
 use crate::functions::function_name;
-use fmp_calls::ObjectKind;
+use fmp_codes::ObjectKind;
 use fmp_config_statements::Attribute;
 use fmp_out::Text;
 use fmp_setup::{

@@ -3,7 +3,7 @@ ghost use Rattle.std.specs.Prelude.{◌≡◌};
 ghost use Rattle.fmp_out.specs.Putting.{Adds};
 ghost use Rattle.fmp_config_listing.specs.Functions as spec;
 
-use fmp_calls::NameKind;
+use fmp_codes::NameKind;
 use fmp_out::Text;
 use fmp_setup::Config;
 

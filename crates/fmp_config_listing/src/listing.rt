@@ -7,7 +7,7 @@ ghost use Rattle.fmp_config_listing.specs.Listing as spec;
 use crate::classes::{put_classes, put_processor};
 use crate::fields::{put_count, put_fields};
 use crate::functions::put_functions;
-use fmp_calls::{NameKind, ObjectKind};
+use fmp_codes::{NameKind, ObjectKind};
 use fmp_names::Names;
 use fmp_out::Text;
 use fmp_setup::{Config, Limits, Timer};

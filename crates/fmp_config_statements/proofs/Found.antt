@@ -1,6 +1,6 @@
 -- A statement is found by its word.
 use Rattle.std.proofs.Common.{◌≡◌, Some, refl}
-use Rattle.fmp_calls.specs.declared.kinds.ObjectKind.TheVariants.{Task, Semaphore, Eventflag, DataQueue, Pool, Cyclic, Alarm, SpinLock}
+use Rattle.fmp_codes.specs.declared.kinds.ObjectKind.TheVariants.{Task, Semaphore, Eventflag, DataQueue, Pool, Cyclic, Alarm, SpinLock}
 use Rattle.fmp_config_statements.specs.declared.table.StatementName.{StatementName}
 use Rattle.fmp_config_statements.specs.declared.table.StatementName.TheVariants.{Include, Processors, Timer, Limits, DefClass, Class, Create}
 use Rattle.fmp_config_statements.specs.Table.{statement_of, text_of}

@@ -2,8 +2,8 @@
 -- The table of the statements: words, parts, attributes and ranges.
 use Rattle.std.specs.Prelude.{ℕ, ◌-◌, ◌^◌, List, find, Option, Some, None, codes}
 use Rattle.std.specs.Str.{bytes_eq}
-use Rattle.fmp_calls.specs.declared.kinds.ObjectKind.{ObjectKind}
-use Rattle.fmp_calls.specs.declared.kinds.ObjectKind.TheVariants.{Task, Semaphore, Eventflag, DataQueue, Pool, Cyclic, Alarm, SpinLock}
+use Rattle.fmp_codes.specs.declared.kinds.ObjectKind.{ObjectKind}
+use Rattle.fmp_codes.specs.declared.kinds.ObjectKind.TheVariants.{Task, Semaphore, Eventflag, DataQueue, Pool, Cyclic, Alarm, SpinLock}
 use Rattle.fmp_config_statements.specs.declared.attributes.Attribute.{Attribute}
 use Rattle.fmp_config_statements.specs.declared.parts.Part.{Part}
 use Rattle.fmp_config_statements.specs.declared.table.Range.{Range}

@@ -5,7 +5,7 @@ ghost use Rattle.fmp_config_statements.specs.Table as spec;
 
 use crate::attributes::Attribute;
 use crate::parts::{Item, Part};
-use fmp_calls::ObjectKind;
+use fmp_codes::ObjectKind;
 
 /// The statements.
 #[derive(Clone, Copy)]

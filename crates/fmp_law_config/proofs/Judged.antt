@@ -4,8 +4,8 @@ use Rattle.std.specs.Option.{option_map_or}
 use Rattle.std.proofs.lemmas.Bool.{eq-eqb, eqb-true}
 use Rattle.fmp_bytes.proofs.Parsed.{tested_ok, some_is, bind_parts}
 use Rattle.fmp_bytes.specs.Results.{◌>>=◌}
-use Rattle.fmp_calls.specs.declared.kinds.NameKind.TheVariants.{Object}
-use Rattle.fmp_calls.specs.declared.kinds.ObjectKind.{ObjectKind}
+use Rattle.fmp_codes.specs.declared.kinds.NameKind.TheVariants.{Object}
+use Rattle.fmp_codes.specs.declared.kinds.ObjectKind.{ObjectKind}
 use Rattle.fmp_names.specs.Names.{number_defined, has_room, has_room_to_define}
 use Rattle.fmp_config_statements.specs.declared.fault.ConfigKind.TheVariants.{NameTaken, OutOfRange, OutsideClass, ForeignHandler}
 use Rattle.fmp_config_statements.specs.declared.table.StatementName.TheVariants as statements

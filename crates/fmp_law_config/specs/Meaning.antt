@@ -3,8 +3,8 @@
 use Rattle.std.specs.Prelude.{ℕ, ◌≡◌, ◌<◌, ◌⊎◌, Bool, true, false, not, ◌&&◌, ◌||◌, List, [], ◌∷◌, length, map, Some, None, is_some, ◌==◌, All, Contains}
 use Rattle.std.specs.List.{list_all, list_any}
 use Rattle.fmp_codes.specs.Numbers.{as_proc}
-use Rattle.fmp_calls.specs.declared.kinds.NameKind.TheVariants.{Object}
-use Rattle.fmp_calls.specs.declared.kinds.ObjectKind.{ObjectKind}
+use Rattle.fmp_codes.specs.declared.kinds.NameKind.TheVariants.{Object}
+use Rattle.fmp_codes.specs.declared.kinds.ObjectKind.{ObjectKind}
 use Rattle.fmp_names.specs.Names.{has_room}
 use Rattle.fmp_config_statements.specs.declared.attributes.Attribute.{Attribute}
 use Rattle.fmp_config_statements.specs.declared.attributes.Attributes.{Attributes}

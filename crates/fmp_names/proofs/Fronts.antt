@@ -5,9 +5,9 @@ use Rattle.std.proofs.lemmas.List.{length-map, get_or-map, get_or-set_same, get_
 use Rattle.std.proofs.Math.Seq.{get_or-append_seam}
 use Rattle.std.proofs.lemmas.Option.{slice_get-get_or, slice_get_within, get_or_from_slice_get}
 use Rattle.fmp_names.specs.declared.pieces.Piece.{Piece}
-use Rattle.fmp_calls.specs.declared.kinds.ObjectKind.{ObjectKind}
-use Rattle.fmp_calls.specs.declared.kinds.NameKind.TheVariants.{Object}
-use Rattle.fmp_calls.specs.Kinds.{place_of}
+use Rattle.fmp_codes.specs.declared.kinds.ObjectKind.{ObjectKind}
+use Rattle.fmp_codes.specs.declared.kinds.NameKind.TheVariants.{Object}
+use Rattle.fmp_codes.specs.Kinds.{place_of}
 use Rattle.std.specs.Global.{Vec}
 use Rattle.fmp_names.specs.Names.{NameLists, name_of, texts}
 use Rattle.fmp_names.specs.Pieces.{AreExtended, AreFronts, IsPieceSet}

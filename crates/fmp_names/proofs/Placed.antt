@@ -6,10 +6,10 @@ use Rattle.std.proofs.lemmas.Bool.{cases_lt, cases_eq, cases_Bool, lt-ltb, le-lt
 use Rattle.std.proofs.lemmas.Slice.Eq.{bytes_eq-Decides}
 use Rattle.std.proofs.lemmas.List.Sums.{sum_by-cons, sum_by-set, passes_at_first}
 use Rattle.std.proofs.lemmas.Option.{slice_get-get_or, slice_get_within, get_or_from_slice_get}
-use Rattle.fmp_calls.specs.declared.kinds.ObjectKind.{ObjectKind}
-use Rattle.fmp_calls.specs.declared.kinds.NameKind.{NameKind}
-use Rattle.fmp_calls.specs.declared.kinds.NameKind.TheVariants.{Object, Function}
-use Rattle.fmp_calls.specs.Kinds.{place_of}
+use Rattle.fmp_codes.specs.declared.kinds.ObjectKind.{ObjectKind}
+use Rattle.fmp_codes.specs.declared.kinds.NameKind.{NameKind}
+use Rattle.fmp_codes.specs.declared.kinds.NameKind.TheVariants.{Object, Function}
+use Rattle.fmp_codes.specs.Kinds.{place_of}
 use Rattle.fmp_names.specs.Names.{NameLists, AreValid, names_of, number_of, name_of, times, is_name, is_reserved}
 use Rattle.fmp_names.proofs.Listed.{list_all-at}
 use Rattle.fmp_names.proofs.Valid.{place_of-lt}

@@ -8,11 +8,11 @@ use Rattle.std.proofs.lemmas.Slice.Eq.{bytes_eq-Decides}
 use Rattle.std.proofs.lemmas.List.{length-set, map_push, get_or-set_same, get_or-set_other}
 use Rattle.std.proofs.lemmas.List.Elements.{All-append, All-cons, All-nil}
 use Rattle.std.proofs.lemmas.List.Sums.{sum_by-set}
-use Rattle.fmp_calls.specs.declared.kinds.ObjectKind.{ObjectKind}
-use Rattle.fmp_calls.specs.declared.kinds.ObjectKind.TheVariants.{Task}
-use Rattle.fmp_calls.specs.declared.kinds.NameKind.{NameKind}
-use Rattle.fmp_calls.specs.declared.kinds.NameKind.TheVariants.{Object, Function}
-use Rattle.fmp_calls.specs.Kinds.{place_of, most_of}
+use Rattle.fmp_codes.specs.declared.kinds.ObjectKind.{ObjectKind}
+use Rattle.fmp_codes.specs.declared.kinds.ObjectKind.TheVariants.{Task}
+use Rattle.fmp_codes.specs.declared.kinds.NameKind.{NameKind}
+use Rattle.fmp_codes.specs.declared.kinds.NameKind.TheVariants.{Object, Function}
+use Rattle.fmp_codes.specs.Kinds.{place_of, most_of}
 use Rattle.fmp_names.specs.Names.{NameLists, AreValid, defined_names, is_name, is_reserved, is_free, is_taken, is_object, is_defined, has_name, has_room, has_room_to_define, most_defined, with_name, with_defined_name, no_names, times}
 use Rattle.fmp_names.proofs.Listed.{list_all-at, list_all-set, list_all-push, times-none, times_any-none, times-push, list_any-nowhere, either_way}
 

@@ -3,11 +3,11 @@
 use Rattle.std.specs.Prelude.{ℕ, pos, negsuc, List, [], ◌∷◌, Option, Some, None, find, codes}
 use Rattle.std.specs.Str.{bytes_eq}
 use Rattle.fmp_codes.specs.declared.calls.Mode.TheVariants.{Andw, Orw}
-use Rattle.fmp_calls.specs.declared.kinds.ArgumentKind.{ArgumentKind}
-use Rattle.fmp_calls.specs.declared.kinds.ArgumentKind.TheVariants as kinds
-use Rattle.fmp_calls.specs.declared.kinds.ObjectKind.TheVariants as objects
-use Rattle.fmp_calls.specs.declared.kinds.Value.{Value}
-use Rattle.fmp_calls.specs.declared.kinds.Value.TheVariants as values
+use Rattle.fmp_codes.specs.declared.kinds.ArgumentKind.{ArgumentKind}
+use Rattle.fmp_codes.specs.declared.kinds.ArgumentKind.TheVariants as kinds
+use Rattle.fmp_codes.specs.declared.kinds.ObjectKind.TheVariants as objects
+use Rattle.fmp_codes.specs.declared.kinds.Value.{Value}
+use Rattle.fmp_codes.specs.declared.kinds.Value.TheVariants as values
 use Rattle.fmp_names.specs.declared.constants.Constant.{Constant}
 use Rattle.fmp_names.specs.declared.constants.Constant.TheVariants.{TskSelf, TpriSelf, TpriIni, TprcIni, TmoPol, TmoFevr, TwfAndw, TwfOrw}
 

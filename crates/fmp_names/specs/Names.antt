@@ -10,10 +10,10 @@ use Rattle.std.specs.Str.{bytes_eq}
 use Rattle.fmp_bytes.specs.Bytes.{following, is_identifier, letter_p}
 use Rattle.fmp_bytes.specs.Numerals.{are_digits}
 use Rattle.fmp_names.specs.Constants.{constant_in}
-use Rattle.fmp_calls.specs.declared.kinds.ObjectKind.{ObjectKind}
-use Rattle.fmp_calls.specs.Kinds.{place_of, most_of}
-use Rattle.fmp_calls.specs.declared.kinds.NameKind.{NameKind}
-use Rattle.fmp_calls.specs.declared.kinds.NameKind.TheVariants.{Object, Function}
+use Rattle.fmp_codes.specs.declared.kinds.ObjectKind.{ObjectKind}
+use Rattle.fmp_codes.specs.Kinds.{place_of, most_of}
+use Rattle.fmp_codes.specs.declared.kinds.NameKind.{NameKind}
+use Rattle.fmp_codes.specs.declared.kinds.NameKind.TheVariants.{Object, Function}
 
 -- how many processors there are, the objects' names in a list for each kind, the functions' names, and the names that are
 -- defined to stand for numbers

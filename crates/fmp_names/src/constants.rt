@@ -2,8 +2,7 @@
 ghost use Rattle.std.specs.Prelude.{◌≡◌};
 ghost use Rattle.fmp_names.specs.Constants as spec;
 
-use fmp_calls::{ArgumentKind, ObjectKind, Value};
-use fmp_codes::Mode;
+use fmp_codes::{ArgumentKind, Mode, ObjectKind, Value};
 
 /// A word that stands for a value in the places of one kind.
 #[derive(Clone, Copy)]

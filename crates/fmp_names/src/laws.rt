@@ -1,6 +1,6 @@
 //! Laws of names and their numbers.
 ghost use Rattle.std.specs.Prelude.{◌≡◌, ℕ, List, Some};
-ghost use Rattle.fmp_calls.specs.declared.kinds.NameKind.{NameKind};
+ghost use Rattle.fmp_codes.specs.declared.kinds.NameKind.{NameKind};
 ghost use Rattle.fmp_names.specs.Names.{NameLists, AreValid, name_of, number_of};
 
 /// A name and its number give each other back.

@@ -6,16 +6,15 @@ ghost use Rattle.std.specs.Option.{option_copied};
 ghost use Rattle.std.specs.List.{list_any};
 ghost use Rattle.std.specs.Map.{keys_of, lookup};
 ghost use Rattle.std.specs.Str.{bytes_eq};
-ghost use Rattle.fmp_calls.specs.declared.kinds.ObjectKind.{ObjectKind};
-ghost use Rattle.fmp_calls.specs.Kinds.{most_of};
-ghost use Rattle.fmp_calls.specs.Known.{IsKnown};
+ghost use Rattle.fmp_codes.specs.declared.kinds.ObjectKind.{ObjectKind};
+ghost use Rattle.fmp_codes.specs.Kinds.{most_of};
 ghost use Rattle.fmp_names.specs.Names as spec;
 
 use crate::constants::constant_in;
 use crate::likely::Likely;
 use crate::pieces::{Piece, Pieces};
 use fmp_bytes::{are_digits, following, is_identifier};
-use fmp_calls::{KnownCall, NameKind, ObjectKind};
+use fmp_codes::{NameKind, ObjectKind};
 use std::alloc::{AllocError, Global};
 use std::marker::Model;
 
@@ -405,14 +404,6 @@ impl Names {
     {
         let number = self.number(NameKind::Object(kind), name)?;
         Some(number as i32)
-    }
-
-    /// A call that a word with this key may name. Nothing is said of which one it is: the caller compares the name.
-    #[inline(always)]
-    pub fn likely_call(&self, key: u64) -> Option<&'static KnownCall>
-        ensures { IfSome result (λ known. IsKnown known.now) }
-    {
-        self.likely.call(key)
     }
 
     /// The numbers of two objects of this kind that a word with this key may name, the likelier first. Nothing is said of them:

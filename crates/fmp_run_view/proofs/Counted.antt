@@ -1,6 +1,6 @@
 -- One place, one signal or one kind more.
 use Rattle.std.proofs.Common.{◌≡◌, ℕ, ◌+◌, suc, Bool, List, [], ◌∷◌, ◌++◌, add-one, refl, sym, ap, ◌∙◌, append_assoc, append-nil}
-use Rattle.fmp_calls.specs.declared.kinds.ObjectKind.{ObjectKind}
+use Rattle.fmp_codes.specs.declared.kinds.ObjectKind.{ObjectKind}
 use Rattle.fmp_setup.specs.Setup.{Setup}
 use Rattle.fmp_run_view.specs.declared.signal.Signal.{Signal}
 use Rattle.fmp_run_view.specs.declared.signal.TheConstants.{SIGNALS}

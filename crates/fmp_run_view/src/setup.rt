@@ -3,7 +3,7 @@ ghost use Rattle.std.specs.Prelude.{◌≡◌, ◌++◌, ◌+◌, ◌^◌, ◌<�
 ghost use Rattle.fmp_config_listing.specs.Listing.{count};
 ghost use Rattle.fmp_run_view.specs.Setups as spec;
 
-use fmp_calls::ObjectKind;
+use fmp_codes::ObjectKind;
 use fmp_config_listing::{KINDS, count, put_processors_line, word};
 use fmp_rules::{Config, Timer};
 use fmp_trace::{put_named, put_number};

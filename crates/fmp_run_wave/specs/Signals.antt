@@ -1,7 +1,7 @@
 -- What a waveform shows of a processor, a task or an object, and the names of that.
 use Rattle.std.specs.Prelude.{ℕ, Option, None, Some, List, ◌++◌, codes, decimal}
-use Rattle.fmp_calls.specs.declared.kinds.ObjectKind.{ObjectKind}
-use Rattle.fmp_calls.specs.declared.kinds.ObjectKind.TheVariants as objects
+use Rattle.fmp_codes.specs.declared.kinds.ObjectKind.{ObjectKind}
+use Rattle.fmp_codes.specs.declared.kinds.ObjectKind.TheVariants as objects
 use Rattle.fmp_names.specs.Names.{NameLists}
 use Rattle.fmp_trace.specs.Values.{named}
 use Rattle.fmp_run_wave.specs.declared.signal.Scope.{Scope}

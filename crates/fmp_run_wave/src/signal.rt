@@ -2,7 +2,7 @@
 ghost use Rattle.std.specs.Prelude.{◌≡◌, ◌++◌, OnOk};
 ghost use Rattle.fmp_run_wave.specs.Signals as spec;
 
-use fmp_calls::ObjectKind;
+use fmp_codes::ObjectKind;
 use fmp_names::Names;
 use fmp_trace::{put_named, put_number};
 use std::alloc::AllocError;

@@ -6,8 +6,8 @@ use Rattle.std.proofs.Math.Seq.{drop-cons}
 use Rattle.std.proofs.lemmas.Bool.{ne_eqb}
 use Rattle.std.proofs.lemmas.List.{append-nil, append_assoc}
 use Rattle.std.proofs.lemmas.Option.{slice_get_within, get_or_from_slice_get, slice_get_cases}
-use Rattle.fmp_calls.specs.declared.kinds.ObjectKind.TheVariants.{Task}
-use Rattle.fmp_calls.specs.declared.kinds.NameKind.TheVariants.{Object}
+use Rattle.fmp_codes.specs.declared.kinds.ObjectKind.TheVariants.{Task}
+use Rattle.fmp_codes.specs.declared.kinds.NameKind.TheVariants.{Object}
 use Rattle.fmp_names.specs.Names.{NameLists, has_name, name_of}
 use Rattle.fmp_search_pattern.specs.Lasting.{Lasting}
 use Rattle.fmp_search_question.specs.Waiting.{waits, waits_of, tasks_of}

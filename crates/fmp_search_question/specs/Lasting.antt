@@ -4,8 +4,8 @@ use Rattle.std.specs.Prelude.{if◌then◌else◌, codes}
 use Rattle.std.specs.List.{list_all}
 use Rattle.std.specs.Str.{bytes_eq}
 use Rattle.fmp_bytes.specs.Bytes.{space, pieces_of}
-use Rattle.fmp_calls.specs.declared.kinds.ObjectKind.TheVariants.{Task}
-use Rattle.fmp_calls.specs.declared.kinds.NameKind.TheVariants.{Object}
+use Rattle.fmp_codes.specs.declared.kinds.ObjectKind.TheVariants.{Task}
+use Rattle.fmp_codes.specs.declared.kinds.NameKind.TheVariants.{Object}
 use Rattle.fmp_names.specs.Names.{NameLists, number_of}
 use Rattle.fmp_search_question.specs.declared.fault.QuestionFault.{QuestionFault}
 use Rattle.fmp_search_question.specs.declared.fault.QuestionFault.TheVariants.{BadWord, BadForm, UnknownName, TooLong}

@@ -13,7 +13,7 @@ use crate::draft::Draft;
 use crate::fault::{QuestionFault, ReadFault};
 use crate::stage::Stage;
 use fmp_bytes::cut;
-use fmp_calls::{NameKind, ObjectKind};
+use fmp_codes::{NameKind, ObjectKind};
 use fmp_names::Names;
 use fmp_search_pattern::{Item, Lasting, Moment, Part, Pattern, Piece};
 use fmp_search_words::is_printed;

@@ -7,7 +7,8 @@ ghost use Rattle.fmp_search_words.specs.Forms as spec;
 use crate::spot::Spot;
 use crate::words::{has_star, has_word, is_processor};
 use fmp_bytes::{are_digits, cut, following, magnitude};
-use fmp_calls::{ArgumentKind, NameKind, ObjectKind, find_call, form};
+use fmp_calls::{find_call, form};
+use fmp_codes::{ArgumentKind, NameKind, ObjectKind};
 use fmp_names::Names;
 use fmp_search_pattern::is_code;
 

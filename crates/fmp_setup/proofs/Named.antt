@@ -6,9 +6,9 @@ use Rattle.std.proofs.lemmas.Bool.{cases_Bool, cases_lt, or_parts, and_parts, fa
 use Rattle.std.proofs.lemmas.Slice.Eq.{bytes_eq-Decides}
 use Rattle.std.proofs.lemmas.List.{map_push}
 use Rattle.std.proofs.lemmas.List.Folds.{list_any-append}
-use Rattle.fmp_calls.specs.declared.kinds.NameKind.TheVariants.{Object}
-use Rattle.fmp_calls.specs.declared.kinds.ObjectKind.{ObjectKind}
-use Rattle.fmp_calls.specs.Kinds.{place_of}
+use Rattle.fmp_codes.specs.declared.kinds.NameKind.TheVariants.{Object}
+use Rattle.fmp_codes.specs.declared.kinds.ObjectKind.{ObjectKind}
+use Rattle.fmp_codes.specs.Kinds.{place_of}
 use Rattle.fmp_names.specs.Names.{NameLists, defined_names, has_name, is_object, is_defined, is_reserved, is_taken, number_of, with_name, with_defined_name}
 use Rattle.fmp_setup.specs.Building.{function_number, has_function, is_refused, with_function, with_object_names}
 use Rattle.fmp_setup.specs.Setup.{Setup}

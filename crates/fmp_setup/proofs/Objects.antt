@@ -4,8 +4,8 @@ use Rattle.std.specs.Prelude.{All, Contains, nat_le}
 use Rattle.std.proofs.lemmas.Bool.{and_parts, and_from, ltb-true, leb-true, le-leb}
 use Rattle.std.proofs.lemmas.List.Elements.{All-append, All-cons, All-nil}
 use Rattle.std.proofs.lemmas.List.Sums.{AllPass-from_list_all, list_all-from_AllPass}
-use Rattle.fmp_calls.specs.Kinds.{most_of, place_of}
-use Rattle.fmp_calls.specs.declared.kinds.NameKind.TheVariants.{Object}
+use Rattle.fmp_codes.specs.Kinds.{most_of, place_of}
+use Rattle.fmp_codes.specs.declared.kinds.NameKind.TheVariants.{Object}
 use Rattle.fmp_names.specs.Names.{NameLists, has_room, is_object, is_defined}
 use Rattle.fmp_setup.specs.declared.parts.Fields.{Fields}
 use Rattle.fmp_setup.specs.declared.parts.Fields.TheVariants as fields

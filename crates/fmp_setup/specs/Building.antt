@@ -2,9 +2,9 @@
 -- A configuration grows by classes, objects and defined names.
 use Rattle.std.specs.Prelude.{ℕ, ◌+◌, ◌<◌, ◌≤◌, ◌^◌, Bool, true, false, ◌||◌, List, [], ◌∷◌, ◌++◌, Option, Some, None, unwrap_or, if◌then◌else◌, IsTrue, Contains}
 use Rattle.std.specs.Str.{bytes_eq}
-use Rattle.fmp_calls.specs.declared.kinds.NameKind.TheVariants.{Object, Function}
-use Rattle.fmp_calls.specs.declared.kinds.ObjectKind.{ObjectKind}
-use Rattle.fmp_calls.specs.declared.kinds.ObjectKind.TheVariants as kinds
+use Rattle.fmp_codes.specs.declared.kinds.NameKind.TheVariants.{Object, Function}
+use Rattle.fmp_codes.specs.declared.kinds.ObjectKind.{ObjectKind}
+use Rattle.fmp_codes.specs.declared.kinds.ObjectKind.TheVariants as kinds
 use Rattle.fmp_names.specs.Names.{NameLists, has_name, is_object, is_defined, is_reserved, no_names, number_of, with_name, with_defined_name, with_processor_count}
 use Rattle.fmp_setup.specs.declared.parts.TaskFields.{TaskFields}
 use Rattle.fmp_setup.specs.declared.parts.CyclicFields.{CyclicFields}

@@ -3,7 +3,7 @@ ghost use Rattle.std.specs.Prelude.{◌≡◌, ◌≤◌, ◌<◌, true, false, 
 ghost use Rattle.std.specs.List.{list_any};
 ghost use Rattle.std.specs.Option.{option_copied};
 ghost use Rattle.std.specs.Str.{bytes_eq};
-ghost use Rattle.fmp_calls.specs.declared.kinds.NameKind.TheVariants.{Object, Function};
+ghost use Rattle.fmp_codes.specs.declared.kinds.NameKind.TheVariants.{Object, Function};
 ghost use Rattle.fmp_names.specs.Names.{has_name, has_room, has_room_to_define, is_name, is_reserved, is_taken};
 ghost use Rattle.fmp_setup.specs.Building as spec;
 ghost use Rattle.fmp_setup.specs.Parts.{setup_of};
@@ -13,8 +13,7 @@ use crate::setup::{
     AlarmSetup, Class, CyclicSetup, DataQueueSetup, EventflagSetup, Limits, PoolSetup,
     SemaphoreSetup, TaskSetup, Timer,
 };
-use fmp_calls::{NameKind, ObjectKind};
-use fmp_codes::Pri;
+use fmp_codes::{NameKind, ObjectKind, Pri};
 use fmp_names::Names;
 use std::alloc::{AllocError, Global};
 

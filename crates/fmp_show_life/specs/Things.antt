@@ -3,9 +3,9 @@ use Rattle.std.specs.Prelude.{ℕ, ◌+◌, List, [], ◌∷◌, Option, None, S
 use Rattle.std.specs.Option.{option_or}
 use Rattle.fmp_codes.specs.Numbers.{as_object, as_task}
 use Rattle.fmp_bytes.specs.Bytes.{comma, pieces_of}
-use Rattle.fmp_calls.specs.declared.kinds.NameKind.TheVariants as names
-use Rattle.fmp_calls.specs.declared.kinds.ObjectKind.{ObjectKind}
-use Rattle.fmp_calls.specs.declared.kinds.ObjectKind.TheVariants as objects
+use Rattle.fmp_codes.specs.declared.kinds.NameKind.TheVariants as names
+use Rattle.fmp_codes.specs.declared.kinds.ObjectKind.{ObjectKind}
+use Rattle.fmp_codes.specs.declared.kinds.ObjectKind.TheVariants as objects
 use Rattle.fmp_names.specs.Names.{NameLists, number_of}
 use Rattle.fmp_show_life.specs.declared.things.Thing.{Thing}
 use Rattle.fmp_show_life.specs.declared.things.Thing.TheVariants as thing

@@ -5,8 +5,7 @@ ghost use Rattle.fmp_rules.specs.Ordering.{is_runnable};
 ghost use Rattle.fmp_show_life.specs.Lines as spec;
 
 use crate::things::Thing;
-use fmp_calls::ObjectKind;
-use fmp_codes::{Object, Proc, Runner, Task};
+use fmp_codes::{Object, ObjectKind, Proc, Runner, Task};
 use fmp_names::Names;
 use fmp_rules::TaskRecord;
 use fmp_show_state::{

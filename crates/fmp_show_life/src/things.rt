@@ -1,10 +1,9 @@
 //! Tasks, time event handlers and objects, and their names.
 ghost use Rattle.std.specs.Prelude.{◌≡◌, ◌≤◌};
-ghost use Rattle.fmp_calls.specs.Kinds.{most_of};
+ghost use Rattle.fmp_codes.specs.Kinds.{most_of};
 ghost use Rattle.fmp_show_life.specs.Things as spec;
 
-use fmp_calls::{NameKind, ObjectKind};
-use fmp_codes::{Object, Task};
+use fmp_codes::{NameKind, Object, ObjectKind, Task};
 use fmp_names::Names;
 
 /// A task, a time event handler or an object that tasks share.

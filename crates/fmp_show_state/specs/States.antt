@@ -7,8 +7,8 @@ use Rattle.fmp_codes.specs.declared.numbers.Object.{Object}
 use Rattle.fmp_codes.specs.declared.numbers.Proc.{Proc}
 use Rattle.fmp_codes.specs.declared.numbers.Task.{Task}
 use Rattle.fmp_codes.specs.declared.records.Runner.{Runner}
-use Rattle.fmp_calls.specs.declared.kinds.ObjectKind.{ObjectKind}
-use Rattle.fmp_calls.specs.declared.kinds.ObjectKind.TheVariants as objects
+use Rattle.fmp_codes.specs.declared.kinds.ObjectKind.{ObjectKind}
+use Rattle.fmp_codes.specs.declared.kinds.ObjectKind.TheVariants as objects
 use Rattle.fmp_names.specs.Names.{NameLists}
 use Rattle.fmp_rules.specs.declared.machine.Processor.{Processor}
 use Rattle.fmp_rules.specs.declared.machine.TaskRecord.{TaskRecord}

@@ -4,8 +4,7 @@ ghost use Rattle.fmp_rules.specs.Objects.{values};
 ghost use Rattle.fmp_show_state.specs.Changes as spec;
 
 use crate::handlers::{put_alarms, put_cyclics};
-use fmp_calls::ObjectKind;
-use fmp_codes::{Object, Proc};
+use fmp_codes::{Object, ObjectKind, Proc};
 use fmp_names::Names;
 use fmp_rules::{Eventflag, Pool, Semaphore};
 use fmp_step_words::Views;

@@ -4,8 +4,7 @@ ghost use Rattle.fmp_setup.specs.declared.setup.CyclicSetup.{CyclicSetup};
 ghost use Rattle.fmp_rules.specs.Boot.{phase_left};
 ghost use Rattle.fmp_show_state.specs.Changes as spec;
 
-use fmp_calls::ObjectKind;
-use fmp_codes::Object;
+use fmp_codes::{Object, ObjectKind};
 use fmp_names::Names;
 use fmp_rules::CyclicSetup;
 use fmp_step_words::Views;

@@ -4,8 +4,7 @@ ghost use Rattle.fmp_show_state.specs.Changes as changes;
 ghost use Rattle.fmp_show_state.specs.States as spec;
 
 use crate::processors::put_flag;
-use fmp_calls::ObjectKind;
-use fmp_codes::{Object, Task};
+use fmp_codes::{Object, ObjectKind, Task};
 use fmp_names::Names;
 use fmp_rules::{TaskRecord, Wait};
 use fmp_step_words::Views;

@@ -2,8 +2,8 @@
 ghost use Rattle.std.specs.Prelude.{◌≤◌};
 
 use crate::random::Random;
-use fmp_calls::{ArgumentKind, ObjectKind, Value, find_call, form, with_values};
-use fmp_codes::{Call, Event, Mode, Proc};
+use fmp_calls::{find_call, form, with_values};
+use fmp_codes::{ArgumentKind, Call, Event, Mode, ObjectKind, Proc, Value};
 use fmp_kernel::Kernel;
 use std::alloc::{AllocError, Global};
 

@@ -1,5 +1,5 @@
-use fmp_calls::{Value, with_values};
-use fmp_codes::{Call, TaskCall};
+use fmp_calls::with_values;
+use fmp_codes::{Call, TaskCall, Value};
 
 /// Arguments that no text gives a call: its reader counts them, and reads each by its kind.
 #[test]

@@ -1,6 +1,6 @@
 //! Whether script texts say the same. What they say shows in runs.
 use crate::text::{add, with_machine};
-use fmp_calls::NameKind;
+use fmp_codes::NameKind;
 use fmp_text::Names;
 use fmp_text_scripts::{Scripts, read_scripts};
 use std::alloc::{AllocError, Global};

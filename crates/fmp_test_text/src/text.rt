@@ -1,7 +1,7 @@
 ghost use Rattle.std.specs.Prelude.{◌≡◌, true, false};
 ghost use Rattle.fmp_names.specs.Names as spec;
 
-use fmp_calls::{NameKind, ObjectKind};
+use fmp_codes::{NameKind, ObjectKind};
 use fmp_text::{Names, TextKind, is_name, is_reserved, read_call};
 use std::alloc::Global;
 use std::test::Fail;

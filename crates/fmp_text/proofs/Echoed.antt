@@ -5,15 +5,15 @@ use Rattle.std.proofs.lemmas.Bool.{eqb-true}
 use Rattle.std.proofs.lemmas.List.{drop_all, length-take-le, take-append-drop, take-append-le, take_more_set}
 use Rattle.std.proofs.Math.Seq.{take-append_seam}
 use Rattle.fmp_codes.specs.declared.calls.Call.{Call}
-use Rattle.fmp_calls.specs.declared.kinds.ArgumentKind.{ArgumentKind}
-use Rattle.fmp_calls.specs.declared.kinds.ArgumentKind.TheVariants as kinds
-use Rattle.fmp_calls.specs.declared.kinds.ObjectKind.{ObjectKind}
-use Rattle.fmp_calls.specs.declared.kinds.ObjectKind.TheVariants as objects
-use Rattle.fmp_calls.specs.declared.kinds.NameKind.TheVariants as name_kinds
-use Rattle.fmp_calls.specs.declared.kinds.Value.{Value}
-use Rattle.fmp_calls.specs.declared.kinds.Value.TheVariants as values
+use Rattle.fmp_codes.specs.declared.kinds.ArgumentKind.{ArgumentKind}
+use Rattle.fmp_codes.specs.declared.kinds.ArgumentKind.TheVariants as kinds
+use Rattle.fmp_codes.specs.declared.kinds.ObjectKind.{ObjectKind}
+use Rattle.fmp_codes.specs.declared.kinds.ObjectKind.TheVariants as objects
+use Rattle.fmp_codes.specs.declared.kinds.NameKind.TheVariants as name_kinds
+use Rattle.fmp_codes.specs.declared.kinds.Value.{Value}
+use Rattle.fmp_codes.specs.declared.kinds.Value.TheVariants as values
 use Rattle.fmp_calls.specs.Table.{text_of, is_bare, kinds_of, values_of, call_of}
-use Rattle.fmp_calls.specs.Kinds.{are_of_kinds}
+use Rattle.fmp_codes.specs.Kinds.{are_of_kinds}
 use Rattle.fmp_calls.proofs.Matched.{call_of-same, call_of-agrees}
 use Rattle.fmp_names.specs.Names.{NameLists, name_of}
 use Rattle.fmp_text.specs.Argument.{ranged}

@@ -16,13 +16,13 @@ use Rattle.fmp_bytes.proofs.Prefixes.{list_all-join, list_all-weaker}
 use Rattle.fmp_bytes.proofs.Spelled.{following-same}
 use Rattle.fmp_bytes.proofs.Words.{is_word, not_word}
 use Rattle.fmp_bytes.specs.Results.{◌>>=◌}
-use Rattle.fmp_calls.specs.Kinds.{is_of_kind, are_of_kinds}
+use Rattle.fmp_codes.specs.Kinds.{is_of_kind, are_of_kinds}
 use Rattle.fmp_calls.specs.Table.{is_bare, kinds_of, call_of, named}
-use Rattle.fmp_calls.specs.declared.kinds.ArgumentKind.{ArgumentKind}
-use Rattle.fmp_calls.specs.declared.kinds.ArgumentKind.TheVariants as kinds
-use Rattle.fmp_calls.specs.declared.kinds.ObjectKind.TheVariants as objects
-use Rattle.fmp_calls.specs.declared.kinds.Value.{Value}
-use Rattle.fmp_calls.specs.declared.kinds.Value.TheVariants as values
+use Rattle.fmp_codes.specs.declared.kinds.ArgumentKind.{ArgumentKind}
+use Rattle.fmp_codes.specs.declared.kinds.ArgumentKind.TheVariants as kinds
+use Rattle.fmp_codes.specs.declared.kinds.ObjectKind.TheVariants as objects
+use Rattle.fmp_codes.specs.declared.kinds.Value.{Value}
+use Rattle.fmp_codes.specs.declared.kinds.Value.TheVariants as values
 use Rattle.fmp_calls.proofs.Matched.{bare_alone, length-kinds_of-le, named-text_of, text_of-named}
 use Rattle.fmp_codes.specs.declared.calls.Call.{Call}
 use Rattle.fmp_codes.specs.declared.numbers.Proc.{Proc}

@@ -12,9 +12,9 @@ use Rattle.fmp_bytes.specs.declared.classes.Class.TheVariants.{Blank}
 use Rattle.fmp_bytes.specs.declared.numerals.Number.{Number}
 use Rattle.fmp_bytes.proofs.Words.{same_word, other_word}
 use Rattle.fmp_calls.specs.Table.{is_bare, kinds_of, name_of, text_of, named}
-use Rattle.fmp_calls.specs.declared.kinds.ArgumentKind.{ArgumentKind}
-use Rattle.fmp_calls.specs.declared.kinds.ArgumentKind.TheVariants as kinds
-use Rattle.fmp_calls.specs.declared.kinds.Value.{Value}
+use Rattle.fmp_codes.specs.declared.kinds.ArgumentKind.{ArgumentKind}
+use Rattle.fmp_codes.specs.declared.kinds.ArgumentKind.TheVariants as kinds
+use Rattle.fmp_codes.specs.declared.kinds.Value.{Value}
 use Rattle.fmp_calls.proofs.Matched.{is_bare-name_of, kinds_of-name_of, named-text_of, no_ipi, no_tick, text_of-named}
 use Rattle.fmp_codes.specs.Numbers.{as_proc}
 use Rattle.fmp_codes.specs.declared.calls.Call.{Call}

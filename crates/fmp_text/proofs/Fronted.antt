@@ -15,9 +15,9 @@ use Rattle.fmp_bytes.proofs.Prefixes.{list_all-both, list_all-weaker}
 use Rattle.fmp_bytes.specs.declared.classes.Class.TheVariants.{Blank, Line}
 use Rattle.fmp_bytes.specs.Bytes.{is_of, following}
 use Rattle.fmp_bytes.proofs.Spelled.{after_is}
-use Rattle.fmp_calls.specs.declared.kinds.ArgumentKind.{ArgumentKind}
-use Rattle.fmp_calls.specs.declared.kinds.Value.{Value}
-use Rattle.fmp_calls.specs.Kinds.{is_of_kind, are_of_kinds}
+use Rattle.fmp_codes.specs.declared.kinds.ArgumentKind.{ArgumentKind}
+use Rattle.fmp_codes.specs.declared.kinds.Value.{Value}
+use Rattle.fmp_codes.specs.Kinds.{is_of_kind, are_of_kinds}
 use Rattle.fmp_calls.specs.Table.{text_of, is_bare, kinds_of, values_of, call_of}
 use Rattle.fmp_calls.proofs.Matched.{call_of-same, call_of-agrees}
 use Rattle.fmp_names.specs.Names.{NameLists, AreValid}

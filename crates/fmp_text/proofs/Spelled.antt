@@ -9,11 +9,11 @@ use Rattle.fmp_bytes.specs.declared.numerals.Number.{Number}
 use Rattle.fmp_bytes.specs.Bytes.{is_identifier}
 use Rattle.fmp_bytes.specs.Numerals.{number_of}
 use Rattle.fmp_bytes.proofs.Spelled.{number_of-spelled, number_is_spelled, number_of-identifier}
-use Rattle.fmp_calls.specs.declared.kinds.ArgumentKind.{ArgumentKind}
-use Rattle.fmp_calls.specs.declared.kinds.ArgumentKind.TheVariants as kinds
-use Rattle.fmp_calls.specs.declared.kinds.NameKind.TheVariants as name_kinds
-use Rattle.fmp_calls.specs.declared.kinds.Value.{Value}
-use Rattle.fmp_calls.specs.declared.kinds.Value.TheVariants as values
+use Rattle.fmp_codes.specs.declared.kinds.ArgumentKind.{ArgumentKind}
+use Rattle.fmp_codes.specs.declared.kinds.ArgumentKind.TheVariants as kinds
+use Rattle.fmp_codes.specs.declared.kinds.NameKind.TheVariants as name_kinds
+use Rattle.fmp_codes.specs.declared.kinds.Value.{Value}
+use Rattle.fmp_codes.specs.declared.kinds.Value.TheVariants as values
 use Rattle.fmp_text.specs.declared.fault.TextKind.TheVariants.{NumberOutOfRange, WrongArguments, UnknownName}
 use Rattle.fmp_names.specs.Names.{NameLists, AreValid, is_name, is_reserved, is_constant, is_object, is_processor_word}
 use Rattle.fmp_names.specs.Names.{number_of as number_of_name}

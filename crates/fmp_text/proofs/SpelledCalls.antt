@@ -12,8 +12,8 @@ use Rattle.fmp_bytes.proofs.Included.{line-blank, line-argument, not_argument-bl
 use Rattle.fmp_bytes.proofs.Tokens.{AreOfArgument, identifier_bytes, identifier_words, number_bytes}
 use Rattle.fmp_bytes.proofs.Spelled.{after_is, following-same}
 use Rattle.fmp_bytes.proofs.Cutting.{cut_at-append, cut_at-parts, pieces_of-join, join-pieces_of, some-pieces_of}
-use Rattle.fmp_calls.specs.declared.kinds.ArgumentKind.{ArgumentKind}
-use Rattle.fmp_calls.specs.declared.kinds.Value.{Value}
+use Rattle.fmp_codes.specs.declared.kinds.ArgumentKind.{ArgumentKind}
+use Rattle.fmp_codes.specs.declared.kinds.Value.{Value}
 use Rattle.fmp_text.specs.declared.fault.TextKind.TheVariants.{BadByte, BadWord, WrongArguments}
 use Rattle.fmp_names.specs.Names.{NameLists, AreValid}
 use Rattle.fmp_calls.specs.Table.{text_of, is_bare, kinds_of, name_of, values_of, call_of}

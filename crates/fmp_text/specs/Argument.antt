@@ -8,11 +8,11 @@ use Rattle.fmp_bytes.specs.declared.classes.Class.TheVariants.{Blank, Argument}
 use Rattle.fmp_bytes.specs.declared.numerals.Number.{Number}
 use Rattle.fmp_bytes.specs.Bytes.{is_of, prefix, after, following, cut_at, pieces_of, is_identifier, close_parenthesis, comma, open_parenthesis}
 use Rattle.fmp_bytes.specs.Numerals.{number_of, signed_of, unsigned_limited}
-use Rattle.fmp_calls.specs.declared.kinds.ArgumentKind.{ArgumentKind}
-use Rattle.fmp_calls.specs.declared.kinds.ArgumentKind.TheVariants as kinds
-use Rattle.fmp_calls.specs.declared.kinds.NameKind.TheVariants as names
-use Rattle.fmp_calls.specs.declared.kinds.Value.{Value}
-use Rattle.fmp_calls.specs.declared.kinds.Value.TheVariants as values
+use Rattle.fmp_codes.specs.declared.kinds.ArgumentKind.{ArgumentKind}
+use Rattle.fmp_codes.specs.declared.kinds.ArgumentKind.TheVariants as kinds
+use Rattle.fmp_codes.specs.declared.kinds.NameKind.TheVariants as names
+use Rattle.fmp_codes.specs.declared.kinds.Value.{Value}
+use Rattle.fmp_codes.specs.declared.kinds.Value.TheVariants as values
 use Rattle.fmp_text.specs.declared.fault.TextKind.{TextKind}
 use Rattle.fmp_text.specs.declared.fault.TextKind.TheVariants.{UnknownName, WrongArguments, NumberOutOfRange}
 use Rattle.fmp_names.specs.Names.{number_of as number_of_name}

@@ -5,9 +5,9 @@ use Rattle.fmp_bytes.specs.Bytes.{is_of, prefix, after, is_identifier, close_par
 use Rattle.fmp_bytes.specs.Numerals.{are_digits, number_of}
 use Rattle.fmp_bytes.specs.declared.classes.Class.TheVariants.{Blank, Word, Line}
 use Rattle.fmp_calls.specs.Table.{is_bare, kinds_of, text_of}
-use Rattle.fmp_calls.specs.declared.kinds.ArgumentKind.{ArgumentKind}
-use Rattle.fmp_calls.specs.declared.kinds.ArgumentKind.TheVariants.{Mode}
-use Rattle.fmp_calls.specs.declared.kinds.Value.{Value}
+use Rattle.fmp_codes.specs.declared.kinds.ArgumentKind.{ArgumentKind}
+use Rattle.fmp_codes.specs.declared.kinds.ArgumentKind.TheVariants.{Mode}
+use Rattle.fmp_codes.specs.declared.kinds.Value.{Value}
 use Rattle.fmp_codes.specs.declared.calls.Call.{Call}
 use Rattle.fmp_names.specs.Names.{NameLists, is_object, is_constant}
 use Rattle.fmp_text.specs.Argument.{is_argument}

@@ -7,8 +7,8 @@ use crate::argument::{arguments_after, value_at};
 use crate::fault::TextKind;
 use arrayvec::ArrayVec;
 use fmp_bytes::{Class, all_of, skip, split_prefix};
-use fmp_calls::{ArgumentKind, MOST_ARGUMENTS, Value, find_call, form, with_values};
-use fmp_codes::Call;
+use fmp_calls::{MOST_ARGUMENTS, find_call, form, with_values};
+use fmp_codes::{ArgumentKind, Call, Value};
 use fmp_names::Names;
 
 /// A call of this name, with some arguments. A word that is the name of no call is a bad one.

@@ -2,8 +2,8 @@
 ghost use Rattle.std.specs.Prelude.{◌≡◌, ℕ, ◌+◌, Bool, true, List, [], ◌∷◌, ◌++◌, Ok, Err, Some};
 ghost use Rattle.fmp_codes.specs.declared.calls.Call.{Call};
 ghost use Rattle.fmp_codes.specs.declared.records.Event.{Event};
-ghost use Rattle.fmp_calls.specs.declared.kinds.ArgumentKind.{ArgumentKind};
-ghost use Rattle.fmp_calls.specs.declared.kinds.Value.{Value};
+ghost use Rattle.fmp_codes.specs.declared.kinds.ArgumentKind.{ArgumentKind};
+ghost use Rattle.fmp_codes.specs.declared.kinds.Value.{Value};
 ghost use Rattle.fmp_names.specs.Names.{NameLists, AreValid, is_constant};
 ghost use Rattle.fmp_text.specs.Argument.{constant_of, is_argument, value_at};
 ghost use Rattle.fmp_text.specs.Reading.{call_in};

@@ -4,7 +4,7 @@ ghost use Rattle.std.specs.Prelude.{◌≡◌, ◌++◌, ◌∷◌, [], ◌+◌,
 ghost use Rattle.fmp_bytes.specs.Bytes.{close_parenthesis};
 ghost use Rattle.fmp_calls.specs.Table.{kinds_of, values_of};
 ghost use Rattle.fmp_names.specs.Names.{NameLists};
-ghost use Rattle.fmp_calls.specs.declared.kinds.ArgumentKind.TheVariants as kinds;
+ghost use Rattle.fmp_codes.specs.declared.kinds.ArgumentKind.TheVariants as kinds;
 ghost use Rattle.fmp_calls.specs.Known.{IsKnown};
 ghost use Rattle.fmp_text.specs.Grammar.{IsNumber, IsObjectName, SpellsValue, SpellsCall};
 ghost use Rattle.fmp_text.specs.TextGrammar.{SpellsEvent};
@@ -13,12 +13,10 @@ ghost use Rattle.fmp_text.specs.Printed.{arguments_from, call_text, event_text, 
 ghost use Rattle.fmp_text.specs.Argument.{constant_of, ranged};
 
 use crate::echo::Echo;
-use fmp_bytes::following;
-use fmp_calls::{
-    ArgumentKind, KnownCall, MOST_ARGUMENTS, NameKind, ObjectKind, Value, with_known_values,
-};
-use fmp_codes::{Call, Event, Mode, Proc};
-use fmp_names::{Names, word_key};
+use fmp_bytes::{following, word_key};
+use fmp_calls::{KnownCall, MOST_ARGUMENTS, likely_call, with_known_values};
+use fmp_codes::{ArgumentKind, Call, Event, Mode, NameKind, ObjectKind, Proc, Value};
+use fmp_names::Names;
 
 /// Whether all bytes of two texts of one length are the same, one after the other.
 #[inline(always)]
@@ -488,7 +486,7 @@ fn call_front<'a>(names: &Names, text: &'a [u8], is_own: &mut bool) -> Option<(C
     ensures kept { is_own.new ≡ true → is_own.old ≡ true }
     ensures printed { is_own.new ≡ true → IfSome result (λ found. text.now ≡ call_text names.now found.0 ++ found.1.now) }
 {
-    let known = names.likely_call(word_key(text))?;
+    let known = likely_call(word_key(text))?;
     let rest = after_all(known.form.text, text)?;
     if known.form.bare {
         return Some((known.call, rest));

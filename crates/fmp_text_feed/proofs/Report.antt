@@ -3,7 +3,7 @@ use Rattle.std.proofs.Common.{◌≡◌, ℕ, ◌+◌, Bool, true, false, eqb, i
 use Rattle.std.specs.Prelude.{nat_lt, length, take}
 use Rattle.std.proofs.lemmas.Bool.{cases_Bool}
 use Rattle.fmp_codes.specs.declared.records.Event.{Event}
-use Rattle.fmp_calls.specs.declared.kinds.ArgumentKind.{ArgumentKind}
+use Rattle.fmp_codes.specs.declared.kinds.ArgumentKind.{ArgumentKind}
 use Rattle.fmp_names.specs.Names.{NameLists, AreValid}
 use Rattle.fmp_text.specs.declared.fault.TextFault.{TextFault}
 use Rattle.fmp_text.specs.declared.fault.TextKind.{TextKind}

@@ -14,7 +14,7 @@ use Rattle.fmp_bytes.proofs.Parsed.{bind_parts}
 use Rattle.fmp_bytes.proofs.Words.{same_word, is_word, other_word, not_word}
 use Rattle.fmp_bytes.specs.Results.{◌>>=◌}
 use Rattle.fmp_calls.specs.Table.{named, text_of}
-use Rattle.fmp_calls.specs.declared.kinds.NameKind.TheVariants.{Function}
+use Rattle.fmp_codes.specs.declared.kinds.NameKind.TheVariants.{Function}
 use Rattle.fmp_calls.proofs.Matched.{named-text_of, no_ipi, no_tick, text_of-named}
 use Rattle.fmp_codes.specs.declared.calls.Call.{Call}
 use Rattle.fmp_codes.specs.Numbers.{as_proc}

@@ -37,7 +37,7 @@ use Rattle.fmp_bytes.proofs.Parsed.{ok_or_parts, tested_ok, bind_parts}
 use Rattle.fmp_bytes.proofs.Tokens.{identifier_bytes, identifier_words, number_bytes}
 use Rattle.fmp_calls.specs.Table.{text_of}
 use Rattle.fmp_calls.proofs.Matched.{is_identifier-text_of}
-use Rattle.fmp_calls.specs.declared.kinds.NameKind.TheVariants.{Function}
+use Rattle.fmp_codes.specs.declared.kinds.NameKind.TheVariants.{Function}
 use Rattle.fmp_names.specs.Names.{NameLists, AreValid, name_of, number_of, is_name}
 use Rattle.fmp_names.proofs.Listed.{list_all-at}
 use Rattle.fmp_names.proofs.Placed.{numbered, number_of-name_of, name_of-number_of}

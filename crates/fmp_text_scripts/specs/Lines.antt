@@ -9,7 +9,7 @@ use Rattle.fmp_bytes.specs.Numerals.{number_of, signed_of}
 use Rattle.fmp_codes.specs.Codes as code
 use Rattle.fmp_codes.specs.declared.codes.Code.{Code}
 use Rattle.fmp_bytes.specs.Results.{◌>>=◌}
-use Rattle.fmp_calls.specs.declared.kinds.NameKind.TheVariants.{Function}
+use Rattle.fmp_codes.specs.declared.kinds.NameKind.TheVariants.{Function}
 use Rattle.fmp_text.specs.declared.fault.TextKind.{TextKind}
 use Rattle.fmp_text.specs.declared.fault.TextKind.TheVariants.{BadByte, BadWord, NumberOutOfRange, UnknownName, WrongArguments}
 use Rattle.fmp_names.specs.Names.{NameLists}

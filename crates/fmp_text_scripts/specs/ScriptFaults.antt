@@ -7,7 +7,7 @@ use Rattle.fmp_bytes.specs.Bytes.{is_of, prefix, after, following, colon, is_ide
 use Rattle.fmp_bytes.specs.Numerals.{number_of, signed_of}
 use Rattle.fmp_bytes.specs.Spelling.{SpellsNumber}
 use Rattle.fmp_calls.specs.Table.{text_of}
-use Rattle.fmp_calls.specs.declared.kinds.NameKind.TheVariants.{Function}
+use Rattle.fmp_codes.specs.declared.kinds.NameKind.TheVariants.{Function}
 use Rattle.fmp_codes.specs.Codes as code
 use Rattle.fmp_codes.specs.declared.calls.Call.{Call}
 use Rattle.fmp_codes.specs.declared.codes.Code.{Code}

@@ -8,7 +8,7 @@ use Rattle.fmp_bytes.specs.Spelling.{SpellsNumber}
 use Rattle.fmp_codes.specs.Codes as code
 use Rattle.fmp_codes.specs.declared.calls.Call.{Call}
 use Rattle.fmp_codes.specs.declared.calls.Call.TheVariants as calls
-use Rattle.fmp_calls.specs.declared.kinds.NameKind.TheVariants.{Function}
+use Rattle.fmp_codes.specs.declared.kinds.NameKind.TheVariants.{Function}
 use Rattle.fmp_names.specs.Names.{NameLists, name_of}
 use Rattle.fmp_text.specs.Limits.{most_bytes}
 use Rattle.fmp_text.specs.Grammar.{AreBlank, Padded, SpellsCall}

@@ -2,8 +2,8 @@
 ghost use Rattle.std.specs.Prelude.{◌≡◌, ◌↔◌, IsTrue};
 ghost use Rattle.fmp_calls.specs.Table.{text_of, values_of};
 
-use fmp_calls::{Value, form, values};
-use fmp_codes::Call;
+use fmp_calls::{form, values};
+use fmp_codes::{Call, Value};
 
 /// Whether two names have the same bytes.
 fn are_same_names(one: &[u8], other: &[u8]) -> bool

@@ -8,8 +8,7 @@ use crate::ways::Pattern;
 use fmp_bytes::{
     Class, all_of, following, is_identifier, signed64, skip, spelled_number, split_prefix,
 };
-use fmp_calls::NameKind;
-use fmp_codes::{Call, Code};
+use fmp_codes::{Call, Code, NameKind};
 use fmp_text::{Names, TextKind, is_skipped, read_call, without_return};
 
 /// A line that is not skipped.

@@ -4,13 +4,13 @@ use Rattle.std.proofs.lemmas.Bool.{and_parts, false≢true}
 use Rattle.fmp_codes.specs.Records.{IsWithin}
 use Rattle.fmp_codes.specs.declared.calls.Call.{Call}
 use Rattle.fmp_calls.specs.Arguments.{IsInBits, AreInBits, CallInBits}
-use Rattle.fmp_calls.specs.Kinds.{is_of_kind, are_of_kinds}
+use Rattle.fmp_codes.specs.Kinds.{is_of_kind, are_of_kinds}
 use Rattle.fmp_calls.proofs.Matched.{are_of_kinds-values_of}
 use Rattle.fmp_calls.specs.Table as table
-use Rattle.fmp_calls.specs.declared.kinds.ArgumentKind.{ArgumentKind}
-use Rattle.fmp_calls.specs.declared.kinds.ArgumentKind.TheVariants as kinds
-use Rattle.fmp_calls.specs.declared.kinds.Value.{Value}
-use Rattle.fmp_calls.specs.declared.kinds.Value.TheVariants as values
+use Rattle.fmp_codes.specs.declared.kinds.ArgumentKind.{ArgumentKind}
+use Rattle.fmp_codes.specs.declared.kinds.ArgumentKind.TheVariants as kinds
+use Rattle.fmp_codes.specs.declared.kinds.Value.{Value}
+use Rattle.fmp_codes.specs.declared.kinds.Value.TheVariants as values
 
 -- an argument is of its kind, and within the kind's bits
 abbrev pub ArgumentFits : ArgumentKind → Value → Type 0

@@ -17,10 +17,10 @@ use Rattle.fmp_codes.specs.declared.records.Runner.{Runner}
 use Rattle.fmp_codes.specs.declared.records.Runner.TheVariants as runners
 use Rattle.fmp_bytes.specs.Bytes.{cut_at}
 use Rattle.fmp_bytes.specs.Numerals.{magnitude_of, number_of}
-use Rattle.fmp_calls.specs.Kinds.{most_of}
-use Rattle.fmp_calls.specs.declared.kinds.NameKind.TheVariants as name_kinds
-use Rattle.fmp_calls.specs.declared.kinds.ObjectKind.{ObjectKind}
-use Rattle.fmp_calls.specs.declared.kinds.ObjectKind.TheVariants as objects
+use Rattle.fmp_codes.specs.Kinds.{most_of}
+use Rattle.fmp_codes.specs.declared.kinds.NameKind.TheVariants as name_kinds
+use Rattle.fmp_codes.specs.declared.kinds.ObjectKind.{ObjectKind}
+use Rattle.fmp_codes.specs.declared.kinds.ObjectKind.TheVariants as objects
 use Rattle.fmp_text.specs.Lines.{in_processors, processor_numbered}
 use Rattle.fmp_names.specs.Names.{NameLists, AreValid, names_of, name_of}
 use Rattle.fmp_names.specs.Names.{number_of as number_of_name}

@@ -15,8 +15,8 @@ use Rattle.fmp_bytes.proofs.Cutting.{cut_at-append}
 use Rattle.fmp_bytes.proofs.Included.{not_word-blank}
 use Rattle.fmp_bytes.proofs.Prefixes.{prefix-append, stops-cons, stops-append, list_all-weaker, list_all-both, list_all-join}
 use Rattle.fmp_bytes.proofs.Tokens.{identifier_bytes, identifier_words}
-use Rattle.fmp_calls.specs.declared.kinds.ArgumentKind.{ArgumentKind}
-use Rattle.fmp_calls.specs.declared.kinds.Value.{Value}
+use Rattle.fmp_codes.specs.declared.kinds.ArgumentKind.{ArgumentKind}
+use Rattle.fmp_codes.specs.declared.kinds.Value.{Value}
 use Rattle.fmp_calls.specs.Table.{text_of, is_bare}
 use Rattle.fmp_calls.proofs.Matched.{is_identifier-text_of, no_tick, no_ipi}
 use Rattle.fmp_names.specs.Names.{NameLists, AreValid}

@@ -16,13 +16,13 @@ use Rattle.fmp_bytes.proofs.Prefixes.{prefix-append, stops-cons, list_all-weaker
 use Rattle.fmp_codes.specs.Records.{IsWithin}
 use Rattle.fmp_calls.proofs.Matched.{is_identifier-text_of, named-text_of, is_bare-name_of}
 use Rattle.fmp_calls.specs.Arguments.{CallInBits}
-use Rattle.fmp_calls.specs.declared.kinds.ArgumentKind.{ArgumentKind}
-use Rattle.fmp_calls.specs.declared.kinds.ArgumentKind.TheVariants as kinds
-use Rattle.fmp_calls.specs.declared.kinds.NameKind.TheVariants as name_kinds
-use Rattle.fmp_calls.specs.declared.kinds.ObjectKind.{ObjectKind}
-use Rattle.fmp_calls.specs.declared.kinds.ObjectKind.TheVariants as objects
-use Rattle.fmp_calls.specs.declared.kinds.Value.{Value}
-use Rattle.fmp_calls.specs.declared.kinds.Value.TheVariants as values
+use Rattle.fmp_codes.specs.declared.kinds.ArgumentKind.{ArgumentKind}
+use Rattle.fmp_codes.specs.declared.kinds.ArgumentKind.TheVariants as kinds
+use Rattle.fmp_codes.specs.declared.kinds.NameKind.TheVariants as name_kinds
+use Rattle.fmp_codes.specs.declared.kinds.ObjectKind.{ObjectKind}
+use Rattle.fmp_codes.specs.declared.kinds.ObjectKind.TheVariants as objects
+use Rattle.fmp_codes.specs.declared.kinds.Value.{Value}
+use Rattle.fmp_codes.specs.declared.kinds.Value.TheVariants as values
 use Rattle.fmp_calls.specs.Table as table
 use Rattle.fmp_text.specs.Argument.{constant_of, ranged, number32}
 use Rattle.fmp_text.specs.Grammar.{IsNumber, SpellsValue, SpellsPieces, SpellsArguments, FollowsName}

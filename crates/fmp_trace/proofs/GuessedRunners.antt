@@ -12,10 +12,10 @@ use Rattle.fmp_codes.specs.declared.records.Runner.{Runner}
 use Rattle.fmp_codes.specs.declared.records.Runner.TheVariants as runners
 use Rattle.fmp_bytes.specs.declared.classes.Class.TheVariants.{Word, Argument}
 use Rattle.fmp_bytes.specs.Bytes.{is_of}
-use Rattle.fmp_calls.specs.Kinds.{place_of}
-use Rattle.fmp_calls.specs.declared.kinds.NameKind.TheVariants as kinds
-use Rattle.fmp_calls.specs.declared.kinds.ObjectKind.{ObjectKind}
-use Rattle.fmp_calls.specs.declared.kinds.ObjectKind.TheVariants as objects
+use Rattle.fmp_codes.specs.Kinds.{place_of}
+use Rattle.fmp_codes.specs.declared.kinds.NameKind.TheVariants as kinds
+use Rattle.fmp_codes.specs.declared.kinds.ObjectKind.{ObjectKind}
+use Rattle.fmp_codes.specs.declared.kinds.ObjectKind.TheVariants as objects
 use Rattle.fmp_names.specs.Names.{NameLists, AreValid, names_of, name_of, times}
 use Rattle.fmp_names.specs.Names.{number_of as number_of_name}
 use Rattle.fmp_names.proofs.Placed.{name_of-number_of, numbered, once_at}

@@ -20,7 +20,7 @@ use Rattle.fmp_bytes.specs.declared.classes.Class.TheVariants.{Argument}
 use Rattle.fmp_bytes.specs.Bytes.{is_of, pieces_of}
 use Rattle.fmp_bytes.proofs.Cutting.{cut_at-append, pieces_of-join}
 use Rattle.fmp_bytes.proofs.Prefixes.{list_all-weaker, list_all-both}
-use Rattle.fmp_calls.specs.declared.kinds.ObjectKind.TheVariants as objects
+use Rattle.fmp_codes.specs.declared.kinds.ObjectKind.TheVariants as objects
 use Rattle.fmp_names.specs.Names.{NameLists, AreValid}
 use Rattle.fmp_codes.specs.Records.{ValueFits, AnswerFits, Ascend}
 use Rattle.fmp_trace.specs.Fits.{IsNamed, ReleasesFit, RunningFits, RunChangeFits}

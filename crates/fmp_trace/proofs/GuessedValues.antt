@@ -21,9 +21,9 @@ use Rattle.fmp_bytes.specs.Spelling.{SpellsNumber}
 use Rattle.fmp_bytes.proofs.Cutting.{cut_at-append}
 use Rattle.fmp_bytes.proofs.Spelled.{number_of-spelled, magnitude_of-small}
 use Rattle.fmp_bytes.proofs.Tokens.{identifier_words}
-use Rattle.fmp_calls.specs.declared.kinds.NameKind.TheVariants as kinds
-use Rattle.fmp_calls.specs.declared.kinds.ObjectKind.{ObjectKind}
-use Rattle.fmp_calls.specs.declared.kinds.ObjectKind.TheVariants as objects
+use Rattle.fmp_codes.specs.declared.kinds.NameKind.TheVariants as kinds
+use Rattle.fmp_codes.specs.declared.kinds.ObjectKind.{ObjectKind}
+use Rattle.fmp_codes.specs.declared.kinds.ObjectKind.TheVariants as objects
 use Rattle.fmp_text.specs.Lines.{in_processors, processor_numbered}
 use Rattle.fmp_names.specs.Names.{NameLists, AreValid, name_of, is_reserved, is_processor_word, is_constant}
 use Rattle.fmp_names.specs.Names.{number_of as number_of_name}

@@ -32,13 +32,13 @@ use Rattle.fmp_codes.specs.declared.records.Runner.{Runner}
 use Rattle.fmp_codes.specs.declared.records.Runner.TheVariants as runners
 use Rattle.fmp_calls.proofs.Matched.{length-kinds_of-le}
 use Rattle.fmp_calls.specs.Table as table
-use Rattle.fmp_calls.specs.declared.kinds.ArgumentKind.{ArgumentKind}
-use Rattle.fmp_calls.specs.declared.kinds.ArgumentKind.TheVariants as kinds
-use Rattle.fmp_calls.specs.declared.kinds.NameKind.TheVariants as name_kinds
-use Rattle.fmp_calls.specs.declared.kinds.ObjectKind.{ObjectKind}
-use Rattle.fmp_calls.specs.declared.kinds.ObjectKind.TheVariants as objects
-use Rattle.fmp_calls.specs.declared.kinds.Value.{Value}
-use Rattle.fmp_calls.specs.declared.kinds.Value.TheVariants as values
+use Rattle.fmp_codes.specs.declared.kinds.ArgumentKind.{ArgumentKind}
+use Rattle.fmp_codes.specs.declared.kinds.ArgumentKind.TheVariants as kinds
+use Rattle.fmp_codes.specs.declared.kinds.NameKind.TheVariants as name_kinds
+use Rattle.fmp_codes.specs.declared.kinds.ObjectKind.{ObjectKind}
+use Rattle.fmp_codes.specs.declared.kinds.ObjectKind.TheVariants as objects
+use Rattle.fmp_codes.specs.declared.kinds.Value.{Value}
+use Rattle.fmp_codes.specs.declared.kinds.Value.TheVariants as values
 use Rattle.fmp_names.specs.Names.{NameLists, AreValid, name_of, is_name}
 use Rattle.fmp_names.proofs.Placed.{object_name}
 use Rattle.fmp_trace.specs.Lines.{event_text, runner_text, code_text, answer_text, release_text, releases_text, lost_text, run_change_text, request_lead, requests_from, head_text, tail_text, core_text, line_text, lines_from, most_line_bytes}

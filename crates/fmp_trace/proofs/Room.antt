@@ -3,8 +3,8 @@ use Rattle.std.proofs.Common.{◌≡◌, ℕ, zero, suc, ◌+◌, ◌<◌, ◌�
 use Rattle.std.specs.Prelude.{codes, decimal, slice_get}
 use Rattle.fmp_codes.specs.declared.numbers.Proc.{Proc}
 use Rattle.fmp_codes.specs.declared.records.Release.{Release}
-use Rattle.fmp_calls.specs.declared.kinds.ArgumentKind.{ArgumentKind}
-use Rattle.fmp_calls.specs.declared.kinds.Value.{Value}
+use Rattle.fmp_codes.specs.declared.kinds.ArgumentKind.{ArgumentKind}
+use Rattle.fmp_codes.specs.declared.kinds.Value.{Value}
 use Rattle.fmp_names.specs.Names.{NameLists}
 use Rattle.fmp_trace.specs.Lines.{release_text, releases_text, request_lead, requests_from}
 use Rattle.fmp_trace.specs.Values.{separator, value_text, arguments_from}

@@ -16,9 +16,9 @@ use Rattle.fmp_codes.specs.declared.records.Answer.TheVariants as answers
 use Rattle.fmp_codes.specs.declared.records.Release.{Release}
 use Rattle.fmp_bytes.specs.Bytes.{cut_at, colon}
 use Rattle.fmp_bytes.specs.Numerals.{number_of, signed_of}
-use Rattle.fmp_calls.specs.declared.kinds.ObjectKind.{ObjectKind}
-use Rattle.fmp_calls.specs.declared.kinds.ObjectKind.TheVariants as objects
-use Rattle.fmp_calls.specs.declared.kinds.NameKind.TheVariants as kinds
+use Rattle.fmp_codes.specs.declared.kinds.ObjectKind.{ObjectKind}
+use Rattle.fmp_codes.specs.declared.kinds.ObjectKind.TheVariants as objects
+use Rattle.fmp_codes.specs.declared.kinds.NameKind.TheVariants as kinds
 use Rattle.fmp_text.specs.Argument.{◌>>=◌}
 use Rattle.fmp_text.specs.Lines.{processor_numbered}
 use Rattle.fmp_names.specs.Names.{NameLists}

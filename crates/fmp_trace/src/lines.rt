@@ -6,8 +6,7 @@ ghost use Rattle.fmp_trace.specs.Following.{after_number};
 ghost use Rattle.fmp_trace.specs.Lines as spec;
 
 use crate::values::{put_call, put_named, put_number, put_piece, put_signed};
-use fmp_calls::ObjectKind;
-use fmp_codes::{Answer, Code, Event, Proc, Record, Release, Releases, Runner, Task};
+use fmp_codes::{Answer, Code, Event, ObjectKind, Proc, Record, Release, Releases, Runner, Task};
 use fmp_text::Names;
 use std::alloc::{AllocError, Global};
 

@@ -4,8 +4,8 @@ ghost use Rattle.std.specs.Prelude.{◌≡◌, ◌+◌, ◌<◌, ◌≤◌, ◌+
 ghost use Rattle.std.specs.Fmt.{signed_decimal};
 ghost use Rattle.fmp_trace.specs.Values as spec;
 
-use fmp_calls::{ArgumentKind, NameKind, ObjectKind, Value, parts};
-use fmp_codes::{Call, Mode};
+use fmp_calls::parts;
+use fmp_codes::{ArgumentKind, Call, Mode, NameKind, ObjectKind, Value};
 use fmp_text::Names;
 use itoa::Buffer;
 use std::alloc::AllocError;

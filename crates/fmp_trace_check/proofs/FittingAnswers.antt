@@ -12,9 +12,9 @@ use Rattle.fmp_codes.specs.declared.records.Release.{Release}
 use Rattle.fmp_codes.specs.declared.records.Runner.{Runner}
 use Rattle.fmp_codes.specs.declared.records.Runner.TheVariants as runners
 use Rattle.fmp_calls.specs.Arguments.{EventInBits}
-use Rattle.fmp_calls.specs.declared.kinds.NameKind.TheVariants.{Object}
-use Rattle.fmp_calls.specs.declared.kinds.ObjectKind.{ObjectKind}
-use Rattle.fmp_calls.specs.declared.kinds.ObjectKind.TheVariants as objects
+use Rattle.fmp_codes.specs.declared.kinds.NameKind.TheVariants.{Object}
+use Rattle.fmp_codes.specs.declared.kinds.ObjectKind.{ObjectKind}
+use Rattle.fmp_codes.specs.declared.kinds.ObjectKind.TheVariants as objects
 use Rattle.fmp_rules.specs.Boot.{booted}
 use Rattle.fmp_rules.specs.Arrivals.{State, numbered}
 use Rattle.fmp_setup.specs.Setup.{Setup}

@@ -30,8 +30,8 @@ use Rattle.fmp_bytes.proofs.Prefixes.{prefix-append, stops-cons}
 use Rattle.fmp_bytes.proofs.Tokens.{identifier_words}
 use Rattle.fmp_calls.proofs.Matched.{is_identifier-text_of, no_tick, no_ipi}
 use Rattle.fmp_calls.specs.Table as table
-use Rattle.fmp_calls.specs.declared.kinds.ObjectKind.{ObjectKind}
-use Rattle.fmp_calls.specs.declared.kinds.ObjectKind.TheVariants as objects
+use Rattle.fmp_codes.specs.declared.kinds.ObjectKind.{ObjectKind}
+use Rattle.fmp_codes.specs.declared.kinds.ObjectKind.TheVariants as objects
 use Rattle.fmp_names.specs.Names.{NameLists, AreValid}
 use Rattle.fmp_trace.specs.Fits.{IsNamed, RunnerFits}
 use Rattle.fmp_trace.specs.Lines.{event_text, runner_text, answer_text, tail_text, code_text, after_code}

@@ -4,8 +4,8 @@ use Rattle.fmp_codes.specs.declared.calls.BufferCall.{BufferCall}
 use Rattle.fmp_codes.specs.declared.calls.BufferCall.TheVariants.{SndDtq, TsndDtq, PsndDtq, IpsndDtq, FsndDtq, IfsndDtq, RcvDtq, TrcvDtq, PrcvDtq, GetMpf, TgetMpf}
 use Rattle.fmp_codes.specs.declared.calls.BufferCall.TheVariants.{PgetMpf, RelMpf}
 use Rattle.fmp_calls.specs.Entries.{Line, line}
-use Rattle.fmp_calls.specs.Kinds.{data_queue, pool}
-use Rattle.fmp_calls.specs.declared.kinds.ArgumentKind.TheVariants.{Data as «data», Timeout as timeout, Block as block}
+use Rattle.fmp_codes.specs.Kinds.{data_queue, pool}
+use Rattle.fmp_codes.specs.declared.kinds.ArgumentKind.TheVariants.{Data as «data», Timeout as timeout, Block as block}
 
 abbrev pub line_of : BufferCall → Line BufferCall
 line_of (SndDtq d value) = line (codes "snd_dtq") (data_queue ∷ «data» ∷ []) SndDtq (d, (value, tt))

@@ -3,7 +3,7 @@ use Rattle.std.specs.Prelude.{[], ◌∷◌, codes}
 use Rattle.fmp_codes.specs.declared.calls.SpinCall.{SpinCall}
 use Rattle.fmp_codes.specs.declared.calls.SpinCall.TheVariants.{LocSpn, IlocSpn, TrySpn, ItrySpn, UnlSpn, IunlSpn}
 use Rattle.fmp_calls.specs.Entries.{Line, line}
-use Rattle.fmp_calls.specs.Kinds.{spin_lock}
+use Rattle.fmp_codes.specs.Kinds.{spin_lock}
 
 abbrev pub line_of : SpinCall → Line SpinCall
 line_of (LocSpn l) = line (codes "loc_spn") (spin_lock ∷ []) LocSpn (l, tt)

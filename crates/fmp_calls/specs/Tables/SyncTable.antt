@@ -3,8 +3,8 @@ use Rattle.std.specs.Prelude.{[], ◌∷◌, codes}
 use Rattle.fmp_codes.specs.declared.calls.SyncCall.{SyncCall}
 use Rattle.fmp_codes.specs.declared.calls.SyncCall.TheVariants.{SigSem, IsigSem, WaiSem, TwaiSem, PolSem, SetFlg, IsetFlg, ClrFlg, WaiFlg, TwaiFlg, PolFlg}
 use Rattle.fmp_calls.specs.Entries.{Line, line}
-use Rattle.fmp_calls.specs.Kinds.{semaphore, eventflag}
-use Rattle.fmp_calls.specs.declared.kinds.ArgumentKind.TheVariants.{Timeout as timeout, Pattern as pattern, Mode as mode}
+use Rattle.fmp_codes.specs.Kinds.{semaphore, eventflag}
+use Rattle.fmp_codes.specs.declared.kinds.ArgumentKind.TheVariants.{Timeout as timeout, Pattern as pattern, Mode as mode}
 
 abbrev pub line_of : SyncCall → Line SyncCall
 line_of (SigSem s) = line (codes "sig_sem") (semaphore ∷ []) SigSem (s, tt)

@@ -4,7 +4,7 @@ use Rattle.fmp_codes.specs.declared.calls.SystemCall.{SystemCall}
 use Rattle.fmp_codes.specs.declared.calls.SystemCall.TheVariants.{RotRdq, IrotRdq, MrotRdq, ImrotRdq, GetTid, IgetTid, GetPid, IgetPid, LocCpu, IlocCpu, UnlCpu, IunlCpu}
 use Rattle.fmp_codes.specs.declared.calls.SystemCall.TheVariants.{DisDsp, EnaDsp, SnsCtx, SnsLoc, SnsDsp, SnsDpn}
 use Rattle.fmp_calls.specs.Entries.{Line, line}
-use Rattle.fmp_calls.specs.declared.kinds.ArgumentKind.TheVariants.{Priority as priority, Processor as processor}
+use Rattle.fmp_codes.specs.declared.kinds.ArgumentKind.TheVariants.{Priority as priority, Processor as processor}
 
 abbrev pub line_of : SystemCall → Line SystemCall
 line_of (RotRdq n) = line (codes "rot_rdq") (priority ∷ []) RotRdq (n, tt)

@@ -4,8 +4,8 @@ use Rattle.fmp_codes.specs.declared.calls.TaskCall.{TaskCall}
 use Rattle.fmp_codes.specs.declared.calls.TaskCall.TheVariants.{ActTsk, IactTsk, MactTsk, ImactTsk, CanAct, MigTsk, ExtTsk, TerTsk, ChgPri, GetPri, SlpTsk, TslpTsk}
 use Rattle.fmp_codes.specs.declared.calls.TaskCall.TheVariants.{WupTsk, IwupTsk, CanWup, RelWai, IrelWai, SusTsk, RsmTsk, DlyTsk}
 use Rattle.fmp_calls.specs.Entries.{Line, line}
-use Rattle.fmp_calls.specs.Kinds.{task}
-use Rattle.fmp_calls.specs.declared.kinds.ArgumentKind.TheVariants.{Processor as processor, Priority as priority, Timeout as timeout, Time as time}
+use Rattle.fmp_codes.specs.Kinds.{task}
+use Rattle.fmp_codes.specs.declared.kinds.ArgumentKind.TheVariants.{Processor as processor, Priority as priority, Timeout as timeout, Time as time}
 
 abbrev pub line_of : TaskCall → Line TaskCall
 line_of (ActTsk t) = line (codes "act_tsk") (task ∷ []) ActTsk (t, tt)

@@ -3,8 +3,8 @@ use Rattle.std.specs.Prelude.{[], ◌∷◌, codes}
 use Rattle.fmp_codes.specs.declared.calls.TimeCall.{TimeCall}
 use Rattle.fmp_codes.specs.declared.calls.TimeCall.TheVariants.{StaCyc, MstaCyc, StpCyc, StaAlm, IstaAlm, MstaAlm, ImstaAlm, StpAlm, IstpAlm}
 use Rattle.fmp_calls.specs.Entries.{Line, line}
-use Rattle.fmp_calls.specs.Kinds.{cyclic, alarm}
-use Rattle.fmp_calls.specs.declared.kinds.ArgumentKind.TheVariants.{Processor as processor, Time as time}
+use Rattle.fmp_codes.specs.Kinds.{cyclic, alarm}
+use Rattle.fmp_codes.specs.declared.kinds.ArgumentKind.TheVariants.{Processor as processor, Time as time}
 
 abbrev pub line_of : TimeCall → Line TimeCall
 line_of (StaCyc c) = line (codes "sta_cyc") (cyclic ∷ []) StaCyc (c, tt)

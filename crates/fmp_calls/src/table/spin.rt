@@ -3,9 +3,8 @@ ghost use Rattle.std.specs.Prelude.{◌≡◌, ◌≤◌, length, find};
 ghost use Rattle.std.specs.Str.{bytes_eq};
 ghost use Rattle.fmp_calls.specs.Tables.SpinTable.{line_of};
 
-use crate::kinds::Value;
 use crate::table::{CallForm, KnownCall, MOST_ARGUMENTS, Values, listed, value_at};
-use fmp_codes::SpinCall;
+use fmp_codes::{SpinCall, Value};
 
 macro_rules! spin_calls {
     ($reading:ident $(, $given:tt)*) => {

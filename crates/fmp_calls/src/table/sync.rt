@@ -3,9 +3,8 @@ ghost use Rattle.std.specs.Prelude.{◌≡◌, ◌≤◌, length, find};
 ghost use Rattle.std.specs.Str.{bytes_eq};
 ghost use Rattle.fmp_calls.specs.Tables.SyncTable.{line_of};
 
-use crate::kinds::Value;
 use crate::table::{CallForm, KnownCall, MOST_ARGUMENTS, Values, listed, value_at};
-use fmp_codes::SyncCall;
+use fmp_codes::{SyncCall, Value};
 
 macro_rules! sync_calls {
     ($reading:ident $(, $given:tt)*) => {

@@ -3,9 +3,8 @@ ghost use Rattle.std.specs.Prelude.{◌≡◌, ◌≤◌, length, find};
 ghost use Rattle.std.specs.Str.{bytes_eq};
 ghost use Rattle.fmp_calls.specs.Tables.SystemTable.{line_of};
 
-use crate::kinds::Value;
 use crate::table::{CallForm, KnownCall, MOST_ARGUMENTS, Values, listed, value_at};
-use fmp_codes::SystemCall;
+use fmp_codes::{SystemCall, Value};
 
 macro_rules! system_calls {
     ($reading:ident $(, $given:tt)*) => {

@@ -3,9 +3,8 @@ ghost use Rattle.std.specs.Prelude.{◌≡◌, ◌≤◌, length, find};
 ghost use Rattle.std.specs.Str.{bytes_eq};
 ghost use Rattle.fmp_calls.specs.Tables.TaskTable.{line_of};
 
-use crate::kinds::Value;
 use crate::table::{CallForm, KnownCall, MOST_ARGUMENTS, Values, listed, value_at};
-use fmp_codes::TaskCall;
+use fmp_codes::{TaskCall, Value};
 
 macro_rules! task_calls {
     ($reading:ident $(, $given:tt)*) => {

@@ -3,9 +3,8 @@ ghost use Rattle.std.specs.Prelude.{◌≡◌, ◌≤◌, length, find};
 ghost use Rattle.std.specs.Str.{bytes_eq};
 ghost use Rattle.fmp_calls.specs.Tables.TimeTable.{line_of};
 
-use crate::kinds::Value;
 use crate::table::{CallForm, KnownCall, MOST_ARGUMENTS, Values, listed, value_at};
-use fmp_codes::TimeCall;
+use fmp_codes::{TimeCall, Value};
 
 macro_rules! time_calls {
     ($reading:ident $(, $given:tt)*) => {

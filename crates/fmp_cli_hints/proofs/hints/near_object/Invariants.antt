@@ -1,6 +1,6 @@
 use Rattle.std.proofs.Common.{◌≡◌, ◌-◌, ◌≤◌, drop, length}
 use Rattle.std.specs.Option.{option_copied}
-use Rattle.fmp_calls.specs.declared.kinds.NameKind.TheVariants.{Object}
+use Rattle.fmp_codes.specs.declared.kinds.NameKind.TheVariants.{Object}
 use Rattle.fmp_cli_help.specs.Near.{nearest}
 use Rattle.fmp_names.specs.Names.{names_of}
 use Rattle.fmp_cli_hints.proofs.hints.near_object.Given as goal

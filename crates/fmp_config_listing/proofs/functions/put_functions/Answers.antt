@@ -1,5 +1,5 @@
 use Rattle.std.proofs.Common.{ap, sym, ◌∙◌, arith}
-use Rattle.fmp_calls.specs.declared.kinds.NameKind.TheVariants.{Function}
+use Rattle.fmp_codes.specs.declared.kinds.NameKind.TheVariants.{Function}
 use Rattle.fmp_names.specs.Names.{NameLists, name_of}
 use Rattle.fmp_config_listing.proofs.Counted.{function_more, functions_done, is_within}
 use Rattle.fmp_config_listing.proofs.functions.put_functions.Goals as goal

@@ -1,6 +1,6 @@
 use Rattle.std.proofs.Common.{◌≤◌, arith}
 use Rattle.std.specs.Option.{option_copied}
-use Rattle.fmp_calls.specs.declared.kinds.ObjectKind.TheVariants.{Task}
+use Rattle.fmp_codes.specs.declared.kinds.ObjectKind.TheVariants.{Task}
 use Rattle.fmp_search_question.specs.Waiting.{listed_in, tasks_of}
 use Rattle.fmp_search_question.proofs.Waiting.{all_waits}
 use Rattle.fmp_search_question.proofs.parts.waits_but.Goals as goal

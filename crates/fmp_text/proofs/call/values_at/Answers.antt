@@ -1,8 +1,8 @@
 use Rattle.std.proofs.Common.{◌≡◌, ◌<◌, [], length, map, get_or, ap, sym, ◌∙◌, arith}
 use Rattle.std.proofs.lemmas.Result.{err_from_is_err_and}
 use Rattle.std.proofs.lemmas.List.{length-map, get_or-map}
-use Rattle.fmp_calls.specs.declared.kinds.ArgumentKind.TheVariants.{Object}
-use Rattle.fmp_calls.specs.declared.kinds.ObjectKind.TheVariants.{Task}
+use Rattle.fmp_codes.specs.declared.kinds.ArgumentKind.TheVariants.{Object}
+use Rattle.fmp_codes.specs.declared.kinds.ObjectKind.TheVariants.{Task}
 use Rattle.fmp_text.specs.Argument.{value_at}
 use Rattle.fmp_text.proofs.Judged.{goes_on, ends, is_done}
 use Rattle.fmp_text.proofs.call.values_at.Goals as goal

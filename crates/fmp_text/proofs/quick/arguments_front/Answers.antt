@@ -1,8 +1,8 @@
 use Rattle.std.proofs.Common.{◌∙◌, arith}
 use Rattle.std.proofs.lemmas.Grind.{common_steps}
 use Rattle.std.proofs.lemmas.List.{length-set}
-use Rattle.fmp_calls.specs.declared.kinds.ArgumentKind.TheVariants.{Object}
-use Rattle.fmp_calls.specs.declared.kinds.ObjectKind.TheVariants.{Task}
+use Rattle.fmp_codes.specs.declared.kinds.ArgumentKind.TheVariants.{Object}
+use Rattle.fmp_codes.specs.declared.kinds.ObjectKind.TheVariants.{Task}
 use Rattle.fmp_text.proofs.Echoed.{prints_first, prints_last, prints_next, prints_none}
 use Rattle.fmp_text.proofs.Fronted.{goes_first, goes_last, goes_next, goes_none}
 use Rattle.fmp_text.proofs.quick.arguments_front.Goals as goal

@@ -1,7 +1,7 @@
 use Rattle.std.proofs.Common.{◌≡◌, ◌++◌, ◌≤◌, pos, sym, append-nil, vec_capacity, arith}
-use Rattle.fmp_calls.specs.declared.kinds.ArgumentKind.TheVariants.{Object}
-use Rattle.fmp_calls.specs.declared.kinds.ObjectKind.TheVariants.{Task}
-use Rattle.fmp_calls.specs.declared.kinds.Value.TheVariants.{Number}
+use Rattle.fmp_codes.specs.declared.kinds.ArgumentKind.TheVariants.{Object}
+use Rattle.fmp_codes.specs.declared.kinds.ObjectKind.TheVariants.{Task}
+use Rattle.fmp_codes.specs.declared.kinds.Value.TheVariants.{Number}
 use Rattle.fmp_trace.specs.Values.{separator}
 use Rattle.fmp_trace.proofs.values.put_arguments.Goals as goal
 use Rattle.fmp_trace.proofs.values.put_arguments.Goals.{then-index-gt0+in_ok-extend_from_slice, else-index-gt0}

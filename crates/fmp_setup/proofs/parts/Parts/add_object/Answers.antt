@@ -1,6 +1,6 @@
 use Rattle.std.proofs.Common.{◌≡◌, refl, ap, ◌∙◌, arith}
 use Rattle.std.proofs.lemmas.Result.{on_ok_weaker}
-use Rattle.fmp_calls.specs.declared.kinds.ObjectKind.{ObjectKind}
+use Rattle.fmp_codes.specs.declared.kinds.ObjectKind.{ObjectKind}
 use Rattle.fmp_names.specs.Names.{NameLists}
 use Rattle.fmp_setup.proofs.Named.{not_refused, not_taken}
 use Rattle.fmp_setup.proofs.Objects.{number_within_byte, object_pushed}

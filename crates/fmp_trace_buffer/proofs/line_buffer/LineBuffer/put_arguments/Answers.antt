@@ -1,7 +1,7 @@
 use Rattle.std.proofs.Common.{◌≡◌, ◌++◌, pos, sym, append-nil, arith}
-use Rattle.fmp_calls.specs.declared.kinds.ArgumentKind.TheVariants.{Object}
-use Rattle.fmp_calls.specs.declared.kinds.ObjectKind.TheVariants.{Task}
-use Rattle.fmp_calls.specs.declared.kinds.Value.TheVariants.{Number}
+use Rattle.fmp_codes.specs.declared.kinds.ArgumentKind.TheVariants.{Object}
+use Rattle.fmp_codes.specs.declared.kinds.ObjectKind.TheVariants.{Task}
+use Rattle.fmp_codes.specs.declared.kinds.Value.TheVariants.{Number}
 use Rattle.fmp_trace.proofs.Room.{arguments_next, separator_first, separator_after}
 use Rattle.fmp_trace.specs.Values.{separator}
 use Rattle.fmp_trace_buffer.specs.Filled.{HasRoom}

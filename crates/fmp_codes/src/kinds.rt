@@ -1,5 +1,5 @@
 //! The kinds of names, of arguments and of their values.
-use fmp_codes::Mode;
+use crate::calls::Mode;
 
 /// The kinds of objects.
 #[derive(Clone, Copy)]
@@ -17,7 +17,7 @@ pub enum ObjectKind {
 
 impl ObjectKind {
     ghost use Rattle.std.specs.Prelude.{◌≡◌, ◌<◌, ◌≤◌};
-    ghost use Rattle.fmp_calls.specs.Kinds.{place_of, most_of};
+    ghost use Rattle.fmp_codes.specs.Kinds.{place_of, most_of};
 
     /// Its place among the kinds, from 0.
     pub const fn place(self) -> usize
@@ -87,7 +87,7 @@ pub enum Value {
 
 impl Default for Value {
     ghost use Rattle.std.specs.Prelude.{◌≡◌, pos};
-    ghost use Rattle.fmp_calls.specs.declared.kinds.Value.TheVariants.{Number};
+    ghost use Rattle.fmp_codes.specs.declared.kinds.Value.TheVariants.{Number};
 
     /// What stands where there is no argument.
     fn default() -> Self
@@ -99,7 +99,7 @@ impl Default for Value {
 
 impl Value {
     ghost use Rattle.std.specs.Prelude.{◌≡◌};
-    ghost use Rattle.fmp_calls.specs.Entries.{number_in, pattern_in, data_in, mode_in};
+    ghost use Rattle.fmp_codes.specs.Kinds.{number_in, pattern_in, data_in, mode_in};
 
     /// The number, or 0 where it is none.
     pub fn number(self) -> i32
