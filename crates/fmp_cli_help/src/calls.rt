@@ -5,7 +5,9 @@ ghost use Rattle.fmp_cli_help.specs.Calls as spec;
 
 use crate::deeds::deed;
 use fmp_calls::{BUFFER_CALLS, SPIN_CALLS, SYNC_CALLS, SYSTEM_CALLS, TASK_CALLS, TIME_CALLS, form};
-use fmp_codes::{ArgumentKind, BufferCall, Call, ObjectKind, SpinCall, SyncCall, SystemCall, TaskCall, TimeCall};
+use fmp_codes::{
+    ArgumentKind, BufferCall, Call, ObjectKind, SpinCall, SyncCall, SystemCall, TaskCall, TimeCall,
+};
 use std::alloc::AllocError;
 
 /// What an argument of a kind is called.

@@ -10,7 +10,9 @@ ghost use Rattle.fmp_config_statements.specs.Attributes as attributes;
 ghost use Rattle.fmp_config_statements.specs.Table as statements;
 
 use fmp_calls::{BUFFER_CALLS, SPIN_CALLS, SYNC_CALLS, SYSTEM_CALLS, TASK_CALLS, TIME_CALLS, form};
-use fmp_codes::{BufferCall, Call, Code, ObjectKind, SpinCall, SyncCall, SystemCall, TaskCall, TimeCall};
+use fmp_codes::{
+    BufferCall, Call, Code, ObjectKind, SpinCall, SyncCall, SystemCall, TaskCall, TimeCall,
+};
 use fmp_config_statements::{Attribute, STATEMENT_NAMES, StatementName, allowed};
 use std::alloc::{AllocError, Global};
 use strsim::generic_levenshtein;

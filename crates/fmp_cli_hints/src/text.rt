@@ -15,9 +15,9 @@ use crate::wanted::Wanted;
 use crate::way::{barred_place, line_place, word_place};
 use fmp_bytes::{Class, all_of, is_identifier, skip, split_prefix};
 use fmp_calls::find_call;
-use fmp_codes::{ArgumentKind, ObjectKind};
 use fmp_cli_diagnostics::Spot;
 use fmp_cli_help::put_text_advice;
+use fmp_codes::{ArgumentKind, ObjectKind};
 use fmp_text::{Names, TextFault, TextKind, without_return};
 use std::alloc::{AllocError, Global};
 

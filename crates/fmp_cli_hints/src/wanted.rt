@@ -2,8 +2,8 @@
 ghost use Rattle.std.specs.Prelude.{◌≡◌, ◌++◌, OnOk, decimal};
 ghost use Rattle.fmp_cli_hints.specs.Wanted as spec;
 
-use fmp_codes::{ArgumentKind, Call, Event, Proc};
 use fmp_cli_help::{put_argument, put_call};
+use fmp_codes::{ArgumentKind, Call, Event, Proc};
 use fmp_text::Names;
 use fmp_trace::put_event;
 use itoa::Buffer;

@@ -4,9 +4,9 @@ ghost use Rattle.std.specs.Option.{option_copied};
 ghost use Rattle.fmp_cli_hints_config.specs.Functions as spec;
 ghost use Rattle.fmp_cli_help.specs.Near.{nearest};
 
-use fmp_codes::{NameKind, ObjectKind};
 use fmp_cli_help::nearer;
 use fmp_cli_hints::{TextForm, function_at, near_thing, put_near, task_at};
+use fmp_codes::{NameKind, ObjectKind};
 use fmp_config::Config;
 use fmp_setup::TaskSetup;
 use fmp_text::{TextFault, is_name};

@@ -6,8 +6,8 @@ ghost use Rattle.fmp_cli_hints_question.specs.Lines as spec;
 use crate::rows::LINE_ROWS;
 use fmp_bytes::{cut, following};
 use fmp_calls::{find_call, form};
-use fmp_codes::ArgumentKind;
 use fmp_cli_hints::report_of;
+use fmp_codes::ArgumentKind;
 use std::alloc::AllocError;
 
 /// Adds what is told of the name of a call without its arguments.

@@ -5,7 +5,10 @@ ghost use Rattle.fmp_session.specs.Numbers as spec;
 
 use crate::refused::Refused;
 use fmp_bytes::{signed32, unsigned32};
-use fmp_calls::{BUFFER_CALLS, MOST_ARGUMENTS, SPIN_CALLS, SYNC_CALLS, SYSTEM_CALLS, TASK_CALLS, TIME_CALLS, Values, form, with_values};
+use fmp_calls::{
+    BUFFER_CALLS, MOST_ARGUMENTS, SPIN_CALLS, SYNC_CALLS, SYSTEM_CALLS, TASK_CALLS, TIME_CALLS,
+    Values, form, with_values,
+};
 use fmp_codes::{ArgumentKind, Call, Event, Mode, Proc, Value};
 
 /// The call on tasks at a place from 0.

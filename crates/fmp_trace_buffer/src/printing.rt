@@ -13,7 +13,10 @@ ghost use Rattle.fmp_trace.specs.Values.{arguments_from, call_text, mode_text, n
 use crate::count::Count;
 use crate::line_buffer::LineBuffer;
 use fmp_calls::parts;
-use fmp_codes::{Answer, ArgumentKind, Call, Code, Event, Mode, NameKind, ObjectKind, Proc, Record, Release, Releases, Runner, Task, Value};
+use fmp_codes::{
+    Answer, ArgumentKind, Call, Code, Event, Mode, NameKind, ObjectKind, Proc, Record, Release,
+    Releases, Runner, Task, Value,
+};
 use fmp_text::{Echo, Names};
 use fmp_trace::code_piece;
 

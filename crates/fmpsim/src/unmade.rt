@@ -1,8 +1,8 @@
 //! What is told beside `never` and `not within`: how far the search went, and which calls of the scripts no order makes. Where a call is never made, an
 //! answer `never` may say less than it seems to.
 use crate::progress::ProgressLine;
-use fmp_codes::{Event, NameKind, Proc};
 use fmp_cli_explore::Bounds;
+use fmp_codes::{Event, NameKind, Proc};
 use fmp_names::Names;
 use fmp_run_explore::{Extent, Finding, Layer, Met, Outcome, Progress, is_made};
 use fmp_trace::put_event;

@@ -1,8 +1,8 @@
 //! The tasks that wait at the end of a run, on standard error: in this program's own form, or in that of compilers at the script of each.
 use crate::beside::whole;
-use fmp_codes::{NameKind, ObjectKind};
 use fmp_cli::Paths;
 use fmp_cli_diagnostics::{LineForm, Spot};
+use fmp_codes::{NameKind, ObjectKind};
 use fmp_config::{Config, MOST_BYTES as MOST_CONFIG_BYTES, read_config};
 use fmp_run_events::Status;
 use fmp_text::MOST_BYTES;
