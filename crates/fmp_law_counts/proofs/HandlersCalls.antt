@@ -30,6 +30,8 @@ use Rattle.fmp_law_balance.proofs.Objects.{IsNamed, object_known, by_object}
 use Rattle.fmp_law_balance.proofs.Steps.{report}
 use Rattle.fmp_law_waits.specs.Waits.{is_tick_for}
 use Rattle.fmp_rules.specs.Objects.{alarm, cyclic}
+use Rattle.fmp_law_waits.proofs.Named.{ticks_same}
+use Rattle.fmp_law_waits.specs.Meanings.{ticks_in}
 use Rattle.fmp_law_counts.specs.Alarms.{starts_alarm, stops_alarm, without_tick, alarm_left_after, alarm_time}
 use Rattle.fmp_setup.specs.declared.setup.CyclicSetup.{CyclicSetup}
 use Rattle.fmp_rules.specs.declared.machine.Cyclic.{Cyclic}
@@ -60,7 +62,7 @@ idle_left timer q starts stops begun fewer left e =
     cond-false (starts && false) _ _ (and_right starts false refl) ∙ cond-false (stops && false) _ _ (and_right stops false refl) ∙ cond-false (is_tick_for timer q answer.Idle e) fewer left (untaken timer q answer.Idle e refl)
 
 pub idle_time : {Q : Type 0} (w : World Q) (a : Object) (r : Option Runner) (e : Event) (left : Option ℕ) → alarm_left_after w a (report e r (plain answer.Idle)) left ≡ left
-idle_time w a r e left = idle_left w.timer (alarm w a).assigned (starts_alarm a e) (stops_alarm a e) (ticks_of (alarm_time e)) (without_tick None left) left e
+idle_time w a r e left = idle_left w.timer (alarm w a).assigned (starts_alarm a e) (stops_alarm a e) (ticks_in (alarm_time e)) (without_tick None left) left e
 
 pub idle_cyclic_time : {Q : Type 0} (w : World Q) (c : Object) (r : Option Runner) (e : Event) (left : Option ℕ) → cyclic_left_after w c (report e r (plain answer.Idle)) left ≡ left
 idle_cyclic_time w c r e left = idle_left w.timer (cyclic w c).assigned (starts_cyclic c e) (stops_cyclic c e) (Some ((cyclic w c).setup.phase + 1)) (without_tick (Some (cyclic w c).setup.period) left) left e
@@ -77,17 +79,25 @@ module _ {Q : Type 0} (k : Ordering Q) (w : World Q) (p : Proc) (a : Object) (fe
   not_put : (id : ℤ) (left : Option ℕ) (c : Code) → refuses c ≡ true → Put id left (w, refused c)
   not_put id left = refused_time (names a id) (item None w.alarms_left a.number) left
 
+  as_told : (id time : ℤ) (did : World Q × Effect) → Put id (ticks_of time) did → Put id (ticks_in time) did
+  as_told id time did put = put ∙ ap (λ left. if names a id && is_accepted did.1.answer then left else item None w.alarms_left a.number) (sym (ticks_same time))
+
   times_time : (c : TimeCall) → CallTimes (call.Time c) (called w p (time_row w c))
   unfolding sta_cyc msta_cyc stp_cyc sta_alm msta_alm stp_alm
-  times_time (time.StaAlm id after) = by_called w p (Put id (ticks_of after)) (sta_alm w id after) tt (not_put id (ticks_of after)) (λ x. put_named w.alarms w.alarms_left a few same id (λ o. ticks_of after) x.known)
+  times_time (time.StaAlm id after) =
+      as_told id after (called w p (sta_alm w id after))
+      (by_called w p (Put id (ticks_of after)) (sta_alm w id after) tt (not_put id (ticks_of after)) (λ x. put_named w.alarms w.alarms_left a few same id (λ o. ticks_of after) x.known))
   times_time (time.IstaAlm id after) =
-      by_called w p (Put id (ticks_of after)) (in_handler (sta_alm w id after)) tt (not_put id (ticks_of after)) (λ x. put_named w.alarms w.alarms_left a few same id (λ o. ticks_of after) x.known)
+      as_told id after (called w p (in_handler (sta_alm w id after)))
+      (by_called w p (Put id (ticks_of after)) (in_handler (sta_alm w id after)) tt (not_put id (ticks_of after)) (λ x. put_named w.alarms w.alarms_left a few same id (λ o. ticks_of after) x.known))
   times_time (time.MstaAlm id after q) =
-      by_called w p (Put id (ticks_of after)) (msta_alm w id after q) tt (not_put id (ticks_of after))
-      (λ x. put_named w.alarms w.alarms_left a few same id (λ o. ticks_of after) (and_parts (is_some (object_named w.alarms id)) _ x.known).0)
+      as_told id after (called w p (msta_alm w id after q))
+      (by_called w p (Put id (ticks_of after)) (msta_alm w id after q) tt (not_put id (ticks_of after))
+      (λ x. put_named w.alarms w.alarms_left a few same id (λ o. ticks_of after) (and_parts (is_some (object_named w.alarms id)) _ x.known).0))
   times_time (time.ImstaAlm id after q) =
-      by_called w p (Put id (ticks_of after)) (in_handler (msta_alm w id after q)) tt (not_put id (ticks_of after))
-      (λ x. put_named w.alarms w.alarms_left a few same id (λ o. ticks_of after) (and_parts (is_some (object_named w.alarms id)) _ x.known).0)
+      as_told id after (called w p (in_handler (msta_alm w id after q)))
+      (by_called w p (Put id (ticks_of after)) (in_handler (msta_alm w id after q)) tt (not_put id (ticks_of after))
+      (λ x. put_named w.alarms w.alarms_left a few same id (λ o. ticks_of after) (and_parts (is_some (object_named w.alarms id)) _ x.known).0))
   times_time (time.StpAlm id) = by_called w p (Put id None) (stp_alm w id) tt (not_put id None) (λ x. put_named w.alarms w.alarms_left a few same id (λ o. None) x.known)
   times_time (time.IstpAlm id) = by_called w p (Put id None) (in_handler (stp_alm w id)) tt (not_put id None) (λ x. put_named w.alarms w.alarms_left a few same id (λ o. None) x.known)
   times_time c = either_way w p (λ did. item None did.0.alarms_left a.number ≡ item None w.alarms_left a.number) (time_row w c) (λ x. refl) refl

@@ -28,6 +28,7 @@ use Rattle.fmp_law_safety.proofs.KeepsDue.{alarms_keep, cyclics_keep, released_k
 use Rattle.fmp_law_safety.proofs.TellsTick.{lowered_length}
 use Rattle.fmp_law_balance.proofs.Objects.{by_object}
 use Rattle.fmp_law_balance.proofs.Steps.{report}
+use Rattle.fmp_law_words.proofs.Words.{clock_counts}
 use Rattle.fmp_law_counts.specs.Alarms.{without_tick, alarm_left_after, is_last}
 use Rattle.fmp_law_counts.specs.Cyclics.{cyclic_left_after}
 use Rattle.fmp_law_counts.specs.Due.{by_number}
@@ -195,6 +196,7 @@ module _ {Q : Type 0} (k : Ordering Q) (w : World Q) (p : Proc) where
       let fell : item None u.alarms_left a.number ≡ (if b then one_less (item None w.alarms_left a.number) else item None w.alarms_left a.number) =
       ap (λ (c : Clock). item None c.alarms_left a.number) same ∙ alarm_counted a length_same in
       alarms_after p u a (rw count here) ∙ ap (λ (o : Option ℕ). if is_over o then None else o) fell ∙ fallen_left None b (item None w.alarms_left a.number) range
+      ∙ ap (λ x. if x then without_tick None (item None w.alarms_left a.number) else item None w.alarms_left a.number) (sym (clock_counts w.timer p (alarm w a).assigned))
 
   -- what is left of a cyclic handler after a tick
   pub cyclic_left_at_tick : (c : Object) → c.number ≤ length w.cyclics → length w.cyclics_left ≡ length w.cyclics → TicksInRange (item None w.cyclics_left c.number) →
@@ -215,6 +217,7 @@ module _ {Q : Type 0} (k : Ordering Q) (w : World Q) (p : Proc) where
       cyclics_after p u c (rw there here) (as_many ∙ length_same ∙ ap length (sym there))
       ∙ ap (λ (xs : List Cyclic). if is_over (item None u.cyclics_left c.number) then Some (cyclic (record u { cyclics = xs }) c).setup.period else item None u.cyclics_left c.number) there
       ∙ ap (λ (o : Option ℕ). if is_over o then Some period else o) fell ∙ fallen_left (Some period) b (item None w.cyclics_left c.number) range
+      ∙ ap (λ x. if x then without_tick (Some period) (item None w.cyclics_left c.number) else item None w.cyclics_left c.number) (sym (clock_counts w.timer p (cyclic w c).assigned))
 
   abbrev last_alarm : Object → Bool
   last_alarm a = counts (alarm w a).assigned && is_last (item None w.alarms_left a.number)

@@ -7,7 +7,7 @@ use Rattle.fmp_codes.specs.declared.records.Event.{Event}
 use Rattle.fmp_codes.specs.declared.records.Record.{Record}
 use Rattle.fmp_setup.specs.Setup.{Setup}
 use Rattle.fmp_rules.specs.Objects.{alarm}
-use Rattle.fmp_rules.specs.Arguments.{ticks_of}
+use Rattle.fmp_law_waits.specs.Meanings.{ticks_in}
 use Rattle.fmp_rules.specs.Arrivals.{State, numbered}
 use Rattle.fmp_rules.specs.Step.{step, replay}
 use Rattle.fmp_rules.specs.Boot.{booted}
@@ -71,7 +71,7 @@ rings_at_last_tick c earlier e later a n starts time alone =
     let m : State = replay numbered (booted c) earlier in
     let r : Record = (step numbered m e).1 in
     let v : State = (step numbered m e).0 in
-    let first : alarm_left_after m a r (alarm_left_by a (booted c) earlier None) ≡ Some (n + 1) = cond-true (starts_alarm a r.event && is_accepted r.answer) _ _ starts ∙ ap ticks_of time in
+    let first : alarm_left_after m a r (alarm_left_by a (booted c) earlier None) ≡ Some (n + 1) = cond-true (starts_alarm a r.event && is_accepted r.answer) _ _ starts ∙ ap ticks_in time in
     let left : alarm_left_by a (booted c) (earlier ++ e ∷ later) None ≡ alarm_left_by a v later (Some (n + 1)) = left_append a (booted c) earlier (e ∷ later) None ∙ ap (alarm_left_by a v later) first in
     let report : is_last (alarm_left_by a (booted c) (earlier ++ e ∷ later) None) ≡ (ticks_for_alarm a v later + 1 == n + 1) = ap is_last left ∙ last_after a v later (n + 1) (omega arith) alone in (
       λ last. let same : ticks_for_alarm a v later + 1 ≡ n + 1 = eqb-true _ _ (sym report ∙ last) in omega (arith, same),

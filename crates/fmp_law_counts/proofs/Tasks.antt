@@ -11,6 +11,7 @@ use Rattle.fmp_law_safety.proofs.Items.{item_after, item_same, item_other}
 use Rattle.fmp_law_safety.proofs.Calls.{FromTask}
 use Rattle.fmp_law_balance.specs.Queues.{is_task}
 use Rattle.fmp_law_waits.proofs.Named.{eqb_sym, caller_runs, task_known}
+use Rattle.fmp_law_words.proofs.Words.{nothing_same}
 use Rattle.fmp_law_counts.specs.Naming.{names_task}
 
 module _ {Q : Type 0} (w : World Q) (p : Proc) (t : Task) where
@@ -22,8 +23,8 @@ module _ {Q : Type 0} (w : World Q) (p : Proc) (t : Task) where
   named_or_caller_is id few f known = go (is_zero id) refl
     where
       go : (b : Bool) → is_zero id ≡ b → names_task t (runner_of w p) id ≡ ((unwrap_or (task_or_caller w p id) (as_task 1)).number == t.number)
-      go true e = rw e (is_caller_of f)
-      go false e = rw e (task_known w id few (rw e at known) t)
+      go true e = rw (nothing_same id, e) (is_caller_of f)
+      go false e = rw (nothing_same id, e) (task_known w id few (rw e at known) t)
 
 -- One task changes.
 module _ {Q : Type 0} (w : World Q) (u : Task) (r : TaskRecord) where

@@ -36,6 +36,8 @@ use Rattle.fmp_law_waits.specs.Releases.{EndsOpenWait, IsServed, IsBrokenOff, Is
 use Rattle.fmp_law_waits.specs.Laws.{Waits, left_of}
 use Rattle.fmp_law_waits.proofs.Follows.{Follows}
 use Rattle.fmp_law_waits.proofs.Ticks.{handlers_beside}
+use Rattle.fmp_law_waits.specs.Meanings.{after_tick}
+use Rattle.fmp_law_words.proofs.Words.{clock_counts}
 use Rattle.fmp_law_counts.specs.Waits.{ReleasesInTime, EndsInTime, EndsAtLastTick, ticks_for, GoesOn}
 use Rattle.fmp_law_waits.proofs.Events.{event_reported, tick_state, untaken}
 use Rattle.fmp_law_counts.proofs.Ready.{Ready, followed, ready_next, ready_later, ready_end, ready_at_boot, ready_after}
@@ -150,7 +152,7 @@ module _ (c : Setup) (t : Task) where
         counts : (o : OpenWait) → pending t ≡ Some o → is_tick_for c.timer o.assigned r.answer r.event ≡ counts_for m.timer p (task m t).assigned
         counts o is =
             same_counts o is r.answer r.event ∙ ap (is_tick_for m.timer (task m t).assigned r.answer) (event_reported numbered m (event.Tick p))
-            ∙ ap (λ a. is_tick_for m.timer (task m t).assigned a (event.Tick p)) taken
+            ∙ ap (λ a. is_tick_for m.timer (task m t).assigned a (event.Tick p)) taken ∙ clock_counts m.timer p (task m t).assigned
 
         go : (left_of (pending t) ≡ Some 1) × (counts_for m.timer p (task m t).assigned ≡ true) → (b : Bool) → is_released t r.releases ≡ b → is_released t r.releases ≡ true
         go both true e = e
@@ -159,7 +161,7 @@ module _ (c : Setup) (t : Task) where
             let no_begin : begins t r ≡ None = cond-false (is_waiting r.answer && is_call_of t r.runner r.event) (asked_by r.event) None (ap (λ a. is_waiting a && is_call_of t r.runner r.event) taken) in
             let after : after_record c pending r t ≡ Some (lasts c t r o.0) = lasts_on c t pending r o.0 o.1 no_begin (ends_not c t pending r (ap is_accepted taken) e) in
             let fell : (lasts c t r o.0).left ≡ Some 0 =
-            cond-true (is_tick_for c.timer o.0.assigned r.answer r.event) (one_less o.0.left) o.0.left (counts o.0 o.1 ∙ both.1) ∙ ap one_less o.2 in
+            cond-true (is_tick_for c.timer o.0.assigned r.answer r.event) (after_tick o.0.left) o.0.left (counts o.0 o.1 ∙ both.1) ∙ ap after_tick o.2 in
             let range = tick_state numbered m p (λ (v : State). TicksInRange (item None v.waits_left t.number)) (λ v cs d. d) (waits_in_range numbered numbered_lists m h.safe p t) taken in
             let least = (subst TicksInRange ((f.report t).0.left ∙ ap left_of after ∙ fell) range).0 in
             absurd (omega (arith, least))
@@ -175,7 +177,7 @@ module _ (c : Setup) (t : Task) where
       let first = All-head P r (answers numbered v es) goes in
       let counts : Bool = is_tick_for m.timer (task m t).assigned r.answer r.event in
       let now : (lasts c t r o).left ≡ Some (n - one_if counts) =
-      ap (λ b. if b then one_less o.left else o.left) (same_counts pending m (e ∷ es) h o is r.answer r.event) ∙ ap (λ l. if counts then one_less l else l) left ∙ one_fewer counts n in
+      ap (λ b. if b then after_tick o.left else o.left) (same_counts pending m (e ∷ es) h o is r.answer r.event) ∙ ap (λ l. if counts then after_tick l else l) left ∙ one_fewer counts n in
       left_later (after_record c pending r) v es (lasts c t r o) (n - one_if counts) (ready_next c pending m e es h) (lasts_on c t pending r o is first.0 first.1) now (All-tail P r (answers numbered v es) goes)
       ∙ ap Some (omega arith)
 

@@ -19,6 +19,7 @@ use Rattle.fmp_law_waits.specs.Asked.{OpenWait}
 use Rattle.fmp_law_waits.proofs.Several.{Distinct}
 use Rattle.fmp_law_waits.proofs.Words.{IsKept}
 use Rattle.fmp_law_records.specs.Served.{is_priority, Places, is_served_before}
+use Rattle.fmp_law_words.proofs.Turns.{turns_ordered}
 use Rattle.fmp_law_records.proofs.Alike.{in_order_alike}
 use Rattle.fmp_law_records.proofs.Places.{ordered_as, ArePlaced}
 use Rattle.fmp_law_refusals.specs.Found.{waits_so}
@@ -107,6 +108,7 @@ module _ (c : Setup) (m : State) (x : Places) (placed : ArePlaced c x m) (waits 
       (λ t u _ _ a b. same_first (order_in m k o) t u (open_ t a) (open_ u b)) (length m.tasks) (omega arith)
       ∙ ap (in_order (λ t. waits_so what (x.waits t)) (is_served_before x (is_priority (order_in m k o)))) count
       ∙ ap (λ z. in_order (λ t. waits_so what (x.waits t)) (is_served_before x (is_priority z)) (length c.tasks)) (placed.orders k o)
+      ∙ sym (turns_ordered (λ t. waits_so what (x.waits t)) (is_served_before x (is_priority (ordered_as c k o))) (length c.tasks))
 
   -- each task stands in a queue once
   pub queue_distinct : (k : QueueKind) (o : Object) → Distinct (queue numbered m k o)

@@ -39,12 +39,14 @@ use Rattle.fmp_law_balance.proofs.Called.{AllRefuse, not_accepted, by_called}
 use Rattle.fmp_law_counts.proofs.Ready.{ready_after}
 use Rattle.fmp_law_waits.specs.Asked.{OpenWait}
 use Rattle.fmp_law_waits.proofs.Events.{by_event}
-use Rattle.fmp_law_records.specs.Served.{Places, places_by, places_at_boot}
+use Rattle.fmp_law_words.proofs.Words.{head_same}
+use Rattle.fmp_law_records.specs.Served.{Places, is_priority, places_by, places_at_boot}
+use Rattle.fmp_law_records.proofs.Places.{ordered_as}
 use Rattle.fmp_law_refusals.specs.Meanings.{object_of}
 use Rattle.fmp_law_refusals.specs.Found.{to_send}
 use Rattle.fmp_law_refusals.proofs.Configured.{object_is}
 use Rattle.fmp_law_effects.specs.Losses.{values_reported, oldest}
-use Rattle.fmp_law_effects.specs.Releases.{next_sender}
+use Rattle.fmp_law_effects.specs.Releases.{next_sender, waiting_reported}
 use Rattle.fmp_law_effects.specs.Received.{is_receive, value_of, value_to_send, sent_by, received_from, received_reported, IsReceivedReported}
 use Rattle.fmp_law_effects.proofs.Losses.{values_after_all}
 use Rattle.fmp_law_effects.proofs.Queues.{queue_same}
@@ -152,7 +154,8 @@ received_values_reported c events valid on e within =
     let senders : (d : Object) → sender numbered m d ≡ next_sender c x d = λ d.
     ap first
     (queue_same c m x (placed_after_all c events valid on) (waits_after_all c events valid on) (priorities_after_all c events valid on) ready.tasks ready.sound.few_tasks
-    kind.Send d (to_send d) (send_in d)) in
+    kind.Send d (to_send d) (send_in d))
+    ∙ sym (head_same (waiting_reported c x (is_priority (ordered_as c kind.Send d)) (to_send d))) in
     by_event numbered m (λ v r. IsReceivedReported c records r) (λ v cs r y ps h. h)
     (λ p y. receives_call c records m (values_after_all c events valid on) (λ t. (waits_after_all c events valid on t).0.wait) senders p y)
     (λ p y. idle_receives c records p y) (λ p none. absurd (false≢true none)) (λ p none. absurd (false≢true none)) (λ p none. absurd (false≢true none))

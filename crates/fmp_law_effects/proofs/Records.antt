@@ -102,7 +102,7 @@ module _ (v u : Option ℤ) where
     call_same z y none = refl
 
 module _ (c : Setup) (records : List Record) (o : Option Runner) where
-  event_same : (v u : Option ℤ) (e : Event) → is_receive e && is_accepted (answer_reported c records o v e) ≡ false →
+  pub event_same : (v u : Option ℤ) (e : Event) → is_receive e && is_accepted (answer_reported c records o v e) ≡ false →
       answer_reported c records o v e ≡ answer_reported c records o u e
   event_same v u (event.Call p y) none =
       call_same v u c (found_reported c records) (report_processor c p records) (report_running c p records) p o (first_of (row_reported c records p o y)) y none

@@ -56,14 +56,15 @@ use Rattle.fmp_law_waits.specs.Asked.{OpenWait}
 use Rattle.fmp_law_waits.proofs.Several.{Distinct}
 use Rattle.fmp_law_waits.proofs.Words.{IsKept}
 use Rattle.fmp_law_records.specs.Patterns.{handed_on, clears_of, report_pattern}
-use Rattle.fmp_law_records.specs.Served.{Places}
-use Rattle.fmp_law_records.proofs.Places.{ArePlaced}
+use Rattle.fmp_law_words.proofs.Words.{head_same}
+use Rattle.fmp_law_records.specs.Served.{Places, is_priority}
+use Rattle.fmp_law_records.proofs.Places.{ordered_as, ArePlaced}
 use Rattle.fmp_law_refusals.specs.Meanings.{task_of, task_meant, object_of}
 use Rattle.fmp_law_refusals.specs.Found.{for_wakeup, for_unit, for_bits, to_send, to_receive, waits_so}
 use Rattle.fmp_law_refusals.proofs.Configured.{Configured, IsTask, object_is, task_is, meant_is, eventflag_setup}
 use Rattle.fmp_law_refusals.proofs.Found.{holds_same}
 use Rattle.fmp_law_effects.specs.Releases.{given_to, for_block, is_set, next_for_unit, next_receiver, next_sender, next_for_block, handed_out, flag_releases}
-use Rattle.fmp_law_effects.specs.Releases.{released_with, woken, call_releases}
+use Rattle.fmp_law_effects.specs.Releases.{released_with, woken, call_releases, waiting_reported}
 use Rattle.fmp_law_effects.proofs.Queues.{queue_same, queue_distinct}
 
 -- What the machine and what is told say of a wait.
@@ -237,16 +238,16 @@ module _ (c : Setup) (records : List Record) (m : State) (x : Places) (placed : 
   -- The first of each queue.
 
   first_for_unit : (s : Object) → first (queue numbered m kind.Semaphore s) ≡ next_for_unit c x s
-  first_for_unit s = ap first (queue_same c m x placed waits priorities count few kind.Semaphore s (for_unit s) (unit_in s))
+  first_for_unit s = ap first (queue_same c m x placed waits priorities count few kind.Semaphore s (for_unit s) (unit_in s)) ∙ sym (head_same (waiting_reported c x (is_priority (ordered_as c kind.Semaphore s)) (for_unit s)))
 
   first_receiver : (d : Object) → receiver numbered m d ≡ next_receiver c x d
-  first_receiver d = ap first (queue_same c m x placed waits priorities count few kind.Receive d (to_receive d) (receive_in d))
+  first_receiver d = ap first (queue_same c m x placed waits priorities count few kind.Receive d (to_receive d) (receive_in d)) ∙ sym (head_same (waiting_reported c x (is_priority (ordered_as c kind.Receive d)) (to_receive d)))
 
   first_sender : (d : Object) → sender numbered m d ≡ next_sender c x d
-  first_sender d = ap first (queue_same c m x placed waits priorities count few kind.Send d (to_send d) (send_in d))
+  first_sender d = ap first (queue_same c m x placed waits priorities count few kind.Send d (to_send d) (send_in d)) ∙ sym (head_same (waiting_reported c x (is_priority (ordered_as c kind.Send d)) (to_send d)))
 
   first_for_block : (o : Object) → first (queue numbered m kind.Pool o) ≡ next_for_block c x o
-  first_for_block o = ap first (queue_same c m x placed waits priorities count few kind.Pool o (for_block o) (block_in o))
+  first_for_block o = ap first (queue_same c m x placed waits priorities count few kind.Pool o (for_block o) (block_in o)) ∙ sym (head_same (waiting_reported c x (is_priority (ordered_as c kind.Pool o)) (for_block o)))
 
   module _ (p : Proc) (within : (t : Task) → (processor m p).running ≡ Some t → t.number ≤ length m.tasks) where
     abbrev IsReported : Call → Type 0

@@ -37,6 +37,9 @@ use Rattle.fmp_law_waits.proofs.Ticks.{numbered_once, lowered_at}
 use Rattle.fmp_law_waits.proofs.Words.{IsKept}
 use Rattle.fmp_law_records.specs.Patterns.{IsPatternReported}
 use Rattle.fmp_law_records.specs.Served.{Places, began_before, places_by, places_at_boot}
+use Rattle.fmp_law_words.specs.Turns.{in_turn}
+use Rattle.fmp_law_words.proofs.Turns.{turns_ordered}
+use Rattle.fmp_law_words.proofs.Words.{clock_counts}
 use Rattle.fmp_law_records.proofs.Alike.{in_order_alike}
 use Rattle.fmp_law_records.proofs.PatternsRuns.{patterns_reported}
 use Rattle.fmp_law_records.proofs.Places.{ArePlaced}
@@ -110,7 +113,7 @@ module _ (c : Setup) (m : State) (x : Places) (placed : ArePlaced c x m) (waits 
         go None h = ap (λ l. is_over (if falls t then one_less l else l)) h.left ∙ never (falls t)
         go (Some o) h =
             last_is (falls t) (item None m.waits_left t.number) (s.counts.waits t) ∙ ap (λ l. falls t && is_last l) h.left
-            ∙ ap (λ (q : Proc). counts_for m.timer p q && is_last o.left) h.assigned ∙ ap (λ (z : Timer). counts_for z p o.assigned && is_last o.left) sound.timer
+            ∙ ap (λ (q : Proc). counts_for m.timer p q && is_last o.left) h.assigned ∙ ap (λ (z : Timer). counts_for z p o.assigned && is_last o.left) sound.timer ∙ ap (λ b. b && is_last o.left) (sym (clock_counts c.timer p o.assigned))
 
     timed_same : (t : Task) → is_some (left_now t) ≡ is_timed (x.waits t)
     timed_same t = ap is_some (fallen t) ∙ some_left (falls t) (item None m.waits_left t.number) ∙ ap is_some (waits t).0.left ∙ go (x.waits t)
@@ -131,13 +134,13 @@ module _ (c : Setup) (m : State) (x : Places) (placed : ArePlaced c x m) (waits 
         let over : Task → Bool = λ t. is_over (left_now t) in
         let lefts : length v.waits_left ≡ length m.tasks = lowered_length (λ r. counts_for m.timer p r.assigned) m.tasks m.waits_left ∙ sound.waits_left in
         let few : length v.waits_left ≤ 64 = rw lefts sound.few_tasks in
-        let report : List Task = in_order (λ t. is_timed (x.waits t)) (began_before x) (length c.tasks) in
+        let report : List Task = in_turn (λ t. is_timed (x.waits t)) (began_before x) (length c.tasks) in
         let same : timed ≡ report =
         in_order_alike (length v.waits_left) few (λ t. is_some (left_now t)) (λ t. is_timed (x.waits t)) (comes_before (λ t. 0) m.order.begun) (began_before x)
         (λ t _. timed_same t)
         (λ t u _ _ a b. sym (placed.same t u (timed_open (x.waits t) (sym (timed_same t) ∙ a)) (timed_open (x.waits u) (sym (timed_same u) ∙ b))))
         (length v.waits_left) (omega arith)
-        ∙ ap (in_order (λ t. is_timed (x.waits t)) (began_before x)) (lefts ∙ count) in
+        ∙ ap (in_order (λ t. is_timed (x.waits t)) (began_before x)) (lefts ∙ count) ∙ sym (turns_ordered (λ t. is_timed (x.waits t)) (began_before x) (length c.tasks)) in
         let ts : List Task = tasks_expired v.waits_left timed in
         released_same v ts (distinct_filter over timed (numbered_once v few)) (λ i d below. (waits (slice_index_or ts i d)).0.wait)
         ∙ ap (map (λ t. released_with t (how_over (x.waits t)) None))

@@ -2,6 +2,8 @@
 use Rattle.std.proofs.Common.{◌≡◌, ℕ, ℤ, pos, true, false, List, [], ◌∷◌, refl, Option, Some, None}
 use Rattle.fmp_codes.specs.Numbers.{as_proc, as_task}
 use Rattle.fmp_codes.specs.Records.{answer_record}
+use Rattle.fmp_codes.specs.declared.numbers.Proc.{Proc}
+use Rattle.fmp_codes.specs.declared.numbers.Task.{Task}
 use Rattle.fmp_codes.specs.declared.calls.Call.{Call}
 use Rattle.fmp_codes.specs.declared.calls.Call.TheVariants as call
 use Rattle.fmp_codes.specs.declared.calls.TaskCall.TheVariants as tasks
@@ -25,6 +27,7 @@ use Rattle.fmp_law_effects.specs.RunChanges.{change_reported, requests_reported}
 use Rattle.fmp_law_effects.specs.Losses.{lost_reported}
 use Rattle.fmp_law_effects.specs.Releases.{releases_reported}
 use Rattle.fmp_law_effects.specs.Received.{received_reported}
+use Rattle.fmp_law_effects.specs.Told.{run_told}
 
 -- On two processors, from boot on: T1 on the first; on the second T3, of priority 5, before T2, of priority 10. A semaphore by priority
 -- without a unit, an eventflag that many tasks may wait for and that is cleared, one that is not, data queues of no value, of two, and by priority
@@ -194,3 +197,16 @@ while_held : change_reported machine (line 2 3 (call.System system.DisDsp) ok �
     ∷ change_reported machine held (line 2 3 (call.System system.EnaDsp) ok) ∷ []
     ≡ None ∷ Some (Some (as_task 2)) ∷ []
 while_held = refl
+
+-- A run that no machine made: T3 waits for a unit, and T2 runs in its place; T1 brings one, and asks the second processor to look; there
+-- the request is taken, and T3 runs.
+
+abbrev shown : Record → Option (Option Task) → List Proc → Record
+shown r change asked = record r { run_change = change; requests = asked }
+
+told_by_hand : run_told machine [] (event.Call (as_proc 2) (call.Sync (sync.WaiSem (pos 1))) ∷ event.Call (as_proc 1) (call.Sync (sync.SigSem (pos 1))) ∷ event.Ipi (as_proc 2) ∷ [])
+    ≡ shown (line 2 3 (call.Sync (sync.WaiSem (pos 1))) answer.Wait) (Some (Some (as_task 2))) []
+    ∷ shown (record (line 1 1 (call.Sync (sync.SigSem (pos 1))) ok) { releases = rel 3 code.Accepted None ∷ [] }) None (as_proc 2 ∷ [])
+    ∷ shown (answer_record (event.Ipi (as_proc 2)) (Some (T 2)) answer.Taken) (Some (Some (as_task 3))) []
+    ∷ []
+told_by_hand = refl

@@ -1,5 +1,5 @@
 -- Which value a record tells as lost, by the records before it.
-use Rattle.std.specs.Prelude.{◌≡◌, ℤ, not, ◌&&◌, Option, None, Some, List, [], ◌∷◌, if◌then◌else◌, length, drop, flat_map}
+use Rattle.std.specs.Prelude.{◌≡◌, ℤ, not, ◌&&◌, Option, None, List, [], slice_get, if◌then◌else◌, length, drop, flat_map}
 use Rattle.fmp_codes.specs.declared.numbers.Object.{Object}
 use Rattle.fmp_codes.specs.declared.calls.Call.TheVariants as call
 use Rattle.fmp_codes.specs.declared.calls.BufferCall.TheVariants as buffer
@@ -18,8 +18,7 @@ abbrev pub values_reported : List Record → Object → List ℤ
 values_reported records d = drop (length (flat_map (out_by d) records)) (puts d [] records)
 
 abbrev pub oldest : List ℤ → Option ℤ
-oldest [] = None
-oldest (v ∷ vs) = Some v
+oldest vs = slice_get vs 0
 
 module _ (c : Setup) (records : List Record) where
   -- an accepted send by force to a data queue that takes no value, since nobody waits to receive and each place has one, loses the oldest

@@ -1,5 +1,6 @@
--- What the records before an event tell of its record: all of it.
-use Rattle.std.specs.Prelude.{List}
+-- What the records before an event tell of its record: all of it. And runs that are told so, each record by those before it.
+use Rattle.std.specs.Prelude.{◌≡◌, List, ◌∷◌, ◌++◌, map}
+use Rattle.fmp_codes.specs.declared.records.Event.{Event}
 use Rattle.fmp_codes.specs.declared.records.Record.{Record}
 use Rattle.fmp_setup.specs.Setup.{Setup}
 use Rattle.fmp_law_refusals.specs.Callers.{IsCallerReported}
@@ -17,3 +18,12 @@ pub record IsReported (c : Setup) (records : List Record) (r : Record) : Type 0 
   pub releases : AreReleasesReported c records r
   pub lost : IsLossReported c records r
   pub changes : IsRunChangeReported c records r
+
+-- wherever these records go on with a record, it is as those before it tell
+abbrev pub AreReported : Setup → List Record → Type 0
+AreReported c records = (before : List Record) (r : Record) (after : List Record) → records ≡ before ++ r ∷ after → IsReported c before r
+
+-- these are records of these events, each as those before it tell
+pub record IsReportedRun (c : Setup) (events : List Event) (records : List Record) : Type 0 where
+  pub answered : map (λ r. r.event) records ≡ events
+  pub reported : AreReported c records

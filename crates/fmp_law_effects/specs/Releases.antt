@@ -1,5 +1,5 @@
 -- Which tasks a record releases, with which codes and values, by the records before it.
-use Rattle.std.specs.Prelude.{◌≡◌, ℕ, ◌&&◌, ◌==◌, ℤ, pos, Bool, false, Option, None, Some, List, [], ◌∷◌, if◌then◌else◌, filter, map, length, is_some, bit_or}
+use Rattle.std.specs.Prelude.{◌≡◌, ℕ, ◌&&◌, ◌==◌, ℤ, pos, Bool, false, Option, None, Some, List, [], ◌∷◌, if◌then◌else◌, filter, map, length, is_some, bit_or, slice_get, slice_index_or, ◌-◌}
 use Rattle.fmp_codes.specs.declared.numbers.Proc.{Proc}
 use Rattle.fmp_codes.specs.declared.numbers.Task.{Task}
 use Rattle.fmp_codes.specs.declared.numbers.Object.{Object}
@@ -17,11 +17,11 @@ use Rattle.fmp_codes.specs.declared.records.Record.{Record}
 use Rattle.fmp_codes.specs.declared.records.Release.{Release}
 use Rattle.fmp_codes.specs.declared.records.Runner.{Runner}
 use Rattle.fmp_codes.specs.Records.{is_taken}
-use Rattle.fmp_setup.specs.Setup.{Setup, no_semaphore, no_eventflag, no_data_queue, no_pool, counts_for}
+use Rattle.fmp_setup.specs.Setup.{Setup, no_semaphore, no_eventflag, no_data_queue, no_pool}
 use Rattle.fmp_rules.specs.declared.machine.Wait.{Wait}
 use Rattle.fmp_rules.specs.declared.machine.Wait.TheVariants as wait
-use Rattle.fmp_rules.specs.World.{item, first}
-use Rattle.fmp_rules.specs.Arrivals.{in_order}
+use Rattle.fmp_law_words.specs.Turns.{in_turn}
+use Rattle.fmp_law_words.specs.Words.{is_clocked_by}
 use Rattle.fmp_law_balance.specs.Accepted.{is_accepted}
 use Rattle.fmp_law_counts.specs.Alarms.{is_last}
 use Rattle.fmp_law_waits.specs.Asked.{OpenWait}
@@ -60,19 +60,19 @@ how_over (Some o) = over_code o.wait
 module _ (c : Setup) (x : Places) where
   -- the tasks that wait so, in the order in which they are served, by priority or not
   abbrev pub waiting_reported : Bool → (Wait → Bool) → List Task
-  waiting_reported by_priority what = in_order (λ t. waits_so what (x.waits t)) (is_served_before x by_priority) (length c.tasks)
+  waiting_reported by_priority what = in_turn (λ t. waits_so what (x.waits t)) (is_served_before x by_priority) (length c.tasks)
 
   abbrev pub next_for_unit : Object → Option Task
-  next_for_unit s = first (waiting_reported (is_priority (item no_semaphore c.semaphores s.number).order) (for_unit s))
+  next_for_unit s = slice_get (waiting_reported (is_priority (slice_index_or c.semaphores (s.number - 1) no_semaphore).order) (for_unit s)) 0
 
   abbrev pub next_receiver : Object → Option Task
-  next_receiver d = first (waiting_reported false (to_receive d))
+  next_receiver d = slice_get (waiting_reported false (to_receive d)) 0
 
   abbrev pub next_sender : Object → Option Task
-  next_sender d = first (waiting_reported (is_priority (item no_data_queue c.data_queues d.number).order) (to_send d))
+  next_sender d = slice_get (waiting_reported (is_priority (slice_index_or c.data_queues (d.number - 1) no_data_queue).order) (to_send d)) 0
 
   abbrev pub next_for_block : Object → Option Task
-  next_for_block m = first (waiting_reported (is_priority (item no_pool c.pools m.number).order) (for_block m))
+  next_for_block m = slice_get (waiting_reported (is_priority (slice_index_or c.pools (m.number - 1) no_pool).order) (for_block m)) 0
 
   -- of these tasks each one is released for which the pattern has what it waits for, with this pattern, which may be cleared then
   abbrev pub handed_out : Bool → ℕ → List Task → List Release
@@ -82,7 +82,7 @@ module _ (c : Setup) (x : Places) where
       else handed_out clears pattern ts
 
   abbrev pub flag_releases : Object → ℕ → List Release
-  flag_releases f pattern = handed_out (clears_of c f) pattern (waiting_reported (is_priority (item no_eventflag c.eventflags f.number).order) (for_bits f))
+  flag_releases f pattern = handed_out (clears_of c f) pattern (waiting_reported (is_priority (slice_index_or c.eventflags (f.number - 1) no_eventflag).order) (for_bits f))
 
   abbrev pub woken : Task → List Release
   woken t = if waits_so for_wakeup (x.waits t) then released_with t code.Accepted None ∷ [] else []
@@ -112,13 +112,13 @@ module _ (c : Setup) (x : Places) where
   -- a tick on p takes the last tick of its wait
   abbrev pub is_over_on : Proc → Option OpenWait → Bool
   is_over_on p None = false
-  is_over_on p (Some o) = counts_for c.timer p o.assigned && is_last o.left
+  is_over_on p (Some o) = is_clocked_by c.timer p o.assigned && is_last o.left
 
   -- those whose time is over, in the order in which their waits began
   abbrev pub tick_releases : Proc → List Release
   tick_releases p =
       map (λ t. released_with t (how_over (x.waits t)) None)
-      (filter (λ t. is_over_on p (x.waits t)) (in_order (λ t. is_timed (x.waits t)) (began_before x) (length c.tasks)))
+      (filter (λ t. is_over_on p (x.waits t)) (in_turn (λ t. is_timed (x.waits t)) (began_before x) (length c.tasks)))
 
 -- what an event with this answer releases where these are the records before it
 abbrev pub releases_reported : Setup → List Record → Option Runner → Answer → Event → List Release

@@ -1,5 +1,5 @@
 //! The laws of what events do.
-ghost use Rattle.std.specs.Prelude.{◌≡◌, ◌≤◌, List};
+ghost use Rattle.std.specs.Prelude.{◌≡◌, ◌↔◌, ◌≤◌, List, []};
 ghost use Rattle.fmp_codes.specs.declared.records.Event.{Event};
 ghost use Rattle.fmp_codes.specs.declared.records.Record.{Record};
 ghost use Rattle.fmp_setup.specs.Setup.{Setup};
@@ -12,7 +12,8 @@ ghost use Rattle.fmp_law_effects.specs.RunChanges.{IsRunChangeReported};
 ghost use Rattle.fmp_law_effects.specs.Losses.{IsLossReported};
 ghost use Rattle.fmp_law_effects.specs.Releases.{AreReleasesReported};
 ghost use Rattle.fmp_law_effects.specs.Received.{IsReceivedReported};
-ghost use Rattle.fmp_law_effects.specs.Records.{IsReported};
+ghost use Rattle.fmp_law_effects.specs.Records.{IsReported, IsReportedRun};
+ghost use Rattle.fmp_law_effects.specs.Told.{record_told, run_told};
 
 /// After every list of events on the processors of a valid configuration, the record of an event tells a change of the running task just
 /// where the event comes to its end, its processor is not held after it, and its top then is another than the task that it ran, or none:
@@ -52,9 +53,22 @@ pub fn received_values_are_reported()
 
 /// After every list of events on the processors of a valid configuration, the whole record of an event is what the records before it tell:
 /// who could make a call, the answer with its value, the releases, the value that is lost, the change of the running task and the requests.
-/// And they tell one record: two records of one event that are both as they tell are the same. So nothing of a record is left open.
+/// And they tell one record: two records of one event that are both as they tell are the same. So nothing of a record is left open: it is
+/// as they tell just where it is the record that is made of what they tell.
 pub fn records_are_reported()
     ensures report { (c : Setup) (events : List Event) → IsValid c → AreOn c.processors events → (event : Event) → (processor_of event).number ≤ c.processors
         → IsReported c (answers numbered (booted c) events) (step numbered (replay numbered (booted c) events) event).1 }
     ensures one { (c : Setup) (records : List Record) (r s : Record) → IsReported c records r → IsReported c records s → r.event ≡ s.event → r ≡ s }
+    ensures made { (c : Setup) (records : List Record) (r : Record) → IsReported c records r ↔ (r ≡ record_told c records r.event) }
+{}
+
+/// Over every valid configuration and every list of events on its processors, the machine's records are the one list of records of these
+/// events of which each is as the records before it tell. They are the list that is made so, record after record, by a function that
+/// knows no machine. So who wants to believe an answer may read the machine, or what records tell: each describes every answer, and
+/// they are the same. What is told of events is one list, of any configuration.
+pub fn reported_runs_are_answers()
+    ensures same { (c : Setup) (events : List Event) (records : List Record) → IsValid c → AreOn c.processors events
+        → IsReportedRun c events records ↔ (records ≡ answers numbered (booted c) events) }
+    ensures made { (c : Setup) (events : List Event) → IsValid c → AreOn c.processors events → run_told c [] events ≡ answers numbered (booted c) events }
+    ensures one { (c : Setup) (events : List Event) (records others : List Record) → IsReportedRun c events records → IsReportedRun c events others → records ≡ others }
 {}

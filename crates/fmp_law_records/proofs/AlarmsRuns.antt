@@ -15,7 +15,7 @@ use Rattle.fmp_setup.specs.Valid.{IsValid}
 use Rattle.fmp_rules.specs.declared.machine.Alarm.{Alarm}
 use Rattle.fmp_rules.specs.World.{item, processors_to}
 use Rattle.fmp_rules.specs.Objects.{alarm}
-use Rattle.fmp_rules.specs.Arguments.{ticks_of}
+use Rattle.fmp_law_waits.specs.Meanings.{ticks_in}
 use Rattle.fmp_rules.specs.Arrivals.{State, numbered}
 use Rattle.fmp_rules.specs.Step.{step, replay, answers}
 use Rattle.fmp_rules.specs.Boot.{blank, all_started, booted, unnumbered}
@@ -45,7 +45,7 @@ alarm_step m a few e =
     (λ p c. record { here = refl }) (λ p. record { here = ap (λ xs. item blank_alarm xs a.number) (tick_alarms numbered m p) ∙ ap (λ q. record (alarm m a) { assigned = q }) (sym (untaken (alarm m a).setup.class (tick numbered m p).1.answer (alarm m a).assigned)) }) (λ p. record { here = refl }) (λ p. record { here = refl })
     (λ p x no_answer. record { here = ap (λ q. record (alarm m a) { assigned = q }) (sym (untaken (alarm m a).setup.class x (alarm m a).assigned)) }) e
 
-same_begun : (time : ℤ) → ticks_of time ≡ begun_with time
+same_begun : (time : ℤ) → ticks_in time ≡ begun_with time
 same_begun (pos n) = refl
 same_begun (negsuc n) = refl
 

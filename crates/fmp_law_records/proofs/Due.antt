@@ -22,6 +22,7 @@ use Rattle.fmp_codes.specs.declared.records.Record.{Record}
 use Rattle.fmp_codes.specs.declared.records.Runner.TheVariants as runner
 use Rattle.fmp_codes.proofs.Same.{processors_same}
 use Rattle.fmp_setup.specs.Setup.{Setup, counts_for}
+use Rattle.fmp_law_words.proofs.Words.{clock_counts}
 use Rattle.fmp_rules.specs.World.{World, item, with_item, rest, runner_of}
 use Rattle.fmp_rules.specs.Effects.{Effect}
 use Rattle.fmp_rules.specs.Objects.{alarm, cyclic, holder}
@@ -126,9 +127,9 @@ module _ (c : Setup) (m : State) (x : HandlersReported) (q : Proc) (here : q.num
   made_reported : item [] (tick numbered m q).0.due q.number ≡ x.due ++ made_due c q x
   made_reported =
       let alarms : by_number m.alarms (λ a. counts_for m.timer q (alarm m a).assigned && is_last (item None m.alarms_left a.number)) ≡ by_number c.alarms (λ a. is_at_end c.timer q (x.alarms a)) =
-      same_numbers m.alarms c.alarms _ _ count.alarms (λ a there. rw (timer, (timed.alarms a there).1, (timed.alarms a there).0) refl) in
+      same_numbers m.alarms c.alarms _ _ count.alarms (λ a there. rw (timer, (timed.alarms a there).1, (timed.alarms a there).0) (ap (λ b. b && is_last (x.alarms a).left) (sym (clock_counts c.timer q (x.alarms a).at)))) in
       let cyclics : by_number m.cyclics (λ o. counts_for m.timer q (cyclic m o).assigned && is_last (item None m.cyclics_left o.number)) ≡ by_number c.cyclics (λ o. is_at_end c.timer q (x.cyclics o)) =
-      same_numbers m.cyclics c.cyclics _ _ count.cyclics (λ o there. rw (timer, (timed.cyclics o there).1, (timed.cyclics o there).0) refl) in
+      same_numbers m.cyclics c.cyclics _ _ count.cyclics (λ o there. rw (timer, (timed.cyclics o there).1, (timed.cyclics o there).0) (ap (λ b. b && is_last (x.cyclics o).left) (sym (clock_counts c.timer q (x.cyclics o).at)))) in
       due_at_tick numbered m q (rw count.due here) (count.alarms_left ∙ sym count.alarms) (count.cyclics_left ∙ sym count.cyclics) range.alarms range.cyclics
       ∙ rw (old, alarms, cyclics) (append_assoc x.due (map runner.Alarm (by_number c.alarms (λ a. is_at_end c.timer q (x.alarms a)))) (map runner.Cyclic (by_number c.cyclics (λ o. is_at_end c.timer q (x.cyclics o)))))
 

@@ -14,6 +14,9 @@ use Rattle.fmp_rules.specs.Arrivals.{State, numbered, in_order, is_ready_on, pri
 use Rattle.fmp_law_waits.specs.Waits.{setup_of}
 use Rattle.fmp_law_waits.specs.Asked.{OpenWait}
 use Rattle.fmp_law_records.specs.Standing.{Standing, stands_at, comes_first, ready_reported, top_reported}
+use Rattle.fmp_law_words.specs.Turns.{in_turn}
+use Rattle.fmp_law_words.proofs.Turns.{turns_ordered}
+use Rattle.fmp_law_words.proofs.Words.{head_same}
 use Rattle.fmp_law_records.proofs.Alike.{in_order_alike}
 use Rattle.fmp_law_records.proofs.Lines.{OrderedIn, can_run, number_of}
 use Rattle.fmp_law_records.proofs.Lives.{HasLife}
@@ -69,10 +72,12 @@ module _ (c : Setup) (s : Standing) (m : State) (h : Stands c s m) (few : length
       (λ t a. both_and _ _ _ _ (stands_same t a) (λ e. ap (λ k. k == n.number) (priority_same t a e)))
       (λ t u a b e f. first_same t u a b (and_parts _ _ e).0 (and_parts _ _ f).0) (length m.tasks) (omega arith)
       ∙ ap (in_order (λ t. stands_at s p t && (s.priority t).number == n.number) (comes_first s)) h.count
+      ∙ sym (turns_ordered (λ t. stands_at s p t && (s.priority t).number == n.number) (comes_first s) (length c.tasks))
 
   pub top_same : top numbered m p ≡ top_reported c s p
   unfolding numbered
   top_same =
       ap first
       (in_order_alike (length m.tasks) few (is_ready_on m.tasks p) (stands_at s p) (comes_before (priority_in m.tasks) m.order.ready) (comes_first s) stands_same first_same (length m.tasks) (omega arith)
-      ∙ ap (in_order (stands_at s p) (comes_first s)) h.count)
+      ∙ ap (in_order (stands_at s p) (comes_first s)) h.count ∙ sym (turns_ordered (stands_at s p) (comes_first s) (length c.tasks)))
+      ∙ sym (head_same (in_turn (stands_at s p) (comes_first s) (length c.tasks)))

@@ -1,6 +1,6 @@
 -- Each step puts the tasks last that its record says.
 use Rattle.std.proofs.Common.{◌≡◌, ℕ, ◌+◌, ◌-◌, ◌≤◌, ◌<◌, ◌==◌, ℤ, pos, negsuc, Bool, true, false, not, ◌&&◌, length, arith, refl, sym, ap, ◌∙◌, subst, Option, Some, None, ⊎_elim}
-use Rattle.std.specs.Prelude.{is_some, unwrap_or, nat_lt, nat_le, option_map}
+use Rattle.std.specs.Prelude.{is_some, unwrap_or, nat_lt, nat_le, option_map, slice_get}
 use Rattle.std.proofs.lemmas.Bool.{cond_both, cond-true, cond-false, cases_eq, and_parts, both_ways, false≢true, eq-eqb, ne_eqb}
 use Rattle.std.proofs.lemmas.List.{length-set}
 use Rattle.fmp_codes.specs.Numbers.{as_task, as_proc}
@@ -59,6 +59,7 @@ use Rattle.fmp_law_records.proofs.Report.{idle_undone}
 use Rattle.fmp_law_records.proofs.Priorities.{given_same}
 use Rattle.fmp_law_records.proofs.Lines.{OrderedIn, can_run, ready_within, ordered_still, ordered_place, ordered_end, ordered_requeue, ordered_with, ordered_ready, ordered_begin}
 use Rattle.fmp_law_records.proofs.Serving.{Serves, done_or_waits, is_other, call_serves, tick_serves}
+use Rattle.fmp_law_words.proofs.Words.{head_same}
 use Rattle.fmp_law_records.proofs.Ready.{Stands, ready_same}
 
 and_none : (a b : Bool) → (a && (b && false)) ≡ false
@@ -298,8 +299,8 @@ module _ (c : Setup) (s : Standing) (m : State) (h : Stands c s m) (safe : Safe 
   refused_at x y refusing =
       unput (event.Call p (call.System x)) (m, refused y) (λ t runs. ap (λ b. b && is_that (rotates c s (runner_of m p) (event.Call p (call.System x))) t) (not_accepted y refusing)) h.line
 
-  first_reported : (q r : Proc) (n j : Pri) → q ≡ r → n ≡ j → first (numbered.ready m.order m.tasks q n) ≡ first (ready_reported c s r j)
-  first_reported q r n j same there = ap first (ready_same c s m h few q n ∙ ap (λ y. ready_reported c s y n) same ∙ ap (ready_reported c s r) there)
+  first_reported : (q r : Proc) (n j : Pri) → q ≡ r → n ≡ j → first (numbered.ready m.order m.tasks q n) ≡ slice_get (ready_reported c s r j) 0
+  first_reported q r n j same there = ap first (ready_same c s m h few q n ∙ ap (λ y. ready_reported c s y n) same ∙ ap (ready_reported c s r) there) ∙ sym (head_same (ready_reported c s r j))
 
   nobody : (b : Bool) → (b && false) ≡ false
   nobody true = refl

@@ -11,7 +11,8 @@ use Rattle.fmp_codes.specs.declared.records.Runner.{Runner}
 use Rattle.fmp_codes.specs.declared.records.Runner.TheVariants as runner
 use Rattle.fmp_codes.specs.Records.{is_taken}
 use Rattle.fmp_setup.specs.declared.setup.Timer.{Timer}
-use Rattle.fmp_setup.specs.Setup.{Setup, counts_for}
+use Rattle.fmp_setup.specs.Setup.{Setup}
+use Rattle.fmp_law_words.specs.Words.{is_clocked_by}
 use Rattle.fmp_rules.specs.World.{World, item}
 use Rattle.fmp_law_balance.specs.Accepted.{is_accepted}
 use Rattle.fmp_law_counts.specs.Alarms.{is_last}
@@ -26,7 +27,7 @@ pub record HandlersReported : Type 0 where
 
 -- a tick on p takes the last one that is left of it
 abbrev pub is_at_end : Timer → Proc → HandlerReported → Bool
-is_at_end timer p report = counts_for timer p report.at && is_last report.left
+is_at_end timer p report = is_clocked_by timer p report.at && is_last report.left
 
 -- the handlers that a tick on p makes due there: the alarms and then the cyclic handlers, by number
 abbrev pub made_due : Setup → Proc → HandlersReported → List Runner

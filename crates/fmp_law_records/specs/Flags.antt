@@ -95,8 +95,7 @@ asked_of (Some (call.System system.SnsDsp)) locked disabled = Some disabled
 asked_of other locked disabled = None
 
 abbrev pub number_if : Bool → ℤ
-number_if true = pos 1
-number_if false = pos 0
+number_if b = pos (if b then 1 else 0)
 
 -- where p is locked and disabled so before a record, who asks on p is told it
 abbrev pub TellsFlags : Proc → Bool → Bool → Record → Type 0

@@ -1,5 +1,6 @@
 -- Where alarms and cyclic handlers are assigned, and what is left of their time, told by records alone.
-use Rattle.std.specs.Prelude.{◌≡◌, ℕ, ◌+◌, ℤ, pos, negsuc, ◌&&◌, ◌==◌, Option, None, Some, List, [], ◌∷◌, if◌then◌else◌}
+use Rattle.std.specs.Prelude.{◌≡◌, ℕ, ◌+◌, ℤ, pos, ◌&&◌, ◌==◌, Option, None, Some, List, [], ◌∷◌, if◌then◌else◌, slice_index_or, ◌-◌, option_map}
+use Rattle.fmp_law_words.specs.Words.{natural_in}
 use Rattle.fmp_codes.specs.Numbers.{as_proc}
 use Rattle.fmp_codes.specs.declared.numbers.Proc.{Proc}
 use Rattle.fmp_codes.specs.declared.numbers.Object.{Object}
@@ -39,8 +40,7 @@ taken_to class other q = q
 
 -- one tick more than a time
 abbrev pub begun_with : ℤ → Option ℕ
-begun_with (pos n) = Some (n + 1)
-begun_with (negsuc n) = None
+begun_with time = option_map (λ n. n + 1) (natural_in time)
 
 abbrev pub alarm_after : Setup → Object → Record → HandlerReported → HandlerReported
 alarm_after c a r before = record {
@@ -48,7 +48,7 @@ alarm_after c a r before = record {
       else if stops_alarm a r.event && is_accepted r.answer then None
       else if is_tick_for c.timer before.at r.answer r.event then without_tick None before.left
       else before.left;
-  at = if is_accepted r.answer then taken_to (item no_alarm c.alarms a.number).class (takes_alarm a r.event) before.at else before.at;
+  at = if is_accepted r.answer then taken_to (slice_index_or c.alarms (a.number - 1) no_alarm).class (takes_alarm a r.event) before.at else before.at;
 }
 
 -- after these records of a run from boot
@@ -57,7 +57,7 @@ alarm_by c a [] before = before
 alarm_by c a (r ∷ rs) before = alarm_by c a rs (alarm_after c a r before)
 
 abbrev pub alarm_at_boot : Setup → Object → HandlerReported
-alarm_at_boot c a = record { left = None; at = (item no_alarm c.alarms a.number).class.initial }
+alarm_at_boot c a = record { left = None; at = (slice_index_or c.alarms (a.number - 1) no_alarm).class.initial }
 
 -- an alarm is where the records say, and so much of its time is left
 pub record IsAlarmReported {Q : Type 0} (c : Setup) (records : List Record) (w : World Q) (a : Object) : Type 0 where
@@ -65,7 +65,7 @@ pub record IsAlarmReported {Q : Type 0} (c : Setup) (records : List Record) (w :
   pub at : (alarm w a).assigned ≡ (alarm_by c a records (alarm_at_boot c a)).at
 
 abbrev pub cyclic_after : Setup → Object → Record → HandlerReported → HandlerReported
-cyclic_after c o r before = let s = item no_cyclic c.cyclics o.number in record {
+cyclic_after c o r before = let s = slice_index_or c.cyclics (o.number - 1) no_cyclic in record {
   left = if starts_cyclic o r.event && is_accepted r.answer then Some (s.phase + 1)
       else if stops_cyclic o r.event && is_accepted r.answer then None
       else if is_tick_for c.timer before.at r.answer r.event then without_tick (Some s.period) before.left
@@ -79,7 +79,7 @@ cyclic_by c o [] before = before
 cyclic_by c o (r ∷ rs) before = cyclic_by c o rs (cyclic_after c o r before)
 
 abbrev pub cyclic_reported_at_boot : Setup → Object → HandlerReported
-cyclic_reported_at_boot c o = let s = item no_cyclic c.cyclics o.number in record { left = if s.starts then Some (s.phase + 1) else None; at = s.class.initial }
+cyclic_reported_at_boot c o = let s = slice_index_or c.cyclics (o.number - 1) no_cyclic in record { left = if s.starts then Some (s.phase + 1) else None; at = s.class.initial }
 
 -- a cyclic handler is where the records say, and so much of its time is left
 pub record IsCyclicReported {Q : Type 0} (c : Setup) (records : List Record) (w : World Q) (o : Object) : Type 0 where

@@ -1,5 +1,6 @@
 -- What records say of who holds a spin lock.
 use Rattle.std.specs.Prelude.{◌≡◌, Bool, true, false, ◌&&◌, ◌==◌, Option, None, Some, List, [], ◌∷◌, if◌then◌else◌}
+use Rattle.std.specs.Option.{option_map_or}
 use Rattle.fmp_codes.specs.declared.numbers.Proc.{Proc}
 use Rattle.fmp_codes.specs.declared.numbers.Object.{Object}
 use Rattle.fmp_codes.specs.declared.calls.Call.TheVariants as call
@@ -35,8 +36,7 @@ ends_there (event.Call p (call.Task task.ExtTsk)) a = is_gone a
 ends_there other a = false
 
 abbrev pub is_holder : Proc → Option Proc → Bool
-is_holder p None = false
-is_holder p (Some q) = p.number == q.number
+is_holder p who = option_map_or (λ q. p.number == q.number) who false
 
 -- who holds the lock l after a record, where this one held it, or none, before
 abbrev pub holder_after : Object → Record → Option Proc → Option Proc

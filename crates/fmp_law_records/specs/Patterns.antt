@@ -1,5 +1,5 @@
 -- What records say of the pattern of an eventflag.
-use Rattle.std.specs.Prelude.{◌≡◌, ℕ, ℤ, pos, Bool, true, not, ◌==◌, Option, None, Some, List, [], ◌∷◌, if◌then◌else◌, map, bit_and, bit_or, IfSome}
+use Rattle.std.specs.Prelude.{◌≡◌, ℕ, ℤ, pos, Bool, true, not, ◌==◌, Option, None, Some, List, [], ◌∷◌, if◌then◌else◌, map, bit_and, bit_or, IfSome, slice_index_or, ◌-◌}
 use Rattle.fmp_codes.specs.declared.numbers.Object.{Object}
 use Rattle.fmp_codes.specs.declared.calls.Mode.{Mode}
 use Rattle.fmp_codes.specs.declared.calls.Mode.TheVariants as mode
@@ -10,7 +10,7 @@ use Rattle.fmp_codes.specs.declared.records.Event.TheVariants as event
 use Rattle.fmp_codes.specs.declared.records.Record.{Record}
 use Rattle.fmp_codes.specs.declared.records.Release.{Release}
 use Rattle.fmp_setup.specs.Setup.{Setup, no_eventflag}
-use Rattle.fmp_rules.specs.World.{World, item}
+use Rattle.fmp_rules.specs.World.{World}
 use Rattle.fmp_rules.specs.Objects.{eventflag}
 use Rattle.fmp_law_balance.specs.Accepted.{is_accepted, accepted_value, names}
 
@@ -75,11 +75,11 @@ pattern_by clears f (r ∷ rs) x = pattern_by clears f rs (pattern_after clears 
 
 -- the flag clears its pattern where this is handed to a task
 abbrev pub clears_of : Setup → Object → Bool
-clears_of c f = (item no_eventflag c.eventflags f.number).clears
+clears_of c f = (slice_index_or c.eventflags (f.number - 1) no_eventflag).clears
 
 -- after these records of a run from boot
 abbrev pub report_pattern : Setup → Object → List Record → ℕ
-report_pattern c f records = let s = item no_eventflag c.eventflags f.number in pattern_by s.clears f records s.initial
+report_pattern c f records = let s = slice_index_or c.eventflags (f.number - 1) no_eventflag in pattern_by s.clears f records s.initial
 
 abbrev pub IsPatternReported : {Q : Type 0} → Setup → List Record → World Q → Object → Type 0
 IsPatternReported c records w f = (eventflag w f).pattern ≡ report_pattern c f records

@@ -1,5 +1,7 @@
 -- What records say of the priority of a task.
-use Rattle.std.specs.Prelude.{◌≡◌, ℤ, pos, negsuc, Bool, true, false, ◌&&◌, ◌==◌, Option, None, Some, List, [], ◌∷◌, if◌then◌else◌}
+use Rattle.std.specs.Prelude.{◌≡◌, ℤ, pos, Bool, true, false, ◌&&◌, ◌==◌, Option, None, Some, List, [], ◌∷◌, if◌then◌else◌}
+use Rattle.std.specs.Option.{option_map_or}
+use Rattle.fmp_law_words.specs.Words.{natural_in}
 use Rattle.fmp_codes.specs.Numbers.{as_pri}
 use Rattle.fmp_codes.specs.declared.numbers.Task.{Task}
 use Rattle.fmp_codes.specs.declared.numbers.Pri.{Pri}
@@ -19,8 +21,7 @@ use Rattle.fmp_law_counts.specs.Lives.{ends}
 
 -- the priority that a call gives this task, where this runs: the argument, of which 0 is the initial one
 abbrev pub given_by : Pri → ℤ → Pri
-given_by initial (pos n) = if n == 0 then initial else as_pri n
-given_by initial (negsuc n) = initial
+given_by initial id = option_map_or (λ n. if n == 0 then initial else as_pri n) (natural_in id) initial
 
 abbrev pub gives_priority : Pri → Task → Option Runner → Event → Option Pri
 gives_priority initial t r (event.Call p (call.Task (task.ChgPri id n))) = if names_task t r id then Some (given_by initial n) else None

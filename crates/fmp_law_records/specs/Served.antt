@@ -1,5 +1,5 @@
 -- In which order waiting tasks are served, told by records alone.
-use Rattle.std.specs.Prelude.{◌≡◌, ℕ, ◌+◌, Bool, true, false, ◌&&◌, ◌||◌, ◌==◌, nat_lt, Option, None, Some, List, [], ◌∷◌, if◌then◌else◌, All, is_some}
+use Rattle.std.specs.Prelude.{◌≡◌, ℕ, ◌+◌, Bool, true, false, ◌&&◌, ◌||◌, ◌==◌, nat_lt, Option, None, Some, List, [], ◌∷◌, if◌then◌else◌, All, is_some, slice_index_or, ◌-◌}
 use Rattle.fmp_codes.specs.declared.numbers.Task.{Task}
 use Rattle.fmp_codes.specs.declared.numbers.Object.{Object}
 use Rattle.fmp_codes.specs.declared.numbers.Pri.{Pri}
@@ -11,7 +11,6 @@ use Rattle.fmp_setup.specs.declared.setup.Order.TheVariants as order
 use Rattle.fmp_setup.specs.Setup.{Setup, no_semaphore, no_eventflag, no_data_queue, no_pool}
 use Rattle.fmp_rules.specs.declared.machine.Wait.{Wait}
 use Rattle.fmp_rules.specs.declared.machine.Wait.TheVariants as wait
-use Rattle.fmp_rules.specs.World.{item}
 use Rattle.fmp_law_balance.specs.Accepted.{is_accepted}
 use Rattle.fmp_law_waits.specs.Asked.{OpenWait}
 use Rattle.fmp_law_waits.specs.Releases.{breaks_off, sets}
@@ -27,10 +26,10 @@ is_priority order.Priority = true
 
 -- so is the one in which a task with this wait stands. Who waits to receive is served by when the wait began
 abbrev pub is_by_priority : Setup → Wait → Bool
-is_by_priority c (wait.Semaphore s) = is_priority (item no_semaphore c.semaphores s.number).order
-is_by_priority c (wait.Eventflag f pattern mode) = is_priority (item no_eventflag c.eventflags f.number).order
-is_by_priority c (wait.Send d value) = is_priority (item no_data_queue c.data_queues d.number).order
-is_by_priority c (wait.Pool m) = is_priority (item no_pool c.pools m.number).order
+is_by_priority c (wait.Semaphore s) = is_priority (slice_index_or c.semaphores (s.number - 1) no_semaphore).order
+is_by_priority c (wait.Eventflag f pattern mode) = is_priority (slice_index_or c.eventflags (f.number - 1) no_eventflag).order
+is_by_priority c (wait.Send d value) = is_priority (slice_index_or c.data_queues (d.number - 1) no_data_queue).order
+is_by_priority c (wait.Pool m) = is_priority (slice_index_or c.pools (m.number - 1) no_pool).order
 is_by_priority c other = false
 
 -- tasks with these waits stand in one queue
@@ -113,7 +112,7 @@ is_for_bits (Some o) = is_flag_wait o.wait
 
 -- an eventflag is served by priority
 abbrev pub is_flag_by_priority : Setup → Object → Bool
-is_flag_by_priority c f = is_priority (item no_eventflag c.eventflags f.number).order
+is_flag_by_priority c f = is_priority (slice_index_or c.eventflags (f.number - 1) no_eventflag).order
 
 -- where these are the places before a record, a task that a call gives something is the next in its queue, but for eventflags, of
 -- which one call can serve several; all that a call on an eventflag releases come in the order of its queue; and those whose time is

@@ -1,5 +1,5 @@
 -- Which tasks are ready on each processor and in which order, told by records alone, and so who is the top.
-use Rattle.std.specs.Prelude.{◌≡◌, ◌+◌, ℤ, pos, negsuc, Bool, false, not, ◌&&◌, ◌||◌, ◌==◌, nat_lt, Option, None, Some, List, [], ◌∷◌, if◌then◌else◌, length, is_some}
+use Rattle.std.specs.Prelude.{◌≡◌, ◌+◌, ℤ, pos, negsuc, Bool, false, not, ◌&&◌, ◌||◌, ◌==◌, nat_lt, Option, None, Some, List, [], ◌∷◌, if◌then◌else◌, length, is_some, slice_get}
 use Rattle.fmp_codes.specs.Numbers.{as_proc, as_pri}
 use Rattle.fmp_codes.specs.declared.numbers.Proc.{Proc}
 use Rattle.fmp_codes.specs.declared.numbers.Task.{Task}
@@ -13,9 +13,9 @@ use Rattle.fmp_codes.specs.declared.records.Record.{Record}
 use Rattle.fmp_codes.specs.declared.records.Runner.{Runner}
 use Rattle.fmp_codes.specs.declared.records.Runner.TheVariants as runner
 use Rattle.fmp_setup.specs.Setup.{Setup}
-use Rattle.fmp_rules.specs.World.{first}
 use Rattle.fmp_rules.specs.Ordering.{top}
-use Rattle.fmp_rules.specs.Arrivals.{State, numbered, in_order}
+use Rattle.fmp_rules.specs.Arrivals.{State, numbered}
+use Rattle.fmp_law_words.specs.Turns.{in_turn}
 use Rattle.fmp_law_balance.specs.Accepted.{is_accepted}
 use Rattle.fmp_law_waits.specs.Waits.{OpenWaits, after_record, nobody_waits, setup_of}
 use Rattle.fmp_law_records.specs.Suspensions.{suspended_after}
@@ -44,10 +44,10 @@ comes_first s t u = nat_lt (s.priority t).number (s.priority u).number || ((s.pr
 
 -- the ready tasks of a processor and a priority in their order, and the top of a processor
 abbrev pub ready_reported : Setup → Standing → Proc → Pri → List Task
-ready_reported c s p n = in_order (λ t. stands_at s p t && (s.priority t).number == n.number) (comes_first s) (length c.tasks)
+ready_reported c s p n = in_turn (λ t. stands_at s p t && (s.priority t).number == n.number) (comes_first s) (length c.tasks)
 
 abbrev pub top_reported : Setup → Standing → Proc → Option Task
-top_reported c s p = first (in_order (stands_at s p) (comes_first s) (length c.tasks))
+top_reported c s p = slice_get (in_turn (stands_at s p) (comes_first s) (length c.tasks)) 0
 
 -- Who is put last.
 
@@ -63,10 +63,10 @@ processor_of_number (negsuc n) = as_proc 1
 
 -- the task that a call puts last which rotates the ready tasks of a priority: the first of them
 abbrev pub rotates : Setup → Standing → Option Runner → Event → Option Task
-rotates c s r (event.Call p (call.System (system.RotRdq n))) = first (ready_reported c s p (given_by (own_priority s r) n))
-rotates c s r (event.Call p (call.System (system.IrotRdq n))) = first (ready_reported c s p (given_by (own_priority s r) n))
-rotates c s r (event.Call p (call.System (system.MrotRdq n q))) = first (ready_reported c s (processor_of_number q) (given_by (own_priority s r) n))
-rotates c s r (event.Call p (call.System (system.ImrotRdq n q))) = first (ready_reported c s (processor_of_number q) (given_by (own_priority s r) n))
+rotates c s r (event.Call p (call.System (system.RotRdq n))) = slice_get (ready_reported c s p (given_by (own_priority s r) n)) 0
+rotates c s r (event.Call p (call.System (system.IrotRdq n))) = slice_get (ready_reported c s p (given_by (own_priority s r) n)) 0
+rotates c s r (event.Call p (call.System (system.MrotRdq n q))) = slice_get (ready_reported c s (processor_of_number q) (given_by (own_priority s r) n)) 0
+rotates c s r (event.Call p (call.System (system.ImrotRdq n q))) = slice_get (ready_reported c s (processor_of_number q) (given_by (own_priority s r) n)) 0
 rotates c s r other = None
 
 abbrev pub is_that : Option Task → Task → Bool

@@ -40,7 +40,7 @@ use Rattle.fmp_law_refusals.specs.Known.{are_known}
 use Rattle.fmp_law_refusals.specs.Arguments.{pool_setup}
 use Rattle.fmp_law_refusals.specs.Found.{FoundReported, for_wakeup, waits_so}
 use Rattle.fmp_law_refusals.specs.Errors.{is_activated, is_elsewhere, wakeup_errors, state_errors}
-use Rattle.fmp_law_refusals.specs.Refusals.{first_of}
+use Rattle.fmp_law_refusals.proofs.FirstErrors.{first_in}
 use Rattle.fmp_law_refusals.specs.Outcomes.{accepted, gives, or_waits, refused_or, outcome_reported}
 use Rattle.fmp_law_refusals.proofs.Placed.{Sees, caller_same}
 use Rattle.fmp_law_refusals.proofs.Configured.{Configured, number_known, limits_same, IsTask, task_is, caller_known, meant_is}
@@ -126,7 +126,7 @@ module _ {Q : Type 0} (k : Ordering Q) (c : Setup) (x : FoundReported) (w : Worl
     (active : (t : Task) → (processor w p).running ≡ Some t → (task w t).active ≡ true) (blocks : (m : Object) → (pool_setup c m).blocks ≤ 64)
     (locks : c.spin_locks ≤ 32) (running : Option Task) (runs : (processor w p).running ≡ running) where
   abbrev pub Answers : Option ℤ → Call → Row Q → Type 0
-  Answers v y row = AnswersAs w row (first_of (state_errors c x p (runner_of w p) y)) (outcome_reported c x seen running p (runner_of w p) v y)
+  Answers v y row = AnswersAs w row (first_in (state_errors c x p (runner_of w p) y)) (outcome_reported c x seen running p (runner_of w p) v y)
 
   pub wait_found : (can can_reported cannot : Bool) (did : World Q × Effect) (z : Wait) (timeout : ℤ) (a : Answer) → can ≡ can_reported → not can ≡ cannot →
       (can ≡ true → did.1.answer ≡ a) →
@@ -180,7 +180,7 @@ module _ {Q : Type 0} (k : Ordering Q) (c : Setup) (x : FoundReported) (w : Worl
   answers_wup : (row : Row Q) (o : Option Task) (t : Task) → IsTask c w h t o → row.effect.1.answer ≡ accepted →
       row.errors ≡ (not (task w (the o)).active, code.ObjectState)
       ∷ (not (is_sleep (task w (the o)).wait) && nat_le w.limits.wakeups (task w (the o)).wakeups, code.QueueOverflow) ∷ [] →
-      AnswersAs w row (first_of (wakeup_errors c x p (runner_of w p) t)) accepted
+      AnswersAs w row (first_in (wakeup_errors c x p (runner_of w p) t)) accepted
   answers_wup row o t is done_ errors =
       two_errors w row _ _ _ _ code.ObjectState code.QueueOverflow accepted errors (of_task (λ r. not r.active) o t _ is (dormant_same t))
       (λ awake.

@@ -54,7 +54,7 @@ use Rattle.fmp_law_refusals.specs.Known.{are_known}
 use Rattle.fmp_law_refusals.specs.Arguments.{pool_setup}
 use Rattle.fmp_law_refusals.specs.Found.{FoundReported, semaphore_setup, data_queue_setup, for_unit, somebody_waits, is_used, has_bits, takes_value, gives_value, has_block}
 use Rattle.fmp_law_refusals.specs.Errors.{signal_errors}
-use Rattle.fmp_law_refusals.specs.Refusals.{first_of}
+use Rattle.fmp_law_refusals.proofs.FirstErrors.{first_in}
 use Rattle.fmp_law_refusals.specs.Outcomes.{accepted, gives, or_waits, least_block, refused_or}
 use Rattle.fmp_law_refusals.proofs.Placed.{Sees}
 use Rattle.fmp_law_refusals.proofs.Configured.{Configured, number_known, object_is, semaphores_same, eventflags_same, data_queues_same, pools_same, holders_same}
@@ -118,7 +118,7 @@ module _ {Q : Type 0} (k : Ordering Q) (c : Setup) (x : FoundReported) (w : Worl
             (semaphore w (of_list w.semaphores id)).count,
         code.QueueOverflow,
       ) ∷ [] →
-      AnswersAs w row (first_of (signal_errors c x p (runner_of w p) id)) accepted
+      AnswersAs w row (first_in (signal_errors c x p (runner_of w p) id)) accepted
   answers_signal row id known done_ errors =
       one_error w row _ _ code.QueueOverflow accepted errors
       (ap (λ s. is_none (first (queue k w kind.Semaphore s)) && nat_le (semaphore w s).setup.most (semaphore w s).count) (is_semaphore id known)

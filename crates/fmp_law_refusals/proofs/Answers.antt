@@ -20,6 +20,8 @@ use Rattle.fmp_setup.specs.declared.setup.Timer.{Timer}
 use Rattle.fmp_setup.specs.declared.setup.SemaphoreSetup.{SemaphoreSetup}
 use Rattle.fmp_setup.specs.declared.setup.PoolSetup.{PoolSetup}
 use Rattle.fmp_setup.specs.Setup.{Setup, no_semaphore, no_pool, has_time}
+use Rattle.fmp_law_words.specs.Words.{is_clock}
+use Rattle.fmp_law_words.proofs.Words.{clock_has_time}
 use Rattle.fmp_setup.specs.Valid.{IsValid}
 use Rattle.fmp_rules.specs.Effects.{Effect}
 use Rattle.fmp_rules.specs.World.{World, task, processor, handler, runner_of, is_held}
@@ -55,6 +57,7 @@ use Rattle.fmp_law_refusals.specs.Arguments.{pool_setup, are_proper}
 use Rattle.fmp_law_refusals.specs.Found.{found_reported}
 use Rattle.fmp_law_refusals.specs.Errors.{state_errors}
 use Rattle.fmp_law_refusals.specs.Refusals.{first_of, row_reported}
+use Rattle.fmp_law_refusals.proofs.FirstErrors.{first_in, first_same}
 use Rattle.fmp_law_refusals.specs.Outcomes.{refused_or, outcome_reported, answer_reported, IsAnswerReported}
 use Rattle.fmp_law_refusals.specs.Callers.{report_running}
 use Rattle.fmp_law_refusals.proofs.Rules.{rule_is}
@@ -101,7 +104,7 @@ module _ {Q : Type 0} (k : Ordering Q) (c : Setup) (records : List Record) (w : 
     abbrev answered : Answer
     answered = (called w p row).1.answer
 
-    call_answered : answered ≡ refused_or (first_of (row_reported c records p (runner_of w p) y))
+    call_answered : answered ≡ refused_or (first_in (row_reported c records p (runner_of w p) y))
         (outcome_reported c (found_reported c records) x (report_running c p records) p (runner_of w p) (accepted_value answered) y)
     call_answered =
         let r : Option Runner = runner_of w p in
@@ -110,7 +113,7 @@ module _ {Q : Type 0} (k : Ordering Q) (c : Setup) (records : List Record) (w : 
         let args = argues k c records w h found.out p x all.sees there y in
         let rule : is_refused_context w p row.rule ≡ m = ap (is_refused_context w p) (rule_is k w p y) ∙ misplaced_same w p there x all.sees y in
         ap (λ b. by_tests w row.effect b row.known row.proper e) rule
-        ∙ in_order w row.effect m row.known row.proper (are_known c y) (are_proper c records r y) e (first_of (state_errors c (found_reported c records) p r y)) _
+        ∙ in_order w row.effect m row.known row.proper (are_known c y) (are_proper c records r y) e (first_in (state_errors c (found_reported c records) p r y)) _
         (λ placed. (args placed).known)
         (λ placed. (args placed).proper)
         (λ placed known proper.
@@ -128,7 +131,7 @@ module _ {Q : Type 0} (k : Ordering Q) (c : Setup) (records : List Record) (w : 
   unfolding settled before_event unchanged ticked
   tick_answered p all v =
       let x : ProcessorReported = report_processor c p records in
-      let time_ : has_time w.timer p ≡ has_time c.timer p = ap (λ (t : Timer). has_time t p) timer in
+      let time_ : has_time w.timer p ≡ is_clock c.timer p = ap (λ (t : Timer). has_time t p) timer ∙ sym (clock_has_time c.timer p) in
       let busy : ((processor w p).locked || is_some (handler w p)) ≡ (x.locked || some_due x.handlers.due) = ap (λ b. b || is_some (handler w p)) all.sees.locked
       ∙ ap (λ b. x.locked || b) all.due in
       cond_both (has_time w.timer p) _ _
@@ -141,7 +144,7 @@ module _ {Q : Type 0} (k : Ordering Q) (c : Setup) (records : List Record) (w : 
       (λ yes_. rw (counts, yes_) refl) (λ no_. rw (counts, no_) refl))
       (λ not_. rw not_ refl)
       ∙ ap (λ b. if b then (if (processor w p).locked || is_some (handler w p) then answer.Held else answer.Taken) else answer.Nothing) time_
-      ∙ ap (λ b. if has_time c.timer p then (if b then answer.Held else answer.Taken) else answer.Nothing) busy
+      ∙ ap (λ b. if is_clock c.timer p then (if b then answer.Held else answer.Taken) else answer.Nothing) busy
 
   interrupt_answered : (p : Proc) → SeesAll p → (v : Option ℤ) → (step k w (event.Ipi p)).1.answer ≡ answer_reported c records (runner_of w p) v (event.Ipi p)
   unfolding settled before_event unchanged
@@ -156,7 +159,11 @@ module _ {Q : Type 0} (k : Ordering Q) (c : Setup) (records : List Record) (w : 
   unfolding settled before_event unchanged
   answer_step (event.Call p y) all =
       cond_both (is_some (runner_of w p)) _ _ Report
-      (λ there. call_answered p y all there ∙ sym (cond-true (is_some (runner_of w p)) (refused_or (first_of (row_reported c records p (runner_of w p) y))
+      (λ there. call_answered p y all there
+      ∙ ap (λ (o : Option Code). refused_or o
+      (outcome_reported c (found_reported c records) (report_processor c p records) (report_running c p records) p (runner_of w p)
+      (accepted_value (called w p (row_of k w p y)).1.answer) y)) (sym (first_same (row_reported c records p (runner_of w p) y)))
+      ∙ sym (cond-true (is_some (runner_of w p)) (refused_or (first_of (row_reported c records p (runner_of w p) y))
       (outcome_reported c (found_reported c records) (report_processor c p records) (report_running c p records) p (runner_of w p)
       (accepted_value (called w p (row_of k w p y)).1.answer) y)) answer.Idle there))
       (λ none. sym (cond-false (is_some (runner_of w p)) _ answer.Idle none))

@@ -43,7 +43,8 @@ use Rattle.fmp_rules.specs.Step.{row_of}
 use Rattle.fmp_law_safety.proofs.Calls.{FromTask}
 use Rattle.fmp_law_waits.specs.Waits.{setup_of}
 use Rattle.fmp_law_refusals.specs.Misplaced.{is_for_handlers, is_for_all}
-use Rattle.fmp_law_refusals.specs.Meanings.{is_one_of, is_zero_or_of, task_of, task_meant, object_of, is_in_class}
+use Rattle.fmp_law_words.proofs.Words.{member_same}
+use Rattle.fmp_law_refusals.specs.Meanings.{is_one_of, is_zero_or_of, task_of, task_meant, object_of, processor_in, is_in_class}
 use Rattle.fmp_law_refusals.specs.Known.{are_known}
 use Rattle.fmp_law_refusals.specs.Arguments.{is_out, pool_setup, cyclic_class, alarm_class, is_block_out, are_proper}
 use Rattle.fmp_law_refusals.proofs.Configured.{Configured, number_known, time_same, timeout_same, priority_same, positive_same, object_is, limits_same, semaphores_same}
@@ -86,7 +87,7 @@ module _ {Q : Type 0} (k : Ordering Q) (c : Setup) (records : List Record) (w : 
         let parts = and_parts known (is_zero_or_of c.processors to) all in
         let there : is_some (processor_or_initial w class to) ≡ true = processor_known c w h class to ∙ parts.1 in
         proper ∙ ap (λ b. b && has_member class (unwrap_or (processor_or_initial w class to) (as_proc 1))) firsts
-        ∙ ap (λ q. at_first && has_member class q) (processor_is c w h class to there) ∙ ap (λ x. at_first && is_in_class x to) (same (is ∙ parts.0));
+        ∙ ap (λ q. at_first && has_member class q) (processor_is c w h class to there) ∙ ap (λ b. at_first && b) (sym (member_same class (processor_in class to))) ∙ ap (λ x. at_first && is_in_class x to) (same (is ∙ parts.0));
   }
 
   class_is : (o : Option Task) (u : Task) → IsTask c w h u o → class_of w o ≡ (setup_of c u).class

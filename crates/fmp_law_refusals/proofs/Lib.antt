@@ -8,6 +8,7 @@ pub mod Argued  -- The arguments that the machine takes for known and proper are
 pub mod Judged  -- A call answers E_ID and E_PAR just where an argument is unknown or out of its range.
 pub mod Found  -- What a state has where this is told of it: who waits, which blocks are free, and who holds a spin lock.
 mod Worked  -- The errors that records tell, worked out by hand from the rules of the calls.
+pub mod FirstErrors  -- The first of some errors that applies, by going through them.
 pub mod Answered  -- What a call answers once its place and its arguments are right is what is told: of tasks.
 pub mod AnsweredObjects  -- And of objects and of the processor.
 pub mod Answers  -- Each event answers what the records before it tell.

@@ -24,7 +24,8 @@ use Rattle.fmp_codes.specs.declared.records.Event.{Event}
 use Rattle.fmp_codes.specs.declared.records.Event.TheVariants as event
 use Rattle.fmp_codes.specs.declared.records.Record.{Record}
 use Rattle.fmp_codes.specs.declared.records.Runner.{Runner}
-use Rattle.fmp_setup.specs.Setup.{Setup, has_time}
+use Rattle.fmp_setup.specs.Setup.{Setup}
+use Rattle.fmp_law_words.specs.Words.{is_clock}
 use Rattle.fmp_setup.specs.Valid.{IsValid}
 use Rattle.fmp_rules.specs.Arrivals.{numbered}
 use Rattle.fmp_rules.specs.Step.{step, replay, answers}
@@ -41,6 +42,7 @@ use Rattle.fmp_law_refusals.specs.Found.{FoundReported, found_reported, has_bits
 use Rattle.fmp_law_refusals.specs.Errors.{Errors, task_errors, sync_errors, buffer_errors, system_errors, spin_errors, state_errors}
 use Rattle.fmp_law_refusals.specs.Callers.{report_running}
 use Rattle.fmp_law_refusals.specs.Refusals.{refused_with, first_of, row_reported, refusal_reported, IsRefusalReported}
+use Rattle.fmp_law_refusals.proofs.FirstErrors.{first_in, first_same}
 use Rattle.fmp_law_refusals.specs.Outcomes.{accepted, gives, or_waits, least_block, refused_or, task_outcome, sync_outcome, buffer_outcome, system_outcome}
 use Rattle.fmp_law_refusals.specs.Outcomes.{spin_outcome, outcome_reported, answer_reported}
 use Rattle.fmp_law_refusals.proofs.Answers.{answers_reported}
@@ -191,13 +193,13 @@ says_done answer.Gone e = record { refused = refl; idle = refl; context = refl; 
 says_done a e = absurd (false≢true e)
 
 module _ (a : Answer) (is : is_no_refusal a ≡ true) where
-  says_state : (es : Errors) → AreOfState es → Says false true true (first_of es) (refused_or (first_of es) a)
+  says_state : (es : Errors) → AreOfState es → Says false true true (first_in es) (refused_or (first_in es) a)
   says_state [] all = says_done a is
   says_state (e ∷ es) (here, others) =
-      cond_both e.0 (Some e.1) (first_of es) (λ o. Says false true true o (refused_or o a)) (λ _. says_code e.1 here) (λ _. says_state es others)
+      cond_both e.0 (Some e.1) (first_in es) (λ o. Says false true true o (refused_or o a)) (λ _. says_code e.1 here) (λ _. says_state es others)
 
   abbrev RowSays : Bool → Bool → Bool → Errors → Type 0
-  RowSays m k b es = let o : Option Code = first_of ((m, code.Context) ∷ (not k, code.Identifier) ∷ (not b, code.Parameter) ∷ es) in Says m k b o (refused_or o a)
+  RowSays m k b es = let o : Option Code = first_in ((m, code.Context) ∷ (not k, code.Identifier) ∷ (not b, code.Parameter) ∷ es) in Says m k b o (refused_or o a)
 
   says_row : (m k b : Bool) (es : Errors) → AreOfState es → RowSays m k b es
   says_row true k b es all = record { refused = refl; idle = refl; context = refl; unknown = refl; improper = refl }
@@ -223,11 +225,14 @@ module _ (c : Setup) (records : List Record) (r : Option Runner) (a : Answer) (v
 
     somebody : is_some r ≡ true → SomebodySays
     somebody there =
-        subst (λ (z : Answer). Says m (are_known c y) (are_proper c records r y) (first_of (row_reported c records p r y)) z)
-        (sym (report ∙ cond-true (is_some r) _ answer.Idle there))
+        let es : Errors = row_reported c records p r y in
+        subst (λ (o : Option Code). Says m (are_known c y) (are_proper c records r y) o a) (sym (first_same es))
+        (subst (λ (z : Answer). Says m (are_known c y) (are_proper c records r y) (first_in es) z)
+        (sym (report ∙ cond-true (is_some r) _ answer.Idle there
+        ∙ ap (λ (o : Option Code). refused_or o (outcome_reported c (found_reported c records) x (report_running c p records) p r v y)) (first_same es)))
         (says_row _ (is_outcome c (found_reported c records) x (report_running c p records) p r v y) m (are_known c y) (are_proper c records r y)
         (state_errors c (found_reported c records) p r y)
-        (of_state c (found_reported c records) x (report_running c p records) p r v y))
+        (of_state c (found_reported c records) x (report_running c p records) p r v y)))
 
     nobody : is_some r ≡ false → a ≡ answer.Idle
     nobody none = report ∙ cond-false (is_some r) _ answer.Idle none
@@ -267,7 +272,7 @@ module _ (c : Setup) (records : List Record) (r : Option Runner) (a : Answer) (v
   refused_by (event.Tick p) report =
       let x : ProcessorReported = report_processor c p records in
       ap refused_with report
-      ∙ cond_both (has_time c.timer p) _ answer.Nothing IsUnrefused
+      ∙ cond_both (is_clock c.timer p) _ answer.Nothing IsUnrefused
       (λ _. cond_both (x.locked || some_due x.handlers.due) answer.Held answer.Taken IsUnrefused (λ _. refl) (λ _. refl)) (λ _. refl)
   refused_by (event.Ipi p) report =
       let x : ProcessorReported = report_processor c p records in

@@ -1,5 +1,6 @@
 -- What an argument of a call means.
 use Rattle.std.specs.Prelude.{ℕ, ℤ, pos, negsuc, Bool, false, ◌&&◌, ◌==◌, nat_le, Option, Some, if◌then◌else◌}
+use Rattle.std.specs.Option.{option_map_or}
 use Rattle.fmp_codes.specs.Numbers.{as_proc, as_task, as_object}
 use Rattle.fmp_codes.specs.declared.numbers.Proc.{Proc}
 use Rattle.fmp_codes.specs.declared.numbers.Task.{Task}
@@ -7,7 +8,7 @@ use Rattle.fmp_codes.specs.declared.numbers.Object.{Object}
 use Rattle.fmp_codes.specs.declared.records.Runner.{Runner}
 use Rattle.fmp_codes.specs.declared.records.Runner.TheVariants as runner
 use Rattle.fmp_setup.specs.declared.setup.Class.{Class}
-use Rattle.fmp_setup.specs.Setup.{has_member}
+use Rattle.fmp_law_words.specs.Words.{is_member, natural_in}
 
 -- Numbers.
 
@@ -31,8 +32,7 @@ says_timeout (negsuc n) = n == 0
 
 -- a timeout with which a call does not wait
 abbrev pub is_polling : ℤ → Bool
-is_polling (pos n) = n == 0
-is_polling (negsuc n) = false
+is_polling timeout = option_map_or (λ n. n == 0) (natural_in timeout) false
 
 -- What they stand for.
 
@@ -55,4 +55,4 @@ processor_in class (pos n) = if n == 0 then class.initial else as_proc n
 processor_in class (negsuc n) = class.initial
 
 abbrev pub is_in_class : Class → ℤ → Bool
-is_in_class class to = has_member class (processor_in class to)
+is_in_class class to = is_member class (processor_in class to)

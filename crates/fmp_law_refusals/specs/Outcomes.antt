@@ -25,7 +25,8 @@ use Rattle.fmp_codes.specs.declared.records.Event.{Event}
 use Rattle.fmp_codes.specs.declared.records.Event.TheVariants as event
 use Rattle.fmp_codes.specs.declared.records.Record.{Record}
 use Rattle.fmp_codes.specs.declared.records.Runner.{Runner}
-use Rattle.fmp_setup.specs.Setup.{Setup, has_time}
+use Rattle.fmp_setup.specs.Setup.{Setup}
+use Rattle.fmp_law_words.specs.Words.{is_clock}
 use Rattle.fmp_law_balance.specs.Accepted.{accepted_value}
 use Rattle.fmp_law_records.specs.Lives.{queued_count}
 use Rattle.fmp_law_records.specs.Flags.{number_if}
@@ -121,7 +122,7 @@ answer_reported c records r received (event.Call p y) =
     else answer.Idle
 answer_reported c records r received (event.Tick p) =
     let x : ProcessorReported = report_processor c p records in
-    if has_time c.timer p then (if x.locked || some_due x.handlers.due then answer.Held else answer.Taken) else answer.Nothing
+    if is_clock c.timer p then (if x.locked || some_due x.handlers.due then answer.Held else answer.Taken) else answer.Nothing
 answer_reported c records r received (event.Ipi p) =
     let x : ProcessorReported = report_processor c p records in if is_held_reported x then answer.Held else if x.pending then answer.Taken else answer.Nothing
 

@@ -1,5 +1,5 @@
 -- With which code a call is refused: that of the first error of its row that the records before it tell.
-use Rattle.std.specs.Prelude.{◌≡◌, not, Option, None, Some, List, [], ◌∷◌, if◌then◌else◌, is_some}
+use Rattle.std.specs.Prelude.{◌≡◌, not, Option, None, Some, List, ◌∷◌, if◌then◌else◌, is_some, option_map, find}
 use Rattle.fmp_codes.specs.declared.numbers.Proc.{Proc}
 use Rattle.fmp_codes.specs.declared.calls.Call.{Call}
 use Rattle.fmp_codes.specs.declared.codes.Code.{Code}
@@ -26,8 +26,7 @@ refused_with other = None
 
 -- the first of these errors that applies
 abbrev pub first_of : Errors → Option Code
-first_of [] = None
-first_of (e ∷ es) = if e.0 then Some e.1 else first_of es
+first_of es = option_map (λ e. e.1) (find (λ e. e.0) es)
 
 -- the row of a call that is made on p: its errors in their order
 abbrev pub row_reported : Setup → List Record → Proc → Option Runner → Call → Errors

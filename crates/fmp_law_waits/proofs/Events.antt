@@ -12,7 +12,8 @@ use Rattle.fmp_codes.specs.declared.records.Event.TheVariants as event
 use Rattle.fmp_codes.specs.declared.records.Record.{Record}
 use Rattle.fmp_codes.specs.Records.{is_taken}
 use Rattle.fmp_setup.specs.declared.setup.Timer.{Timer}
-use Rattle.fmp_setup.specs.Setup.{has_time, counts_for}
+use Rattle.fmp_setup.specs.Setup.{has_time}
+use Rattle.fmp_law_words.specs.Words.{is_clocked_by}
 use Rattle.fmp_rules.specs.Effects.{Effect}
 use Rattle.fmp_rules.specs.declared.machine.Processor.{Processor}
 use Rattle.fmp_rules.specs.World.{World, processor, handler, runner_of, is_held}
@@ -81,5 +82,5 @@ tick_state k w p P blind h =
 
 -- what is not taken is no tick that counts
 pub untaken : (timer : Timer) (q : Proc) (a : Answer) (e : Event) → is_taken a ≡ false → is_tick_for timer q a e ≡ false
-untaken timer q a (event.Tick p) none = ap (λ b. b && counts_for timer p q) none
+untaken timer q a (event.Tick p) none = ap (λ b. b && is_clocked_by timer p q) none
 untaken timer q a e none = refl

@@ -34,7 +34,7 @@ use Rattle.fmp_law_balance.proofs.Called.{refuses, not_accepted}
 use Rattle.fmp_law_balance.proofs.Shapes.{Few}
 use Rattle.fmp_law_balance.proofs.Steps.{report as record_of}
 use Rattle.fmp_setup.specs.Setup.{Setup}
-use Rattle.fmp_rules.specs.Tick.{one_less}
+use Rattle.fmp_law_waits.specs.Meanings.{after_tick}
 use Rattle.fmp_law_waits.specs.Asked.{OpenWait, asked}
 use Rattle.fmp_law_waits.specs.Waits.{is_tick_for, migrates, assigned_by, assigned_after, lasts, OpenWaits, after_record, terminates}
 use Rattle.fmp_law_waits.specs.Releases.{EndsOpenWait, Fits, NoneTwice}
@@ -56,7 +56,7 @@ lasts_same config t r no_tick there None = refl
 lasts_same config t r no_tick there (Some o) =
     let with : Option ℕ → Proc → OpenWait = λ left q. record { wait = o.wait; left = left; assigned = q } in
     ap Some
-    (ap (λ left. with left (assigned_after config t r o)) (cond-false (is_tick_for config.timer o.assigned r.answer r.event) (one_less o.left) o.left (no_tick o.assigned))
+    (ap (λ left. with left (assigned_after config t r o)) (cond-false (is_tick_for config.timer o.assigned r.answer r.event) (after_tick o.left) o.left (no_tick o.assigned))
     ∙ ap (with o.left) (there o.assigned))
 
 -- the event terminates no task and migrates none

@@ -13,7 +13,7 @@ use Rattle.fmp_rules.specs.declared.machine.Wait.TheVariants as wait
 use Rattle.fmp_rules.specs.declared.machine.QueueKind.TheVariants as kind
 use Rattle.fmp_rules.specs.World.{World, processor, handler, runner_of}
 use Rattle.fmp_rules.specs.Ordering.{waits_in}
-use Rattle.fmp_rules.specs.Arguments.{caller, number_within, object_named, task_named, ticks_of}
+use Rattle.fmp_rules.specs.Arguments.{caller, object_named, task_named, ticks_of}
 use Rattle.fmp_law_safety.proofs.Calls.{FromTask}
 use Rattle.std.specs.Option.{option_or}
 use Rattle.fmp_codes.specs.declared.records.Runner.{Runner}
@@ -21,9 +21,21 @@ use Rattle.fmp_codes.specs.declared.records.Runner.TheVariants as runner
 use Rattle.fmp_codes.proofs.Same.{tasks_same, objects_same}
 use Rattle.fmp_law_balance.specs.Accepted.{names}
 use Rattle.fmp_law_balance.proofs.Objects.{object_known}
+use Rattle.fmp_law_words.specs.Words.{one_up_to}
+use Rattle.fmp_rules.specs.Tick.{one_less}
+use Rattle.fmp_law_waits.specs.Meanings.{ticks_in, after_tick}
 use Rattle.fmp_law_waits.specs.Asked.{OpenWait, asked_of}
 use Rattle.fmp_law_waits.specs.Waits.{is_number_of}
 use Rattle.fmp_law_waits.specs.Laws.{Waits}
+
+-- times and ticks mean what they do in the machine
+pub ticks_same : (time : ℤ) → ticks_in time ≡ ticks_of time
+ticks_same (pos n) = refl
+ticks_same (negsuc n) = refl
+
+pub tick_same : (left : Option ℕ) → after_tick left ≡ one_less left
+tick_same None = refl
+tick_same (Some n) = refl
 
 pub eqb_sym : (m n : ℕ) → (m == n) ≡ (n == m)
 eqb_sym m n =
@@ -68,13 +80,14 @@ names_itself xs id few known =
 
 -- what a call from p asked for of the object that its argument names, which is one of so few
 pub asked_named : {X : Type 0} (xs : List X) (waits : Object → Wait) (id timeout : ℤ) (p : Proc) → length xs ≤ 32 → is_some (object_named xs id) ≡ true →
-    asked_of waits id timeout p ≡ Some (record { wait = waits (unwrap_or (object_named xs id) (as_object 1)); left = ticks_of timeout; assigned = p })
+    asked_of waits id (ticks_in timeout) p ≡ Some (record { wait = waits (unwrap_or (object_named xs id) (as_object 1)); left = ticks_of timeout; assigned = p })
 asked_named xs waits (negsuc n) timeout p few e = absurd (false≢true e)
 asked_named xs waits (pos n) timeout p few e =
     let A : ℕ → OpenWait = λ i. record { wait = waits (as_object i); left = ticks_of timeout; assigned = p } in
-    cond_both (nat_le 1 n && nat_le n (length xs)) (Some n) None
+    ap (λ l. asked_of waits (pos n) l p) (ticks_same timeout)
+    ∙ cond_both (nat_le 1 n && nat_le n (length xs)) (Some n) None
     (λ (o : Option ℕ). is_some (option_map as_object o) ≡ true →
-    option_map A (number_within 32 (pos n)) ≡ Some (record { wait = waits (unwrap_or (option_map as_object o) (as_object 1)); left = ticks_of timeout; assigned = p }))
+    option_map A (one_up_to 32 (pos n)) ≡ Some (record { wait = waits (unwrap_or (option_map as_object o) (as_object 1)); left = ticks_of timeout; assigned = p }))
     (λ h _.
     let parts = and_parts (nat_le 1 n) (nat_le n (length xs)) h in
     let most : n ≤ length xs = leb-true n (length xs) parts.1 in

@@ -36,11 +36,12 @@ use Rattle.fmp_law_balance.proofs.Steps.{report as record_of}
 use Rattle.fmp_setup.specs.Setup.{Setup}
 use Rattle.fmp_rules.specs.World.{item}
 use Rattle.fmp_law_safety.proofs.Items.{item_same, item_other}
+use Rattle.fmp_law_waits.specs.Meanings.{ticks_in}
 use Rattle.fmp_law_waits.specs.Asked.{OpenWait, asked}
 use Rattle.fmp_law_waits.specs.Waits.{OpenWaits, is_number_of, setup_of, assigned_by, lasts}
 use Rattle.fmp_law_waits.specs.Releases.{breaks_off, Gives, EndsOpenWait}
 use Rattle.fmp_law_waits.specs.Laws.{Waits}
-use Rattle.fmp_law_waits.proofs.Named.{by_task, task_known, none_open, waits_not}
+use Rattle.fmp_law_waits.proofs.Named.{by_task, task_known, none_open, waits_not, ticks_same}
 use Rattle.fmp_law_waits.proofs.Words.{SameCounts, KeptAs, IsKept, counts_task, counts_wait, report_ended}
 use Rattle.fmp_law_waits.proofs.Follows.{Sound, SparesTasks, lasts_same, stays, CallFollows, refused_follows, done_follows, task_follows, release_follows, running_within, running_waits_not, begins_follows, done_or_waits_follow}
 
@@ -250,6 +251,13 @@ module _ {Q : Type 0} (config : Setup) (k : Ordering Q) (w : World Q) (s : Safe 
       (report_ended config w pending report u (ended (task w u)) w.order (no_wait_ended (task w u)) (ended_setup (task w u)) t))
       (counts_wait w u (ended (task w u)) None w.order)
 
+  -- a wait with a time or timeout
+  abbrev with_left : Wait → Option ℕ → Option OpenWait
+  with_left x left = Some (record { wait = x; left = left; assigned = p })
+
+  asked_for : (x : Wait) (time : ℤ) → with_left x (ticks_in time) ≡ with_left x (ticks_of time)
+  asked_for x time = ap (with_left x) (ticks_same time)
+
   sleeps_or_waits : (c : TaskCall) (timeout : ℤ) → Spares c → Accepts w p (tslp_tsk k w p timeout) → asked p (calls.Task c) ≡ Some (record { wait = wait.Sleep; left = ticks_of timeout; assigned = p }) →
       Ends c (tslp_tsk k w p timeout).effect
   unfolding tslp_tsk
@@ -319,7 +327,7 @@ module _ {Q : Type 0} (config : Setup) (k : Ordering Q) (w : World Q) (s : Safe 
       by_called w p (Ends c) (tslp_tsk k w p forever) tt (refused_follows config k w pending report p (calls.Task c)) (λ a. sleeps_or_waits c forever (λ t. (refl, refl)) a refl)
   follows_task (call.TslpTsk timeout) =
       let c = call.TslpTsk timeout in
-      by_called w p (Ends c) (tslp_tsk k w p timeout) tt (refused_follows config k w pending report p (calls.Task c)) (λ a. sleeps_or_waits c timeout (λ t. (refl, refl)) a refl)
+      by_called w p (Ends c) (tslp_tsk k w p timeout) tt (refused_follows config k w pending report p (calls.Task c)) (λ a. sleeps_or_waits c timeout (λ t. (refl, refl)) a (asked_for wait.Sleep timeout))
   follows_task (call.WupTsk id) =
       let c = call.WupTsk id in
       by_called w p (Ends c) (wup k w (task_or_caller w p id)) (refl, (refl, tt)) (refused_follows config k w pending report p (calls.Task c))
@@ -349,4 +357,4 @@ module _ {Q : Type 0} (config : Setup) (k : Ordering Q) (w : World Q) (s : Safe 
   follows_task (call.DlyTsk time) =
       let c = call.DlyTsk time in
       by_called w p (Ends c) (dly_tsk k w p time) tt (refused_follows config k w pending report p (calls.Task c))
-      (λ a. begins_follows config k w pending report p s sound (calls.Task c) wait.Delay (ticks_of time) (from_task w p false true a.rule) refl)
+      (λ a. begins_follows config k w pending report p s sound (calls.Task c) wait.Delay (ticks_of time) (from_task w p false true a.rule) (asked_for wait.Delay time))

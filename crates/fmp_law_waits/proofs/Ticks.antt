@@ -10,6 +10,9 @@ use Rattle.fmp_codes.specs.declared.records.Event.TheVariants as event
 use Rattle.fmp_codes.specs.declared.records.Record.{Record}
 use Rattle.fmp_codes.specs.declared.records.Release.{Release}
 use Rattle.fmp_setup.specs.Setup.{counts_for}
+use Rattle.fmp_law_words.specs.Words.{is_clocked_by}
+use Rattle.fmp_law_words.proofs.Words.{clock_counts}
+use Rattle.fmp_law_waits.proofs.Named.{tick_same}
 use Rattle.fmp_rules.specs.World.{World, item, runner_of}
 use Rattle.fmp_rules.specs.Ordering.{Ordering}
 use Rattle.fmp_rules.specs.Arrivals.{numbered, inserted, inserted_if, in_order, comes_before}
@@ -149,7 +152,9 @@ module _ {Q : Type 0} (config : Setup) (k : Ordering Q) (once : TimedOnce k) (w 
     waits_fallen (Some o) h = record {
       wait = h.wait;
       left = ticks_fall ∙ ap (λ l. if counts then one_less l else l) h.left ∙ ap (λ q. if counts_for w.timer p q then one_less o.left else o.left) h.assigned
-          ∙ ap (λ timer. if counts_for timer p o.assigned then one_less o.left else o.left) sound.timer;
+          ∙ ap (λ timer. if counts_for timer p o.assigned then one_less o.left else o.left) sound.timer
+          ∙ ap (λ b. if b then one_less o.left else o.left) (sym (clock_counts config.timer p o.assigned))
+          ∙ ap (λ l. if is_clocked_by config.timer p o.assigned then l else o.left) (sym (tick_same o.left));
       assigned = h.assigned;
     }
 
@@ -173,7 +178,7 @@ module _ {Q : Type 0} (config : Setup) (k : Ordering Q) (once : TimedOnce k) (w 
       go (Some o) is ends =
           let same : lasts config x.task took o ≡ due.0 = same_Some (lasts config x.task took o) due.0 ends in
           let was : item None w.waits_left x.task.number ≡ o.left = subst (λ y. item None w.waits_left x.task.number ≡ left_of y) is (report x.task).0.left in
-          let last = last_tick (counts_for config.timer p o.assigned) o.left (subst TicksInRange was in_range) (ap (λ (y : OpenWait). y.left) same ∙ due.2.0) in (
+          let last = last_tick (is_clocked_by config.timer p o.assigned) o.left (subst TicksInRange was in_range) (ap (λ l. if is_clocked_by config.timer p o.assigned then l else o.left) (sym (tick_same o.left)) ∙ ap (λ (y : OpenWait). y.left) same ∙ due.2.0) in (
             o,
             is,
             inr (inr (record {

@@ -12,7 +12,7 @@ use Rattle.fmp_codes.specs.declared.records.Event.{Event}
 use Rattle.fmp_codes.specs.declared.records.Event.TheVariants as event
 use Rattle.fmp_rules.specs.declared.machine.Wait.{Wait}
 use Rattle.fmp_rules.specs.declared.machine.Wait.TheVariants as wait
-use Rattle.fmp_rules.specs.Arguments.{number_within, forever}
+use Rattle.fmp_law_words.specs.Words.{one_up_to}
 use Rattle.fmp_law_waits.specs.Meanings.{ticks_in}
 
 -- a wait of a task that began and is not ended
@@ -21,25 +21,25 @@ pub record OpenWait : Type 0 where
   pub left : Option ℕ  -- the ticks left, or none where it may last for ever
   pub assigned : Proc  -- the processor to which the task is assigned
 
--- a wait of an object, which an argument names by its number, with this timeout, of a task on p
-abbrev pub asked_of : (Object → Wait) → ℤ → ℤ → Proc → Option OpenWait
-asked_of waits id timeout p = option_map (λ n. record { wait = waits (as_object n); left = ticks_in timeout; assigned = p }) (number_within 32 id)
+-- a wait of an object, which an argument names by its number, with so many ticks, or for ever, of a task on p
+abbrev pub asked_of : (Object → Wait) → ℤ → Option ℕ → Proc → Option OpenWait
+asked_of waits id left p = option_map (λ n. record { wait = waits (as_object n); left = left; assigned = p }) (one_up_to 32 id)
 
 -- the wait that begins where this call from p makes its caller wait
 abbrev pub asked : Proc → Call → Option OpenWait
 asked p (call.Task task.SlpTsk) = Some (record { wait = wait.Sleep; left = None; assigned = p })
 asked p (call.Task (task.TslpTsk timeout)) = Some (record { wait = wait.Sleep; left = ticks_in timeout; assigned = p })
 asked p (call.Task (task.DlyTsk time)) = Some (record { wait = wait.Delay; left = ticks_in time; assigned = p })
-asked p (call.Sync (sync.WaiSem id)) = asked_of wait.Semaphore id forever p
-asked p (call.Sync (sync.TwaiSem id timeout)) = asked_of wait.Semaphore id timeout p
-asked p (call.Sync (sync.WaiFlg id pattern mode)) = asked_of (λ f. wait.Eventflag f pattern mode) id forever p
-asked p (call.Sync (sync.TwaiFlg id pattern mode timeout)) = asked_of (λ f. wait.Eventflag f pattern mode) id timeout p
-asked p (call.Buffer (buffer.SndDtq id value)) = asked_of (λ d. wait.Send d value) id forever p
-asked p (call.Buffer (buffer.TsndDtq id value timeout)) = asked_of (λ d. wait.Send d value) id timeout p
-asked p (call.Buffer (buffer.RcvDtq id)) = asked_of wait.Receive id forever p
-asked p (call.Buffer (buffer.TrcvDtq id timeout)) = asked_of wait.Receive id timeout p
-asked p (call.Buffer (buffer.GetMpf id)) = asked_of wait.Pool id forever p
-asked p (call.Buffer (buffer.TgetMpf id timeout)) = asked_of wait.Pool id timeout p
+asked p (call.Sync (sync.WaiSem id)) = asked_of wait.Semaphore id None p
+asked p (call.Sync (sync.TwaiSem id timeout)) = asked_of wait.Semaphore id (ticks_in timeout) p
+asked p (call.Sync (sync.WaiFlg id pattern mode)) = asked_of (λ f. wait.Eventflag f pattern mode) id None p
+asked p (call.Sync (sync.TwaiFlg id pattern mode timeout)) = asked_of (λ f. wait.Eventflag f pattern mode) id (ticks_in timeout) p
+asked p (call.Buffer (buffer.SndDtq id value)) = asked_of (λ d. wait.Send d value) id None p
+asked p (call.Buffer (buffer.TsndDtq id value timeout)) = asked_of (λ d. wait.Send d value) id (ticks_in timeout) p
+asked p (call.Buffer (buffer.RcvDtq id)) = asked_of wait.Receive id None p
+asked p (call.Buffer (buffer.TrcvDtq id timeout)) = asked_of wait.Receive id (ticks_in timeout) p
+asked p (call.Buffer (buffer.GetMpf id)) = asked_of wait.Pool id None p
+asked p (call.Buffer (buffer.TgetMpf id timeout)) = asked_of wait.Pool id (ticks_in timeout) p
 asked p other = None
 
 abbrev pub asked_by : Event → Option OpenWait

@@ -1,17 +1,16 @@
 -- What times, patterns and ticks mean, in words of the laws' own: they cite no rule of the machine that the laws judge.
-use Rattle.std.specs.Prelude.{ℕ, ◌+◌, ◌-◌, ◌==◌, ℤ, pos, negsuc, Bool, nat_lt, Option, None, Some, bit_and}
+use Rattle.std.specs.Prelude.{ℕ, ◌+◌, ◌-◌, ◌==◌, ℤ, Bool, nat_lt, Option, option_map, bit_and}
 use Rattle.fmp_codes.specs.declared.calls.Mode.{Mode}
 use Rattle.fmp_codes.specs.declared.calls.Mode.TheVariants as mode
+use Rattle.fmp_law_words.specs.Words.{natural_in}
 
 -- a time of n ticks is over at the tick n + 1 from now; a negative number means for ever
 abbrev pub ticks_in : ℤ → Option ℕ
-ticks_in (pos n) = Some (n + 1)
-ticks_in (negsuc n) = None
+ticks_in time = option_map (λ n. n + 1) (natural_in time)
 
 -- a tick takes one of the ticks left, where the count is one of ticks
 abbrev pub after_tick : Option ℕ → Option ℕ
-after_tick None = None
-after_tick (Some n) = Some (n - 1)
+after_tick left = option_map (λ n. n - 1) left
 
 -- a pattern has the bits that a task waits for: all of them, or at least one
 abbrev pub has_bits : ℕ → ℕ → Mode → Bool

@@ -1,5 +1,5 @@
 -- The wait of each task, as the records of a run tell it.
-use Rattle.std.specs.Prelude.{ℕ, ℤ, pos, negsuc, Bool, true, false, ◌&&◌, ◌||◌, ◌==◌, Option, None, Some, List, [], ◌∷◌, if◌then◌else◌, option_map}
+use Rattle.std.specs.Prelude.{ℕ, ℤ, pos, negsuc, Bool, true, false, ◌&&◌, ◌||◌, ◌==◌, Option, None, Some, List, [], ◌∷◌, if◌then◌else◌, option_map, slice_index_or, ◌-◌}
 use Rattle.std.specs.List.{list_any}
 use Rattle.std.specs.Option.{option_or}
 use Rattle.fmp_codes.specs.Numbers.{as_proc}
@@ -16,8 +16,9 @@ use Rattle.fmp_codes.specs.declared.records.Release.{Release}
 use Rattle.fmp_codes.specs.Records.{is_taken}
 use Rattle.fmp_setup.specs.declared.setup.TaskSetup.{TaskSetup}
 use Rattle.fmp_setup.specs.declared.setup.Timer.{Timer}
-use Rattle.fmp_setup.specs.Setup.{Setup, counts_for}
-use Rattle.fmp_rules.specs.World.{no_task, item}
+use Rattle.fmp_setup.specs.Setup.{Setup}
+use Rattle.fmp_law_words.specs.Words.{is_clocked_by}
+use Rattle.fmp_rules.specs.World.{no_task}
 use Rattle.fmp_law_waits.specs.Meanings.{after_tick}
 use Rattle.fmp_law_balance.specs.Accepted.{is_accepted}
 use Rattle.fmp_law_balance.specs.Queues.{is_call_of}
@@ -58,7 +59,7 @@ ends t r = is_released t r.releases || (is_accepted r.answer && terminates t r.e
 
 -- a tick was taken that counts for what is assigned to q
 abbrev pub is_tick_for : Timer → Proc → Answer → Event → Bool
-is_tick_for timer q a (event.Tick p) = is_taken a && counts_for timer p q
+is_tick_for timer q a (event.Tick p) = is_taken a && is_clocked_by timer p q
 is_tick_for timer q a other = false
 
 -- the number of the processor to which the event, a call, migrates this task
@@ -68,7 +69,7 @@ migrates t other = None
 
 -- how a task is configured
 abbrev pub setup_of : Setup → Task → TaskSetup
-setup_of c t = item no_task.setup c.tasks t.number
+setup_of c t = slice_index_or c.tasks (t.number - 1) no_task.setup
 
 -- the processor of a task that was assigned to q and is migrated to this one, where 0 is the initial one of its class
 abbrev pub assigned_by : Setup → Task → Option ℤ → Proc → Proc

@@ -1,4 +1,5 @@
 use Rattle.fmp_law_effects.proofs.Records.{one_record, record_reported}
+use Rattle.fmp_law_effects.proofs.Told.{told_same}
 use Rattle.fmp_law_effects.proofs.laws.records_are_reported.Goals as goal
 
 pub returns-clause-report : goal.returns-clause-report
@@ -6,3 +7,6 @@ returns-clause-report c = record_reported
 
 pub returns-clause-one : goal.returns-clause-one
 returns-clause-one c = one_record
+
+pub returns-clause-made : goal.returns-clause-made
+returns-clause-made c = told_same
