@@ -5,6 +5,7 @@ ghost use Rattle.fmp_run_devices.specs.Ends.{sink_ends, source_ends};
 ghost use Rattle.fmp_run_events.specs.Owed.{OwesEvents, WritesEvents};
 ghost use Rattle.fmp_cli_runs.specs.Asked.{detail_reported, writing_of};
 ghost use Rattle.fmp_run_stream.specs.Runs.{IsAnswered};
+ghost use Rattle.fmp_run_stream.specs.Told.{IsTold};
 
 use fmp_cli::Report;
 use fmp_run_devices::{Sink, Source};
@@ -39,6 +40,10 @@ pub fn answer<R: Source, S: Source, W: Sink>(
     // Where lines alone are asked for, what is written is the trace of the answers to the events.
     ensures lines { report ≡ Report.Line → IsKnown (R.left config.old) → IsKnown (S.left events.old) → IsKnown (W.written trace.old)
         → OnOk result (IsAnswered (bytes_of (R.left config.old)) (bytes_of (S.left events.old)) (bytes_of (W.written trace.old)) (bytes_of (W.written trace.new))) }
+
+    // And this is the trace of records that are told, each by those before it: no machine is in what is said so.
+    ensures told { report ≡ Report.Line → IsKnown (R.left config.old) → IsKnown (S.left events.old) → IsKnown (W.written trace.old)
+        → OnOk result (IsTold (bytes_of (R.left config.old)) (bytes_of (S.left events.old)) (bytes_of (W.written trace.old)) (bytes_of (W.written trace.new))) }
 
     // What it owes to both texts and to its devices, whatever it writes.
     ensures owes { OwesEvents (source_ends R.left R.failures config.old config.new) (source_ends S.left S.failures events.old events.new)

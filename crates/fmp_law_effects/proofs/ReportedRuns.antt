@@ -75,7 +75,7 @@ module _ (c : Setup) (valid : IsValid c) where
       let is = machine_reported (es ++ e ∷ []) more (All-push P es e before (All-head P e more on)) (All-tail P e more on) front r after rest in
       subst (λ y. IsReported c y r) (ap (λ y. y ++ front) (answers_more (booted c) es e) ∙ append_assoc (own es) (next es e ∷ []) front ∙ ap (λ y. own es ++ y ∷ front) same) is
 
-  machine_run : (events : List Event) → AreOn c.processors events → IsReportedRun c events (own events)
+  pub machine_run : (events : List Event) → AreOn c.processors events → IsReportedRun c events (own events)
   machine_run events on = record {
     answered = events_answered (booted c) events;
     reported = machine_reported [] events (All-nil (λ e. (processor_of e).number ≤ c.processors)) on;

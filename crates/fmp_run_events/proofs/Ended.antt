@@ -2,6 +2,10 @@
 use Rattle.std.proofs.Common.{◌≡◌, ◌∙◌, ℕ, false, List, ◌++◌, take, Result, Ok, Err, IfErr, OnOk, ap, sym, refl, inl, inr}
 use Rattle.std.proofs.lemmas.Bool.{false≢true}
 use Rattle.fmp_law_headline.proofs.Along.{headline_throughout}
+use Rattle.fmp_law_effects.proofs.ReportedRuns.{machine_run}
+use Rattle.fmp_rules.specs.Arrivals.{numbered}
+use Rattle.fmp_rules.specs.Boot.{booted}
+use Rattle.fmp_rules.specs.Step.{answers}
 use Rattle.fmp_codes.specs.Records.{AreOn}
 use Rattle.fmp_setup.specs.Setup.{Setup}
 use Rattle.fmp_setup.specs.Valid.{IsValid}
@@ -23,6 +27,7 @@ use Rattle.fmp_run_texts.specs.Faults.{is_config, is_text, is_write}
 use Rattle.fmp_run_texts.specs.Texts.{FirstConfigFault, FlushFails, SaysConfig}
 use Rattle.fmp_run_stream.specs.Runs.{FirstEventFault, FirstTextFault, IsAnswered, IsNoFaultOfText, IsPrefix, IsPrefixOut, IsOutOfMemory, IsWritten, LeavesWritten, Writing, trace_of}
 use Rattle.fmp_run_stream.specs.Details.{detail_of}
+use Rattle.fmp_run_stream.specs.Told.{IsTold}
 use Rattle.fmp_run_stream.specs.Streams.{IsAllOut, IsAmple, Leaves}
 
 -- without a fault all events are answered, and the text spells them
@@ -41,6 +46,7 @@ written config_text event_text old new d writing c same says valid all =
         prints = refl;
         safe = safe;
         headline = headline_throughout c all.given valid on;
+        reported = machine_run c valid all.given on;
       },
       all.text ∙ ap (λ (bytes : List ℕ). old ++ bytes) (same all.given),
     )
@@ -51,6 +57,23 @@ unfolding trace_of
 answered config_text event_text old new (output, w, out) = (
   output,
   record { config = w.config; events = w.events; says = w.says; lists = w.lists; prints = w.prints; safe = w.safe; headline = w.headline },
+  out,
+)
+
+-- and it is the trace that records tell
+pub told : (config_text event_text old new : List ℕ) → IsWritten trace_of config_text event_text old new → IsTold config_text event_text old new
+unfolding trace_of
+told config_text event_text old new (output, w, out) = (
+  output,
+  record {
+    config = w.config;
+    events = w.events;
+    records = answers numbered (booted w.config) w.events;
+    says = w.says;
+    lists = w.lists;
+    run = w.reported;
+    prints = w.prints;
+  },
   out,
 )
 

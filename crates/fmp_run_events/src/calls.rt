@@ -10,6 +10,7 @@ ghost use Rattle.fmp_run_devices.specs.Ends.{sink_ends, source_ends};
 ghost use Rattle.fmp_run_texts.specs.Faults.{failed_read, failed_write, is_config, is_thread_fault};
 ghost use Rattle.fmp_run_texts.specs.Texts.{FlushFails};
 ghost use Rattle.fmp_run_events.specs.Owed.{OwesEvents, WritesEvents};
+ghost use Rattle.fmp_run_stream.specs.Told.{IsTold};
 ghost use Rattle.fmp_run_stream.specs.Runs.{FirstEventFault, IsAnswered, IsPrefixOut, trace_of};
 ghost use Rattle.fmp_run_stream.specs.Streams.{IsAllOut, Leaves, Streams};
 
@@ -171,6 +172,10 @@ pub fn run_calls<R: Source, S: Source, W: Sink>(
     // Where it goes to its end, what is written is the trace of the answers to the events.
     ensures answered { IsKnown (R.left config.old) → IsKnown (S.left events.old) → IsKnown (W.written trace.old)
         → OnOk result (IsAnswered (bytes_of (R.left config.old)) (bytes_of (S.left events.old)) (bytes_of (W.written trace.old)) (bytes_of (W.written trace.new))) }
+
+    // And then it is the trace of records that are told: each by those before it, without a machine.
+    ensures told { IsKnown (R.left config.old) → IsKnown (S.left events.old) → IsKnown (W.written trace.old)
+        → OnOk result (IsTold (bytes_of (R.left config.old)) (bytes_of (S.left events.old)) (bytes_of (W.written trace.old)) (bytes_of (W.written trace.new))) }
 
     // What it writes.
     ensures writes { WritesEvents (Unit {0}) trace_of (source_ends R.left R.failures config.old config.new)

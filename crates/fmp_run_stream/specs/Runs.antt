@@ -4,6 +4,7 @@ use Rattle.std.specs.Prelude.{◌≡◌, ◌⊎◌, ℕ, List, ◌++◌, take, S
 use Rattle.fmp_codes.specs.declared.records.Event.{Event}
 use Rattle.fmp_law_safety.specs.Runs.{IsSafeThroughout}
 use Rattle.fmp_law_headline.specs.Headline.{HeadlineThroughout}
+use Rattle.fmp_law_effects.specs.Records.{IsReportedRun}
 use Rattle.fmp_text.specs.TextGrammar.{SpellsText}
 use Rattle.fmp_text.specs.declared.fault.TextFault.{TextFault}
 use Rattle.fmp_text.specs.Events.{IsFirst, IsMemory, Reading, reading_by_line}
@@ -32,7 +33,7 @@ abbrev pub Writing : Type 0
 Writing = Setup → List Event → List ℕ
 
 -- The output is what is written so of the one text's machine over the other's events. Every prefix of these leads to a safe state,
--- and the headline holds there.
+-- and the headline holds there. Each record is as those before it tell.
 pub record Written (writing : Writing) (config_text event_text output : List ℕ) : Type 0 where
   pub config : Setup
   pub events : List Event
@@ -41,6 +42,7 @@ pub record Written (writing : Writing) (config_text event_text output : List ℕ
   pub prints : output ≡ writing config events
   pub safe : IsSafeThroughout (booted config) events
   pub headline : HeadlineThroughout config events (answers numbered (booted config) events)
+  pub reported : IsReportedRun config events (answers numbered (booted config) events)
 
 -- that was written after old, all of it
 abbrev pub IsWritten : Writing → List ℕ → List ℕ → List ℕ → List ℕ → Type 0

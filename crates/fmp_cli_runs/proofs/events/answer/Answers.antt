@@ -1,7 +1,7 @@
 use Rattle.std.proofs.Common.{◌≡◌, Err, ap, rules}
 use Rattle.std.proofs.lemmas.Result.{err_from_is_err_and}
 use Rattle.fmp_run_texts.specs.declared.fault.RunFault.TheVariants.{Write}
-use Rattle.fmp_run_events.proofs.Ended.{answered}
+use Rattle.fmp_run_events.proofs.Ended.{answered, told}
 use Rattle.fmp_cli_runs.specs.Asked.{detail_reported}
 use Rattle.fmp_cli_runs.proofs.events.answer.Goals as goal
 
@@ -50,3 +50,7 @@ returns-clause-writes g c =
 pub returns-clause-lines : goal.returns-clause-lines
 returns-clause-lines g c = λ report configs reads writes.
     answered _ _ _ _ (rw (c.detail_for.ensures, report) at (c.in_ok-run_events.ensures.writes.answered configs reads writes))
+
+pub returns-clause-told : goal.returns-clause-told
+returns-clause-told g c = λ report configs reads writes.
+    told _ _ _ _ (rw (c.detail_for.ensures, report) at (c.in_ok-run_events.ensures.writes.answered configs reads writes))
