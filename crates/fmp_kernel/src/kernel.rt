@@ -118,6 +118,14 @@ impl Kernel {
         step_recorded(&mut *self.machine, report);
     }
 
+    /// What holds of every kernel, for proofs: its state is safe, and its lists are right. It does nothing.
+    pub fn validity(&self)
+        ensures safe { Safe listed self.now }
+        ensures lists { ListsAreRight self.now }
+    {
+        let _machine = &self.machine;
+    }
+
     /// The machine between two events.
     pub fn machine(&self) -> &KernelMachine
         ensures { result.now ≡ self.now }

@@ -1,14 +1,17 @@
 -- The state with queues stands for that with numbers along a run.
-use Rattle.std.proofs.Common.{◌≡◌, ℕ, zero, suc, ◌≤◌, List, [], ◌∷◌, length, take}
+use Rattle.std.proofs.Common.{◌≡◌, ◌∙◌, ◌+◌, ℕ, zero, suc, ◌≤◌, List, [], ◌∷◌, length, take, sym, ap, arith}
+use Rattle.std.proofs.lemmas.List.{take_all}
 use Rattle.std.proofs.lemmas.List.Elements.{All-head, All-tail}
 use Rattle.fmp_codes.specs.Records.{processor_of}
 use Rattle.fmp_codes.specs.declared.records.Event.{Event}
+use Rattle.fmp_codes.specs.declared.records.Record.{Record}
 use Rattle.fmp_setup.specs.Setup.{Setup}
 use Rattle.fmp_setup.specs.Valid.{IsValid}
 use Rattle.fmp_rules.specs.World.{World}
 use Rattle.fmp_rules.specs.Arrivals.{State, numbered}
 use Rattle.fmp_rules.specs.Boot.{booted}
 use Rattle.fmp_rules.specs.Step.{replay, answers, step}
+use Rattle.fmp_rules.proofs.Replays.{answers_take}
 use Rattle.fmp_law_safety.specs.Runs.{AreOn}
 use Rattle.fmp_law_safety.specs.Safe.{IsNumberOf, Safe}
 use Rattle.fmp_law_safety.proofs.Booted.{booted_safe, count_booted, runs_safe}
@@ -40,9 +43,16 @@ headline_throughout c es valid on n =
     let safe : Safe numbered m = runs_safe c es valid on n in
     let stands : Stands (queues_after c (take n es)) m = stands_along _ (booted c) es (boot_stands c valid.few_tasks) (booted_safe c valid) (rw (count_booted c) on) n in
     record {
+      profile = sym (answers_take n (booted c) es);
       one_processor = on_one m safe;
       same_state = stands;
       queues = lists_are_right (queues_after c (take n es)) m stands;
       balanced = balanced_throughout c es valid.few (runs_safe c es valid on) n;
       precedence = runs_highest m safe;
     }
+
+-- records of which the headline speaks are the answers, all of them
+pub records_are_answers : (c : Setup) (es : List Event) (rs : List Record) → HeadlineThroughout c es rs → rs ≡ answers numbered (booted c) es
+records_are_answers c es rs headline =
+    let all : ℕ = length rs + length es in
+    sym (take_all all rs (omega arith)) ∙ (headline all).profile ∙ ap (answers numbered (booted c)) (take_all all es (omega arith))

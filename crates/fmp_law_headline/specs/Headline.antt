@@ -9,7 +9,7 @@ use Rattle.fmp_setup.specs.Setup.{Setup}
 use Rattle.fmp_rules.specs.World.{World, processor, is_held}
 use Rattle.fmp_rules.specs.Arrivals.{State, numbered, comes_before, priority_in, is_ready_on}
 use Rattle.fmp_rules.specs.Boot.{boot, booted}
-use Rattle.fmp_rules.specs.Step.{replay}
+use Rattle.fmp_rules.specs.Step.{replay, answers}
 use Rattle.fmp_law_safety.specs.First.{IsFirst}
 use Rattle.fmp_law_safety.specs.Safe.{IsNumberOf}
 use Rattle.fmp_law_balance.specs.Balance.{Balance}
@@ -25,9 +25,11 @@ IsOn m p t = ((processor m p).running ≡ Some t) ⊎ (is_ready_on m.tasks p t �
 abbrev pub RunsHighest : State → Proc → Type 0
 RunsHighest m p = IsFirst (is_ready_on m.tasks p) (comes_before (priority_in m.tasks) m.order.ready) (length m.tasks) (processor m p).running
 
--- What holds after some events that were answered with these records. The state is m, where numbers tell what came before what;
+-- What holds after these events, which were answered with these records. The state is m, where numbers tell what came before what;
 -- k is the same state with the kernel's queues.
-pub record Headline (c : Setup) (records : List Record) (m : State) (k : World Queues) : Type 0 where
+pub record Headline (c : Setup) (events : List Event) (records : List Record) (m : State) (k : World Queues) : Type 0 where
+  -- each answer is the written profile's
+  pub profile : records ≡ answers numbered (booted c) events
   -- no task runs or is ready on two processors
   pub one_processor : (p q : Proc) (t : Task) → IsNumberOf m.processors p.number → IsNumberOf m.processors q.number →
       IsOn m p t → IsOn m q t → p.number ≡ q.number
@@ -45,4 +47,4 @@ queues_after c events = replay listed (boot listed (no_queues c) c) events
 
 -- the headline holds after every prefix of these events, which were answered with these records
 abbrev pub HeadlineThroughout : Setup → List Event → List Record → Type 0
-HeadlineThroughout c events records = (n : ℕ) → Headline c (take n records) (replay numbered (booted c) (take n events)) (queues_after c (take n events))
+HeadlineThroughout c events records = (n : ℕ) → Headline c (take n events) (take n records) (replay numbered (booted c) (take n events)) (queues_after c (take n events))

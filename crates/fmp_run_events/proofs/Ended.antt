@@ -56,7 +56,16 @@ pub answered : (config_text event_text old new : List ℕ) → IsWritten trace_o
 unfolding trace_of
 answered config_text event_text old new (output, w, out) = (
   output,
-  record { config = w.config; events = w.events; says = w.says; lists = w.lists; prints = w.prints; safe = w.safe; headline = w.headline },
+  record {
+    config = w.config;
+    events = w.events;
+    records = answers numbered (booted w.config) w.events;
+    says = w.says;
+    lists = w.lists;
+    prints = w.prints;
+    safe = w.safe;
+    headline = w.headline;
+  },
   out,
 )
 

@@ -1,5 +1,5 @@
 -- The trace that answers some events is checked with yes.
-use Rattle.std.proofs.Common.{◌≡◌, ℕ, ◌≤◌, List, length, subst, arith}
+use Rattle.std.proofs.Common.{◌≡◌, ◌∙◌, ℕ, ◌≤◌, List, length, subst, ap, arith}
 use Rattle.std.specs.Prelude.{All}
 use Rattle.fmp_rules.specs.Boot.{booted}
 use Rattle.fmp_rules.specs.Arrivals.{numbered}
@@ -22,6 +22,7 @@ use Rattle.fmp_law_waits.proofs.Fewer.{few_releases}
 use Rattle.fmp_trace.specs.Lines.{lines_from}
 use Rattle.fmp_run_texts.specs.Texts.{Answered, SaysConfig}
 use Rattle.fmp_run_texts.specs.Traces.{IsOwn}
+use Rattle.fmp_law_headline.proofs.Along.{records_are_answers}
 use Rattle.fmp_run_texts.proofs.Grammars.{one_config}
 
 -- What a machine answers to events within their limit is within that of bytes: no line but for its releases has more than 738, no
@@ -53,7 +54,8 @@ answered_prints config_text event_text trace c is valid names_valid a =
     let spelled = subst (λ (s : Setup). SpellsText s.names event_text a.events) same a.lists in
     let lists = reading_of-spelled c.names event_text a.events names_valid spelled in
     own_trace c trace a.events valid names_valid (rw (← valid.same_processors) (reading_on c.names event_text a.events lists)) (reading_in_bits c.names event_text a.events names_valid lists)
-    spelled.few (subst (λ (s : Setup). trace ≡ lines_from s.names 1 (answers numbered (booted s) a.events)) same a.prints)
+    spelled.few (subst (λ (s : Setup). trace ≡ lines_from s.names 1 (answers numbered (booted s) a.events)) same
+        (a.prints ∙ ap (lines_from a.config.names 1) (records_are_answers a.config a.events a.records a.headline)))
 
 -- so does a trace that is one of the machine's own
 pub own_prints : (config_text trace : List ℕ) (c : Setup) → SaysConfig config_text c → (own : IsOwn config_text trace) → PrintsAnswers c trace own.events

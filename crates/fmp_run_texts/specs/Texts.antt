@@ -2,6 +2,7 @@
 -- What the texts of a run say, and which of their faults a run tells.
 use Rattle.std.specs.Prelude.{◌≡◌, ◌⊎◌, ℕ, ◌+◌, ◌≤◌, List, length, Result, Err, if◌then◌else◌}
 use Rattle.fmp_codes.specs.declared.records.Event.{Event}
+use Rattle.fmp_codes.specs.declared.records.Record.{Record}
 use Rattle.fmp_text.specs.Events.{IsMemory}
 use Rattle.fmp_text.specs.TextGrammar.{SpellsText}
 use Rattle.fmp_text.specs.declared.fault.TextFault.{TextFault}
@@ -12,8 +13,6 @@ use Rattle.fmp_law_config.specs.Grammar.{Configures}
 use Rattle.fmp_names.specs.Names.{NameLists}
 use Rattle.fmp_setup.specs.Setup.{Setup}
 use Rattle.fmp_rules.specs.Boot.{booted}
-use Rattle.fmp_rules.specs.Arrivals.{numbered}
-use Rattle.fmp_rules.specs.Step.{answers}
 use Rattle.fmp_law_safety.specs.Runs.{IsSafeThroughout}
 use Rattle.fmp_law_headline.specs.Headline.{HeadlineThroughout}
 use Rattle.fmp_trace.specs.Lines.{lines_from}
@@ -26,16 +25,17 @@ pub record SaysConfig (text : List ℕ) (config : Setup) : Type 0 where
   pub configures : Configures text config
   pub short : length text ≤ most_bytes
 
--- The output is the trace of the one text's machine over the other's events. Every prefix of these leads to a safe state, and
--- the headline holds there.
+-- The output is the trace of records of the one text's machine over the other's events. Every prefix of these leads to a safe state, and
+-- the headline holds there: that each record is the machine's is a part of it.
 pub record Answered (config_text event_text output : List ℕ) : Type 0 where
   pub config : Setup
   pub events : List Event
+  pub records : List Record
   pub says : SaysConfig config_text config
   pub lists : SpellsText config.names event_text events
-  pub prints : output ≡ lines_from config.names 1 (answers numbered (booted config) events)
+  pub prints : output ≡ lines_from config.names 1 records
   pub safe : IsSafeThroughout (booted config) events
-  pub headline : HeadlineThroughout config events (answers numbered (booted config) events)
+  pub headline : HeadlineThroughout config events records
 
 -- a fault of the configuration is the first one of its text, or want of memory
 abbrev pub FirstConfigFault : List ℕ → RunFault → Type 0
