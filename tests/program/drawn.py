@@ -33,9 +33,8 @@ for line in range(1, turns + 1):
     if left[1]:
         choices.append((1, "tick"))
     number = drawn()
-    if lines_left:
-        lines_left -= 1
-    elif stalls and number % 32 == 0:
+    lines_left = max(0, lines_left - 1)
+    if stalls and not lines_left and number % 32 == 0:
         still, lines_left = number // 32 % 2, number // 4096 % 128 + 1
     awake = [choice for choice in choices if not (lines_left and choice[0] == still)] or choices
     processor, what = awake[drawn() % len(awake)]

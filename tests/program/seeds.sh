@@ -137,6 +137,16 @@ seeds_that_show() {
     unwritten "${words[@]}" 25 --seeds 0..99 --find "$late"
 }
 
+# At the first line of this seed's order the second processor begins to stand still, for this one line. At the second line the first one begins to, for
+# ninety lines: the first number of the line behind a stall counts, too.
+one_stall_after_another() {
+    printf 'PROCESSORS(2);\nDEF_CLASS(C1, 1, {1});\nDEF_CLASS(C2, 2, {2});\n' > still.cfg
+    printf 'CLASS(C%s) { CRE_TSK(T%s, {TA_ACT, 0, asks, 5, 4096, NULL}); }\n' 1 1 2 2 >> still.cfg
+    printf 'script asks\nagain:\nget_tid()\ngoto again\nend\n' > still.txt
+    { echo '1 P1 T1 get_tid() E_OK:1' && printf '%s P2 T2 get_tid() E_OK:2\n' 2 3 4; } > still.trace
+    run 5 still.trace "$(as_file echo 'fmpsim: seed 128708, line 4')" smp still.cfg still.txt --ticks 0 --turns 4 --seeds 128708..128708 --stalls --find '4 times *'
+}
+
 # Seeds that draw one of all orders, by another program. Of sixty lines the last one is the first at which there were sixty events.
 seeds_that_draw() {
     local words=(smp late.cfg late.txt --ticks 7 --turns) seed option options question sixty='60 times *'
@@ -153,6 +163,7 @@ seeds_that_draw() {
             run 0 /dev/null /dev/null "${words[@]}" 59 --seeds "$seed..$seed" "${option[@]/#/--}" --find "$sixty"
         done
     done
+    one_stall_after_another
     # the first seed in whose order T2 makes a call while the request is pending, which no order without --late has
     question='get_pid() E_OK:2 run=T3'
     for seed in {0..99}; do

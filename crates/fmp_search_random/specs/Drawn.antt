@@ -23,12 +23,13 @@ rules_of drawing ticks = record { ticks = Some ticks; prompt = not drawing.late;
 
 -- ---- a processor that stands still
 
--- who stands still at an event, by its first number: who did before, for one event less; where nobody did, now and then one begins to
+-- who stands still at an event, by its first number: who did at the one before, if for more than that one; where nobody does so, now and then
+-- one begins to
 abbrev pub stall_after : Bool → ℕ → ℕ → Stall → Stall
 stall_after stalls processors number s =
-    if nat_lt 0 s.left then record { processor = s.processor; left = s.left - 1 }
+    if nat_lt 1 s.left then record { processor = s.processor; left = s.left - 1 }
     else if stalls && (number % 32 == 0) then record { processor = number / 32 % processors; left = number / 4096 % 128 + 1 }
-    else s
+    else record { processor = s.processor; left = 0 }
 
 -- a step is one of the processor that stands still
 abbrev pub is_still : Stall → ℕ → Bool

@@ -58,7 +58,7 @@ pub struct DrawnOrder {
 pub struct Stall {
     /// Which one, counted from 0.
     pub processor: u8,
-    /// For how many events.
+    /// For how many events, this one among them.
     pub left: u8,
 }
 
@@ -75,7 +75,7 @@ fn stall_after(stalls: bool, processors: u8, number: u64, stall: Stall) -> Stall
     requires { 1 ≤ processors }
     ensures { result ≡ spec.stall_after stalls processors number stall }
 {
-    if stall.left > 0 {
+    if stall.left > 1 {
         return Stall {
             processor: stall.processor,
             left: stall.left - 1,
@@ -87,7 +87,10 @@ fn stall_after(stalls: bool, processors: u8, number: u64, stall: Stall) -> Stall
             left: (number / 4096 % 128) as u8 + 1,
         };
     }
-    stall
+    Stall {
+        processor: stall.processor,
+        left: 0,
+    }
 }
 
 /// Whether a step is one of the processor that stands still.
