@@ -1,6 +1,4 @@
 //! Many questions about the orders of scripts: each is searched for by itself, and a line tells its answer.
-ghost use Rattle.std.specs.Prelude.{[], None};
-
 use crate::beside::Telling;
 use crate::layer::folder_made;
 use crate::output::{Ending, settled_search};
@@ -15,7 +13,8 @@ use fmp_cli_questions::{
 };
 use fmp_cli_runs::{search, search_forever};
 use fmp_config::Config;
-use fmp_run_events::{Failed, MemSource, Sink, Status};
+use fmp_run_devices::GrowingSink;
+use fmp_run_events::{MemSource, Status};
 use fmp_run_explore::{Finding, Outcome, Progress};
 use fmp_run_forever::Staying;
 use fmp_run_texts::{RunFault, ScriptReader, texts_from};
@@ -61,39 +60,6 @@ struct Found {
     trace: Vec<u8>,
     /// What was found of all orders, where something of it is told at the end.
     outcome: Option<Outcome>,
-}
-
-/// Memory that a trace is written to.
-#[derive(Drop)]
-struct TraceSink {
-    text: Vec<u8>,
-    failures: u64,
-}
-
-impl Sink for TraceSink {
-    ghost written = { λ _. None };
-
-    ghost buffered = { λ _. [] };
-
-    ghost failures = { λ s. s.failures };
-
-    fn failures(&self) -> u64 {
-        self.failures
-    }
-
-    fn write(&mut self, piece: &[u8]) -> Result<usize, Failed> {
-        match self.text.extend_from_slice(piece) {
-            Ok(()) => Ok(piece.len()),
-            Err(_) => {
-                self.failures += 1;
-                Err(Failed)
-            }
-        }
-    }
-
-    fn flush(&mut self) -> Result<(), Failed> {
-        Ok(())
-    }
 }
 
 /// Reads the configuration, the scripts and the questions to their ends.
@@ -257,10 +223,7 @@ fn searched<P: Progress>(
 ) -> Result<Found, Ending> {
     let mut config = MemSource::new(texts.config.as_slice());
     let mut scripts = MemSource::new(texts.scripts.as_slice());
-    let mut output = TraceSink {
-        text: Vec::new(alloc),
-        failures: 0,
-    };
+    let mut output = GrowingSink::new(alloc);
     if is_lasting(request.question.as_bytes()) {
         let run = search_forever(
             alloc,
@@ -271,10 +234,10 @@ fn searched<P: Progress>(
             progress,
         );
         let stayed = settled_search(run, false).map_err(in_memory)?;
-        let answer = lasting_answer_of(stayed.staying, output.text.as_slice());
+        let answer = lasting_answer_of(stayed.staying, output.text());
         return Ok(Found {
             answer,
-            trace: output.text,
+            trace: output.into_text(),
             outcome: None,
         });
     }
@@ -287,10 +250,10 @@ fn searched<P: Progress>(
         progress,
     );
     let outcome = settled_search(run, false).map_err(in_memory)?;
-    let answer = answer_of(outcome.finding, output.text.as_slice());
+    let answer = answer_of(outcome.finding, output.text());
     Ok(Found {
         answer,
-        trace: output.text,
+        trace: output.into_text(),
         outcome: matches!(outcome.finding, Finding::Never).then_some(outcome),
     })
 }
