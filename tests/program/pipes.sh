@@ -18,6 +18,7 @@ pipes() {
     unread_output calls --help
     unread_output smp "$spin/machine.cfg" "$spin/scripts.txt" --ticks 1 --turns 100 --seed 11
     unread_output calls --color=always "$late/machine.cfg" "$late/events.txt"
+    unread_outputs
     # Lines are held back, so that 64 KiB of them are one write. This pipe keeps apart what was written apart, and what was not in
     # pieces of 4 KiB: of 120 KiB there are some thirty, and would be 5000 if each line were written by itself.
     head -n 5000 long.txt > events.txt
@@ -26,6 +27,27 @@ pipes() {
     [ "$pieces" -ge 1 ] && [ "$pieces" -le 60 ] && ended=yes
     count "$ended" calls "$late/machine.cfg" events.txt "# in $pieces writes"
     events_in_pieces
+}
+
+# Nobody reads what one of the other commands writes: like `head`, that is silence, and status 3.
+unread_outputs() {
+    local words
+    for words in --state --changes; do unread_output calls "$words" "$late/machine.cfg" "$late/events.txt"; done
+    unread_output calls --of T2 "$late/machine.cfg" "$late/events.txt"
+    for words in check 'check --show' 'check --partial' wave view; do
+        # shellcheck disable=SC2086  # one or two words
+        unread_output $words "$late/machine.cfg" "$late/trace.txt"
+    done
+    sed 's/E_OK/E_CTX/' "$late/trace.txt" > wrong.txt
+    unread_output check --all "$late/machine.cfg" wrong.txt
+    unread_output view --differences "$late/machine.cfg" wrong.txt
+    unread_output wave --gtkw "$late/machine.cfg"
+    unread_output list "$late/machine.cfg"
+    for words in E_OK E_PAR; do unread_output explore "$spin/machine.cfg" "$spin/scripts.txt" --ticks 0 --turns 30 --find "$words"; done
+    echo 'taken shown E_OK' > asked.txt
+    unread_output explore "$spin/machine.cfg" "$spin/scripts.txt" --ticks 0 --turns 30 --questions asked.txt
+    unread_output smp "$spin/machine.cfg" "$spin/scripts.txt" --ticks 0 --turns 30 --seeds 1..9 --find E_OK
+    unread_output shrink "$late/machine.cfg" "$late/events.txt" --find T2
 }
 
 # Events in pieces of each length are answered as in one piece.
