@@ -24,6 +24,7 @@ searches() {
     begins_behind
     leaves_traces
     tells_beside_never
+    tells_of_many_calls
     takes_each_word
     questions_of_the_pages
     tells_how_far
@@ -188,6 +189,17 @@ begins_behind() {
     run 0 "$(as_file echo never)" /dev/null "${words[@]}" --turns 100 --find 'end & waits sem' --from begun.txt
     # what must not come before came at the first line: that is no fault of the trace
     run 0 "$(as_file echo never)" /dev/null "${words[@]}" --turns 100 --find 'wai_sem(BUFFER) E_OK without wai_sem(FLASH) E_OK' --from begun.txt
+}
+
+# A script has 256 calls at most. T waits for ever at one of them, since nobody wakes it up, and does not come to those behind it: eight of ten are told, and how
+# many more there are, whatever the limit of lines; and the last call alone.
+tells_of_many_calls() {
+    printf 'PROCESSORS(1);\nDEF_CLASS(C, 1, {1});\nCLASS(C) { CRE_TSK(T, {TA_ACT, 0, main, 1, 4096, NULL}); }\n' > sleeps.cfg
+    { echo script main && yes 'get_tid()' | head -n 245 && echo 'slp_tsk()' && yes 'get_pid()' | head -n 10 && echo end; } > ten.txt
+    { printf 'fmpsim: question: no order makes call %s of main: get_pid()\n' {247..254} && echo 'fmpsim: question: nor 2 more calls of the scripts'; } > ten.errors
+    run 0 "$(as_file echo never)" ten.errors explore sleeps.cfg ten.txt --ticks 0 --turns 1001 --find E_PAR
+    { echo script main && yes 'get_tid()' | head -n 254 && printf 'slp_tsk()\nsns_ctx()\nend\n'; } > last.txt
+    run 0 "$(as_file echo never)" "$(as_file echo 'fmpsim: question: no order makes call 256 of main: sns_ctx()')" explore sleeps.cfg last.txt --ticks 0 --turns 1000 --find E_PAR
 }
 
 # leaves_traces: a search that came to its last line leaves the trace of each place that was found there, and what is answered from each of
