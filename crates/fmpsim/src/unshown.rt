@@ -3,7 +3,7 @@ use crate::patterns::put_item;
 use crate::progress::ProgressLine;
 use fmp_cli_explore::{Bounds, ExploreRequest};
 use fmp_run_explore::{Finding, Layer, Outcome, Progress};
-use fmp_search_pattern::{Moment, Part, Question, Step};
+use fmp_search_pattern::{Item, Moment, Part, Question, Step};
 use fmp_search_question::read_question;
 use std::alloc::{AllocError, Global};
 use std::rt::Clock;
@@ -67,14 +67,42 @@ fn is_spurious(pattern: &[u8]) -> bool {
         || words.contains("ipi held"))
 }
 
-/// Whether a question asks for such an interrupt.
+/// Whether an item is such a pattern, also behind `not`.
+fn is_item_spurious(alloc: Global, item: &Item) -> bool {
+    let mut text = Vec::new(alloc);
+    put_item(alloc, &mut text, item).is_ok() && is_spurious(text.as_slice())
+}
+
+/// Whether a part has such a pattern.
+fn has_part_spurious(alloc: Global, part: &Part) -> bool {
+    part.items()
+        .iter()
+        .any(|item| is_item_spurious(alloc, item))
+}
+
+/// Whether a moment has such a pattern.
+fn has_moment_spurious(alloc: Global, moment: &Moment) -> bool {
+    moment
+        .parts()
+        .iter()
+        .any(|part| has_part_spurious(alloc, part))
+}
+
+/// Whether a step has such a pattern, or what may not come before it.
+fn has_step_spurious(alloc: Global, step: &Step) -> bool {
+    let is_without = match &step.without {
+        Some(moment) => has_moment_spurious(alloc, moment),
+        None => false,
+    };
+    is_without || has_moment_spurious(alloc, &step.moment)
+}
+
+/// Whether a question has such a pattern.
 fn asks_spurious(alloc: Global, question: &Question) -> bool {
-    question.steps().iter().any(|step| {
-        let patterns = patterns_of(alloc, &step.moment).unwrap_or(Vec::new(alloc));
-        patterns
-            .iter()
-            .any(|pattern| is_spurious(pattern.as_slice()))
-    })
+    question
+        .steps()
+        .iter()
+        .any(|step| has_step_spurious(alloc, step))
 }
 
 /// Whether something is told of what was found: of a question that no order shows, and that is more than one pattern or asks for interrupts which
