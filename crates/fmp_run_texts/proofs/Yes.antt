@@ -55,7 +55,7 @@ answered_prints config_text event_text trace c is valid names_valid a =
     let lists = reading_of-spelled c.names event_text a.events names_valid spelled in
     own_trace c trace a.events valid names_valid (rw (← valid.same_processors) (reading_on c.names event_text a.events lists)) (reading_in_bits c.names event_text a.events names_valid lists)
     spelled.few (subst (λ (s : Setup). trace ≡ lines_from s.names 1 (answers numbered (booted s) a.events)) same
-        (a.prints ∙ ap (lines_from a.config.names 1) (records_are_answers a.config a.events a.records a.headline)))
+    (a.prints ∙ ap (lines_from a.config.names 1) (records_are_answers a.config a.events a.records a.headline)))
 
 -- so does a trace that is one of the machine's own
 pub own_prints : (config_text trace : List ℕ) (c : Setup) → SaysConfig config_text c → (own : IsOwn config_text trace) → PrintsAnswers c trace own.events
