@@ -34,6 +34,7 @@ lists() {
     done
     count "$each" list
     listed_deeds
+    listed_texts
     listed_words
     listed_names
     listed_faults
@@ -179,6 +180,26 @@ listed_deeds() {
     count "$each" list '# each call'
 }
 
+# Of each call, statement, fault and word is told what told.txt has, word for word, which was written by hand, and of a call also what deeds.txt has. The list
+# has under its headings the first line of each call, statement and fault.
+listed_texts() {
+    local name each=yes texts=$top/tests/program/told.txt
+    for name in $(grep -oE '^[A-Za-z][A-Za-z0-9_]*' "$texts"); do
+        play list "$name"
+        grep -vE '^  (does|answers): ' output >> told
+    done
+    diff "$texts" told || each=no
+    {
+        echo 'Service calls:' && grep -E '^[a-z]+_[a-z]+' "$texts"
+        printf '\n%s\n' 'Statements of a configuration:' && grep -E '^[A-Z_]+\(' "$texts"
+        printf '\n%s\n' 'Faults of a configuration:' && grep -E '^F[0-9]+ ' "$texts"
+        printf '\n%s\n' 'Faults of events, scripts and traces:' && grep -E '^E[0-9]+ ' "$texts"
+    } > whole
+    play list
+    diff whole output || each=no
+    count "$each" list '# each text'
+}
+
 # Each word of a trace in docs/FORMATS.md, each code and each attribute is told, in two lines.
 listed_words() {
     local word each=yes
@@ -249,7 +270,8 @@ left_out_names() {
         rcv_pdq prcv_pdq trcv_pdq CRE_PDQ snd_mbf psnd_mbf tsnd_mbf rcv_mbf prcv_mbf trcv_mbf CRE_MBF get_mpl pget_mpl tget_mpl rel_mpl
         CRE_MPL ras_tex iras_tex dis_tex ena_tex sns_tex DEF_TEX sta_ovr ista_ovr stp_ovr istp_ovr DEF_OVR dis_int ena_int chg_ipm get_ipm
         CFG_INT DEF_INH ATT_ISR xsns_dpn xsns_xpn DEF_EXC {acre,del,ref}_{tsk,sem,flg,dtq,mpf,cyc,alm,spn} ini_{sem,flg,dtq,mpf,mtx}
-        set_tim get_tim get_utm isig_tim frsm_tsk get_inf dis_wai idis_wai ena_wai iena_wai sns_ker ext_ker ATT_INI ATT_TER TMO_NBLK)
+        set_tim get_tim get_utm isig_tim frsm_tsk get_inf dis_wai idis_wai ena_wai iena_wai sns_ker ext_ker ATT_INI ATT_TER TMO_NBLK {get,mget}_{lod,nth}
+        {ras,dis,ena,sns}_ter adj_tim fch_hrt {clr,ras,prb}_int CRE_ISR)
     for name in "${names[@]}"; do
         play list "$name" && [ ! -s errors ] && [ "$(cat output)" = "fmpsim has no $name" ] || { each=no && echo "list $name"; }
     done
