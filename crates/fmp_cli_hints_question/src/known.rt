@@ -1,5 +1,5 @@
 //! What is told of a word of a question that is no name, no call, no code and no word of a trace.
-ghost use Rattle.std.specs.Prelude.{◌≡◌, ◌++◌, IfOk, OnOk, map};
+ghost use Rattle.std.specs.Prelude.{◌≡◌, IfOk, map};
 ghost use Rattle.std.specs.Option.{option_copied};
 ghost use Rattle.fmp_cli_help.specs.Near.{nearest};
 ghost use Rattle.fmp_cli_hints_question.specs.Known as spec;
@@ -46,25 +46,17 @@ fn near_known<'a>(
 }
 
 /// Whether nothing is told of a run: it has a star, begins with a digit, is empty, or is the name of an object.
-#[tactic(auto, unfolding(crate::specs::Known::is_settled))]
-fn is_settled(names: &Names, run: &[u8]) -> bool
-    ensures { result ≡ spec.is_settled names.now run.now }
-{
+fn is_settled(names: &Names, run: &[u8]) -> bool {
     has_star(run) || begins_with_digit(run) || names.contains_object(run)
 }
 
 /// What is told of a function, after its name.
-#[tactic(auto, unfolding(crate::specs::Known::function_words))]
-fn function_words() -> &'static [u8]
-    ensures { result.now ≡ spec.function_words }
-{
+fn function_words() -> &'static [u8] {
     b" is a function. In a line stands the name of the task or the handler.\n"
 }
 
 /// Adds the name that is near to a run, unless it is the run itself.
-fn put_other(out: &mut Vec<u8>, run: &[u8], found: Option<&[u8]>) -> Result<(), AllocError>
-    ensures { OnOk result (out.new.items ≡ out.old.items ++ spec.other_line run.now (option_copied found.entry)) }
-{
+fn put_other(out: &mut Vec<u8>, run: &[u8], found: Option<&[u8]>) -> Result<(), AllocError> {
     match found {
         Some(name) if name != run => put_near(out, found),
         _ => Ok(()),
@@ -72,15 +64,12 @@ fn put_other(out: &mut Vec<u8>, run: &[u8], found: Option<&[u8]>) -> Result<(), 
 }
 
 /// Adds what is told of a name that stands in no line.
-#[tactic(auto, unfolding(crate::specs::Known::name_hint))]
 fn put_name_hint(
     alloc: Global,
     out: &mut Vec<u8>,
     names: &Names,
     run: &[u8],
-) -> Result<(), AllocError>
-    ensures { OnOk result (out.new.items ≡ out.old.items ++ spec.name_hint names.now run.now) }
-{
+) -> Result<(), AllocError> {
     if names.contains_function(run) {
         out.extend_from_slice(b"  ")?;
         out.extend_from_slice(run)?;
@@ -90,10 +79,7 @@ fn put_name_hint(
 }
 
 /// Adds which processors there are, where a run is none of them.
-#[tactic(auto, unfolding(crate::specs::Known::processor_hint))]
-fn put_processor_hint(out: &mut Vec<u8>, names: &Names, run: &[u8]) -> Result<(), AllocError>
-    ensures { OnOk result (out.new.items ≡ out.old.items ++ spec.processor_hint names.now run.now) }
-{
+fn put_processor_hint(out: &mut Vec<u8>, names: &Names, run: &[u8]) -> Result<(), AllocError> {
     if processor_in(names, run).is_ok() {
         return Ok(());
     }
@@ -102,15 +88,12 @@ fn put_processor_hint(out: &mut Vec<u8>, names: &Names, run: &[u8]) -> Result<()
 }
 
 /// Adds what is told of letters, digits, `_` and stars in a row.
-#[tactic(auto, unfolding(crate::specs::Known::run_hint))]
 fn put_run_hint(
     alloc: Global,
     out: &mut Vec<u8>,
     names: &Names,
     run: &[u8],
-) -> Result<(), AllocError>
-    ensures { OnOk result (out.new.items ≡ out.old.items ++ spec.run_hint names.now run.now) }
-{
+) -> Result<(), AllocError> {
     if is_settled(names, run) {
         return Ok(());
     }
@@ -131,9 +114,7 @@ pub(crate) fn put_run_hints(
     out: &mut Vec<u8>,
     names: &Names,
     word: &[u8],
-) -> Result<(), AllocError>
-    ensures { OnOk result (out.new.items ≡ out.old.items ++ spec.run_hints names.now word.now) }
-{
+) -> Result<(), AllocError> {
     let mut rest = Some(word);
     while let Some(text) = rest {
         let (run, after) = cut_run(text);

@@ -1,9 +1,9 @@
 //! What stands beside a fault of a question: the question, a caret under the first byte of the word at fault, what is wanted there, and what is told
 //! of the word.
 //!
-//! The contract of [`question_context`] is one equation with `specs/Questions`, and what is told of a word says `specs/Known`: a name that is near, the
-//! number that a trace has in place of a constant, or what stands for a word of another language of patterns. What is told of a word that no line has
-//! after those before it says `specs/Lines`. That the question has the fault is taken from the caller.
+//! What is told of a word is a name that is near, the number that a trace has in place of a constant, or what stands for a word of another language of
+//! patterns. By contract a near name is a nearest one of those that a question may have (`specs/Known`); the texts that are told are only tested. That the
+//! question has the fault is taken from the caller.
 #![tactic(auto)]
 
 mod known;

@@ -1,7 +1,4 @@
 //! What is told of a word of a question that no line has after the words before it.
-ghost use Rattle.std.specs.Prelude.{◌≡◌, ◌++◌, OnOk};
-ghost use Rattle.std.specs.Option.{option_copied};
-ghost use Rattle.fmp_cli_hints_question.specs.Lines as spec;
 
 use crate::rows::LINE_ROWS;
 use fmp_bytes::{cut, following};
@@ -11,66 +8,44 @@ use fmp_codes::ArgumentKind;
 use std::alloc::AllocError;
 
 /// Adds what is told of the name of a call without its arguments.
-#[tactic(auto, unfolding(crate::specs::Lines::call_words))]
-fn put_call_words(out: &mut Vec<u8>, word: &[u8]) -> Result<(), AllocError>
-    ensures { OnOk result (out.new.items ≡ out.old.items ++ spec.call_words word.now) }
-{
+fn put_call_words(out: &mut Vec<u8>, word: &[u8]) -> Result<(), AllocError> {
     out.extend_from_slice(b"  A call has its arguments after it: write `")?;
     out.extend_from_slice(word)?;
     out.extend_from_slice(b"(*)`.\n")
 }
 
 /// What is told of a word with a comma before other bytes.
-#[tactic(auto, unfolding(crate::specs::Lines::comma_words))]
-fn comma_words() -> &'static [u8]
-    ensures { result.now ≡ spec.comma_words }
-{
+fn comma_words() -> &'static [u8] {
     b"  A blank stands after each comma, as in `snd_dtq(D1, 1)`.\n"
 }
 
 /// What is told of any word.
-#[tactic(auto, unfolding(crate::specs::Lines::star_words))]
-fn star_words() -> &'static [u8]
-    ensures { result.now ≡ spec.star_words }
-{
+fn star_words() -> &'static [u8] {
     b"  `*` stands for the words between, as in `P1 * tick taken`.\n"
 }
 
 /// What is told of a word that begins with a bracket.
-#[tactic(auto, unfolding(crate::specs::Lines::bracket_words))]
-fn bracket_words() -> &'static [u8]
-    ensures { result.now ≡ spec.bracket_words }
-{
+fn bracket_words() -> &'static [u8] {
     b"  A question has no brackets: `&` binds closer than `or`.\n"
 }
 
 /// What is told of a release without its code.
-#[tactic(auto, unfolding(crate::specs::Lines::release_words))]
-fn release_words() -> &'static [u8]
-    ensures { result.now ≡ spec.release_words }
-{
+fn release_words() -> &'static [u8] {
     b"  The code stands after the task: write `rel=T1:E_OK`, or `rel=T1:*` for any.\n"
 }
 
 /// Whether a word is a release without its code.
-fn is_bare_release(word: &[u8]) -> bool
-    ensures { result ≡ spec.is_bare_release word.now }
-{
+fn is_bare_release(word: &[u8]) -> bool {
     word.starts_with(b"rel=") && cut(b':', word).1.is_none()
 }
 
 /// What is told of a call that has a number for an object.
-#[tactic(auto, unfolding(crate::specs::Lines::number_words))]
-fn number_words() -> &'static [u8]
-    ensures { result.now ≡ spec.number_words }
-{
+fn number_words() -> &'static [u8] {
     b"  A line has the name of an object in place of its number, and `TSK_SELF` for the caller.\n"
 }
 
 /// Whether the first argument of a call is an object.
-fn takes_object(kinds: &[ArgumentKind]) -> bool
-    ensures { result ≡ spec.takes_object kinds.now }
-{
+fn takes_object(kinds: &[ArgumentKind]) -> bool {
     match kinds {
         [ArgumentKind::Object(_), ..] => true,
         _ => false,
@@ -78,9 +53,7 @@ fn takes_object(kinds: &[ArgumentKind]) -> bool
 }
 
 /// Whether text after a `(` begins with a digit.
-fn begins_with_digit(text: Option<&[u8]>) -> bool
-    ensures { result ≡ spec.begins_with_digit (option_copied text.entry) }
-{
+fn begins_with_digit(text: Option<&[u8]>) -> bool {
     match text {
         Some([first, ..]) => first.is_ascii_digit(),
         _ => false,
@@ -88,9 +61,7 @@ fn begins_with_digit(text: Option<&[u8]>) -> bool
 }
 
 /// Whether a word is a call that has a number for an object.
-fn is_numbered(word: &[u8]) -> bool
-    ensures { result ≡ spec.is_numbered word.now }
-{
+fn is_numbered(word: &[u8]) -> bool {
     let (name, arguments) = cut(b'(', word);
     match find_call(name) {
         Some(call) => takes_object(form(call).kinds) && begins_with_digit(arguments),
@@ -99,9 +70,7 @@ fn is_numbered(word: &[u8]) -> bool
 }
 
 /// What is told of a word that is no call and has no comma.
-fn other_hint(word: &[u8]) -> &'static [u8]
-    ensures { result.now ≡ spec.other_hint word.now }
-{
+fn other_hint(word: &[u8]) -> &'static [u8] {
     if following(b'(', word).is_some() {
         bracket_words()
     } else if is_bare_release(word) {
@@ -114,9 +83,7 @@ fn other_hint(word: &[u8]) -> &'static [u8]
 }
 
 /// Whether a comma of a word stands before other bytes. After a `=` there may be such commas.
-fn is_joined(word: &[u8]) -> bool
-    ensures { result ≡ spec.is_joined word.now }
-{
+fn is_joined(word: &[u8]) -> bool {
     match cut(b',', word).1 {
         None | Some([]) => false,
         Some([_, ..]) => cut(b'=', word).1.is_none(),
@@ -124,10 +91,7 @@ fn is_joined(word: &[u8]) -> bool
 }
 
 /// Adds what the form of a word tells.
-#[tactic(auto, unfolding(crate::specs::Lines::form_hint))]
-fn put_form_hint(out: &mut Vec<u8>, word: &[u8]) -> Result<(), AllocError>
-    ensures { OnOk result (out.new.items ≡ out.old.items ++ spec.form_hint word.now) }
-{
+fn put_form_hint(out: &mut Vec<u8>, word: &[u8]) -> Result<(), AllocError> {
     if find_call(word).is_some() {
         put_call_words(out, word)
     } else if is_joined(word) {
@@ -138,9 +102,7 @@ fn put_form_hint(out: &mut Vec<u8>, word: &[u8]) -> Result<(), AllocError>
 }
 
 /// Adds a row of the table, or without one what the form of the word tells.
-fn put_row_or_form(out: &mut Vec<u8>, word: &[u8], row: &[u8]) -> Result<(), AllocError>
-    ensures { OnOk result (out.new.items ≡ out.old.items ++ spec.row_or_form word.now row.now) }
-{
+fn put_row_or_form(out: &mut Vec<u8>, word: &[u8], row: &[u8]) -> Result<(), AllocError> {
     match row {
         [] => put_form_hint(out, word),
         [_, ..] => out.extend_from_slice(row),
@@ -148,9 +110,6 @@ fn put_row_or_form(out: &mut Vec<u8>, word: &[u8], row: &[u8]) -> Result<(), All
 }
 
 /// Adds what is told of a word that no line has after the words before it.
-#[tactic(auto, unfolding(crate::specs::Lines::line_hint))]
-pub(crate) fn put_line_hint(out: &mut Vec<u8>, word: &[u8]) -> Result<(), AllocError>
-    ensures { OnOk result (out.new.items ≡ out.old.items ++ spec.line_hint word.now) }
-{
+pub(crate) fn put_line_hint(out: &mut Vec<u8>, word: &[u8]) -> Result<(), AllocError> {
     put_row_or_form(out, word, report_of(&LINE_ROWS, word))
 }

@@ -1,6 +1,4 @@
 //! What stands beside a fault of a question.
-ghost use Rattle.std.specs.Prelude.{◌≡◌, ◌++◌, IfOk, OnOk};
-ghost use Rattle.fmp_cli_hints_question.specs.Questions as spec;
 
 use crate::known::put_run_hints;
 use crate::lines::put_line_hint;
@@ -11,9 +9,7 @@ use fmp_text::Names;
 use std::alloc::{AllocError, Global};
 
 /// What is wanted where a question has such a fault.
-fn wanted_at(fault: QuestionFault) -> &'static [u8]
-    ensures { result.now ≡ spec.words fault }
-{
+fn wanted_at(fault: QuestionFault) -> &'static [u8] {
     match fault {
         QuestionFault::BadWord => b"a word of printed bytes, with one blank between two words\n",
         QuestionFault::BadForm => {
@@ -30,9 +26,7 @@ fn wanted_at(fault: QuestionFault) -> &'static [u8]
 }
 
 /// The number of a fault of a question, from `E1` to `E9`.
-pub fn question_code(fault: QuestionFault) -> &'static str
-    ensures { result.now ≡ spec.code_of fault }
-{
+pub fn question_code(fault: QuestionFault) -> &'static str {
     match fault {
         QuestionFault::BadWord => "E1",
         QuestionFault::BadForm => "E2",
@@ -43,9 +37,7 @@ pub fn question_code(fault: QuestionFault) -> &'static str
 }
 
 /// The fault in words, as it is printed after its number.
-pub fn question_words(fault: QuestionFault) -> &'static str
-    ensures { result.now ≡ spec.words_of fault }
-{
+pub fn question_words(fault: QuestionFault) -> &'static str {
     match fault {
         QuestionFault::BadWord => "bad byte",
         QuestionFault::BadForm => "bad word",
@@ -59,37 +51,27 @@ pub fn question_words(fault: QuestionFault) -> &'static str
 pub const SIGNS: [u8; 11] = *b".[]^$+?\\|{}";
 
 /// Whether a byte means something in a regular expression.
-fn is_sign(byte: u8) -> bool
-    ensures { result ≡ spec.is_sign byte }
-{
+fn is_sign(byte: u8) -> bool {
     SIGNS.iter().any(|sign| *sign == byte)
 }
 
 /// Whether a word has a byte that means something in a regular expression.
-fn has_sign(word: &[u8]) -> bool
-    ensures { result ≡ spec.has_sign word.now }
-{
+fn has_sign(word: &[u8]) -> bool {
     word.iter().any(|byte| is_sign(*byte))
 }
 
 /// What is told of a word with a byte that means something in a regular expression.
-#[tactic(auto, unfolding(crate::specs::Questions::sign_words))]
-fn sign_words() -> &'static [u8]
-    ensures { result.now ≡ spec.sign_words }
-{
+fn sign_words() -> &'static [u8] {
     b"  A pattern is no regular expression: `*` alone stands for any bytes.\n"
 }
 
 /// Adds what is told of the word at fault.
-#[tactic(auto, unfolding(crate::specs::Questions::word_hint))]
 fn put_word_hint(
     alloc: Global,
     out: &mut Vec<u8>,
     names: &Names,
     word: &[u8],
-) -> Result<(), AllocError>
-    ensures { OnOk result (out.new.items ≡ out.old.items ++ spec.word_hint names.now word.now) }
-{
+) -> Result<(), AllocError> {
     if has_sign(word) {
         out.extend_from_slice(sign_words())
     } else {
@@ -98,10 +80,7 @@ fn put_word_hint(
 }
 
 /// Adds what is told of a word that stands there in no line.
-#[tactic(auto, unfolding(crate::specs::Questions::order_hint))]
-fn put_order_hint(out: &mut Vec<u8>, word: &[u8]) -> Result<(), AllocError>
-    ensures { OnOk result (out.new.items ≡ out.old.items ++ spec.order_hint word.now) }
-{
+fn put_order_hint(out: &mut Vec<u8>, word: &[u8]) -> Result<(), AllocError> {
     if has_sign(word) {
         out.extend_from_slice(sign_words())
     } else {
@@ -110,24 +89,17 @@ fn put_order_hint(out: &mut Vec<u8>, word: &[u8]) -> Result<(), AllocError>
 }
 
 /// What is told of `refused` beside a word.
-#[tactic(auto, unfolding(crate::specs::Questions::refused_words))]
-fn refused_words() -> &'static [u8]
-    ensures { result.now ≡ spec.refused_words }
-{
+fn refused_words() -> &'static [u8] {
     b"  `refused` is a pattern by itself: `&` comes between it and another, as in `refused & act_tsk(*)`.\n"
 }
 
 /// Whether the last word of a text that ends with a blank is `refused`.
-fn has_refused(text: &[u8]) -> bool
-    ensures { result ≡ spec.has_refused text.now }
-{
+fn has_refused(text: &[u8]) -> bool {
     text == b"refused ".as_slice() || text.ends_with(b" refused ")
 }
 
 /// Adds what is told of a word that no line has after the words before it.
-fn put_line_or_refused(out: &mut Vec<u8>, before: &[u8], word: &[u8]) -> Result<(), AllocError>
-    ensures { OnOk result (out.new.items ≡ out.old.items ++ spec.line_or_refused before.now word.now) }
-{
+fn put_line_or_refused(out: &mut Vec<u8>, before: &[u8], word: &[u8]) -> Result<(), AllocError> {
     if has_refused(before) {
         out.extend_from_slice(refused_words())
     } else {
@@ -136,17 +108,12 @@ fn put_line_or_refused(out: &mut Vec<u8>, before: &[u8], word: &[u8]) -> Result<
 }
 
 /// What is told of a question that begins with `deadlock`.
-#[tactic(auto, unfolding(crate::specs::Questions::deadlock_words))]
-fn deadlock_words() -> &'static [u8]
-    ensures { result.now ≡ spec.deadlock_words }
-{
+fn deadlock_words() -> &'static [u8] {
     b"  After `deadlock` stands nothing, or `but` and names of tasks with commas and no blanks between: `deadlock but T1,T2`.\n"
 }
 
 /// What is told in a question that begins so.
-fn deadlock_hint(before: &[u8]) -> &'static [u8]
-    ensures { result.now ≡ spec.deadlock_hint before.now }
-{
+fn deadlock_hint(before: &[u8]) -> &'static [u8] {
     if before.starts_with(b"deadlock ") {
         deadlock_words()
     } else {
@@ -155,9 +122,7 @@ fn deadlock_hint(before: &[u8]) -> &'static [u8]
 }
 
 /// What is told of a word that has no place there.
-fn form_or_refused(word: &[u8]) -> &'static [u8]
-    ensures { result.now ≡ spec.form_or_refused word.now }
-{
+fn form_or_refused(word: &[u8]) -> &'static [u8] {
     if word == b"refused".as_slice() {
         refused_words()
     } else {
@@ -166,7 +131,6 @@ fn form_or_refused(word: &[u8]) -> &'static [u8]
 }
 
 /// Adds what is told of a question with this fault, whose text goes on so after the words before the one at fault.
-#[tactic(auto, unfolding(crate::specs::Questions::hint))]
 fn put_hint(
     alloc: Global,
     out: &mut Vec<u8>,
@@ -174,9 +138,7 @@ fn put_hint(
     fault: QuestionFault,
     before: &[u8],
     text: &[u8],
-) -> Result<(), AllocError>
-    ensures { OnOk result (out.new.items ≡ out.old.items ++ spec.hint names.now fault before.now text.now) }
-{
+) -> Result<(), AllocError> {
     let (word, _rest) = cut(b' ', text);
     match fault {
         QuestionFault::BadWord => put_word_hint(alloc, out, names, word),
@@ -194,9 +156,7 @@ fn put_hint(
 }
 
 /// What is told of a question without a byte.
-fn empty_words(text: &[u8]) -> &'static [u8]
-    ensures { result.now ≡ spec.empty_words text.now }
-{
+fn empty_words(text: &[u8]) -> &'static [u8] {
     if text.is_empty() {
         b"  The question is empty.\n"
     } else {
@@ -206,16 +166,13 @@ fn empty_words(text: &[u8]) -> &'static [u8]
 
 /// What stands beside a fault of a question, which begins at this byte of its text, counted from 0: the question, a caret under that byte,
 /// what is wanted there, and what is told of the word that stands there. That the question has the fault is taken from the caller.
-#[tactic(auto, unfolding(crate::specs::Questions::question_context))]
 pub fn question_context(
     alloc: Global,
     names: &Names,
     text: &[u8],
     fault: QuestionFault,
     place: usize,
-) -> Result<Vec<u8>, AllocError>
-    ensures { IfOk result (λ out. out.items ≡ spec.question_context names.now text.now fault place) }
-{
+) -> Result<Vec<u8>, AllocError> {
     let mut out = Vec::new(alloc);
     let column = place.min(text.len());
     put_excerpt(&mut out, text, column)?;
