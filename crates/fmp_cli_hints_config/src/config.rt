@@ -1,7 +1,6 @@
 //! What stands beside a fault line of a configuration.
-ghost use Rattle.std.specs.Prelude.{◌≡◌, ◌≤◌, ◌++◌, length, OnOk, IfOk, IfSome};
+ghost use Rattle.std.specs.Prelude.{◌≤◌, length, IfSome};
 ghost use Rattle.fmp_config.specs.Limits.{most_bytes};
-ghost use Rattle.fmp_cli_hints_config.specs.Configs as spec;
 
 use crate::foreign::{foreign_spot, put_numbered, words_at};
 use crate::hints::put_word_hint;
@@ -18,8 +17,7 @@ use std::alloc::{AllocError, Global};
 
 /// How many bytes follow the last line feed.
 fn column_after(bytes: &[u8]) -> usize
-    ensures column { result ≡ spec.column_after 0 bytes.now }
-    ensures within { result ≤ length bytes.now }
+    ensures { result ≤ length bytes.now }
 {
     let mut column = 0;
     for byte in bytes {
@@ -33,10 +31,8 @@ fn column_after(bytes: &[u8]) -> usize
 }
 
 /// Adds the line of a place, and a caret under it.
-#[tactic(auto, unfolding(crate::specs::Configs::placed))]
 fn put_placed(out: &mut Vec<u8>, text: &[u8], place: usize) -> Result<(), AllocError>
     requires { place ≤ length text.now }
-    ensures { OnOk result (out.new.items ≡ out.old.items ++ spec.placed text.now place) }
 {
     let column = column_after(&text[..place]);
     let (line, _after) = cut(b'\n', &text[place - column..]);
@@ -44,10 +40,8 @@ fn put_placed(out: &mut Vec<u8>, text: &[u8], place: usize) -> Result<(), AllocE
 }
 
 /// The place from which on so many bytes are left.
-#[tactic(auto, unfolding(crate::specs::Configs::place_of))]
 fn place_of(text: &[u8], left: usize) -> Option<usize>
-    ensures place { result ≡ spec.place_of text.now left }
-    ensures within { IfSome result (λ place. place ≤ length text.now) }
+    ensures { IfSome result (λ place. place ≤ length text.now) }
 {
     if 0 < left && left <= text.len() {
         Some(text.len() - left)
@@ -57,9 +51,7 @@ fn place_of(text: &[u8], left: usize) -> Option<usize>
 }
 
 /// Whether a fault is told with the form of its statement.
-fn wants_form(kind: ConfigKind) -> bool
-    ensures { result ≡ spec.wants_form kind }
-{
+fn wants_form(kind: ConfigKind) -> bool {
     matches!(
         kind,
         ConfigKind::Syntax
@@ -70,9 +62,7 @@ fn wants_form(kind: ConfigKind) -> bool
 }
 
 /// Adds the form of a statement, after its label, if there is one.
-fn put_form(out: &mut Vec<u8>, name: Option<StatementName>) -> Result<(), AllocError>
-    ensures { OnOk result (out.new.items ≡ out.old.items ++ spec.form_of name) }
-{
+fn put_form(out: &mut Vec<u8>, name: Option<StatementName>) -> Result<(), AllocError> {
     match name {
         None => Ok(()),
         Some(name) => {
@@ -86,13 +76,11 @@ fn put_form(out: &mut Vec<u8>, name: Option<StatementName>) -> Result<(), AllocE
 fn is_formed(text: &[u8], place: usize, word: &[u8]) -> bool
     requires within { place ≤ length text.now }
     requires few { length text.now ≤ most_bytes }
-    ensures { result ≡ spec.is_formed text.now place word.now }
 {
     is_stray(text, place) || is_misplaced(text, place, word)
 }
 
 /// Adds the form of the statement at the place of a fault, if the fault is told with it.
-#[tactic(auto, unfolding(crate::specs::Configs::form_at))]
 fn put_form_at(
     out: &mut Vec<u8>,
     text: &[u8],
@@ -101,7 +89,6 @@ fn put_form_at(
 ) -> Result<(), AllocError>
     requires within { place ≤ length text.now }
     requires few { length text.now ≤ most_bytes }
-    ensures { OnOk result (out.new.items ≡ out.old.items ++ spec.form_at text.now place fault.now) }
 {
     if wants_form(fault.kind) && !is_formed(text, place, fault.word.as_bytes()) {
         put_form(out, statement_at(text, place, fault.word.as_bytes()))
@@ -111,7 +98,6 @@ fn put_form_at(
 }
 
 /// Adds the line in which a byte is missing after what stands before a place, a caret there, and the form of its statement.
-#[tactic(auto, unfolding(crate::specs::Configs::missed))]
 fn put_missed(
     out: &mut Vec<u8>,
     text: &[u8],
@@ -119,7 +105,6 @@ fn put_missed(
     missing: (StatementName, u8),
 ) -> Result<(), AllocError>
     requires { place ≤ length text.now }
-    ensures { OnOk result (out.new.items ≡ out.old.items ++ spec.missed text.now place missing) }
 {
     let (name, _byte) = missing;
     put_placed(out, text, end_of_text(&text[..place]))?;
@@ -127,7 +112,6 @@ fn put_missed(
 }
 
 /// Adds the line of the token at a place, a caret under it, and the form of its statement.
-#[tactic(auto, unfolding(crate::specs::Configs::refused))]
 fn put_refused(
     out: &mut Vec<u8>,
     text: &[u8],
@@ -136,17 +120,14 @@ fn put_refused(
 ) -> Result<(), AllocError>
     requires within { place ≤ length text.now }
     requires few { length text.now ≤ most_bytes }
-    ensures { OnOk result (out.new.items ≡ out.old.items ++ spec.refused text.now place fault.now) }
 {
     put_placed(out, text, place)?;
     put_form_at(out, text, place, fault)
 }
 
 /// Adds the line of a fault, with a caret where a token is at fault, or where one is missing.
-#[tactic(auto, unfolding(crate::specs::Configs::shown))]
 fn put_fault(out: &mut Vec<u8>, text: &[u8], fault: &ConfigFault) -> Result<(), AllocError>
     requires { length text.now ≤ most_bytes }
-    ensures { OnOk result (out.new.items ≡ out.old.items ++ spec.shown text.now fault.now) }
 {
     let Some(place) = place_of(text, fault.left) else {
         return put_numbered(out, text, fault.line);
@@ -158,7 +139,6 @@ fn put_fault(out: &mut Vec<u8>, text: &[u8], fault: &ConfigFault) -> Result<(), 
 }
 
 /// Adds what is told of the token at fault, of what is missing there, or of a character that no token has.
-#[tactic(auto, unfolding(crate::specs::Configs::report))]
 fn put_reported(
     alloc: Global,
     out: &mut Vec<u8>,
@@ -166,7 +146,6 @@ fn put_reported(
     fault: &ConfigFault,
 ) -> Result<(), AllocError>
     requires { length text.now ≤ most_bytes }
-    ensures { OnOk result (out.new.items ≡ out.old.items ++ spec.report text.now fault.now) }
 {
     let Some(place) = place_of(text, fault.left) else {
         return out.extend_from_slice(words_at(text, fault.line));
@@ -180,7 +159,6 @@ fn put_reported(
 /// What is told of the token at fault.
 fn report(alloc: Global, text: &[u8], fault: &ConfigFault) -> Result<Vec<u8>, AllocError>
     requires { length text.now ≤ most_bytes }
-    ensures { IfOk result (λ out. out.items ≡ spec.report text.now fault.now) }
 {
     let mut out = Vec::new(alloc);
     put_reported(alloc, &mut out, text, fault)?;
@@ -192,9 +170,7 @@ fn put_reported_or_advice(
     out: &mut Vec<u8>,
     report: &[u8],
     kind: ConfigKind,
-) -> Result<(), AllocError>
-    ensures { OnOk result (out.new.items ≡ out.old.items ++ spec.report_or_advice report.now kind) }
-{
+) -> Result<(), AllocError> {
     if report.is_empty() {
         put_config_advice(out, kind)
     } else {
@@ -203,15 +179,12 @@ fn put_reported_or_advice(
 }
 
 /// Adds what the line of this number looks like, where it has such a fault.
-#[tactic(auto, unfolding(crate::specs::Configs::likeness_at))]
 fn put_likeness_at(
     out: &mut Vec<u8>,
     text: &[u8],
     line: u32,
     kind: ConfigKind,
-) -> Result<(), AllocError>
-    ensures { OnOk result (out.new.items ≡ out.old.items ++ spec.likeness_at text.now line kind) }
-{
+) -> Result<(), AllocError> {
     if line == 0 {
         return Ok(());
     }
@@ -224,14 +197,12 @@ fn put_likeness_at(
 /// What stands beside a fault of a configuration: the line, and where a token is at fault a caret under its first byte, or where one
 /// is missing there, and the form of the statement, what is told of the token or else what to do about such a fault, and what the line or the text
 /// looks like where it looks like another one. Where the token stands is taken from the fault.
-#[tactic(auto, unfolding(crate::specs::Configs::config_context))]
 pub fn config_context(
     alloc: Global,
     text: &[u8],
     fault: &ConfigFault,
 ) -> Result<Vec<u8>, AllocError>
     requires { length text.now ≤ most_bytes }
-    ensures { IfOk result (λ out. out.items ≡ spec.config_context text.now fault.now) }
 {
     let mut out = Vec::new(alloc);
     put_fault(&mut out, text, fault)?;
@@ -244,8 +215,7 @@ pub fn config_context(
 
 /// How many line feeds there are.
 fn line_feeds(bytes: &[u8]) -> usize
-    ensures count { result ≡ spec.line_feeds 0 bytes.now }
-    ensures within { result ≤ length bytes.now }
+    ensures { result ≤ length bytes.now }
 {
     let mut count = 0;
     for byte in bytes {
@@ -257,10 +227,8 @@ fn line_feeds(bytes: &[u8]) -> usize
 }
 
 /// The line and the column of a place.
-#[tactic(auto, unfolding(crate::specs::Configs::spot_at))]
 fn spot_at(text: &[u8], place: usize) -> Spot
     requires { place ≤ length text.now }
-    ensures { result ≡ spec.spot_at text.now place }
 {
     let before = &text[..place];
     Spot::Column(line_feeds(before) + 1, column_after(before) + 1)
@@ -268,10 +236,8 @@ fn spot_at(text: &[u8], place: usize) -> Spot
 
 /// Where the fault of a configuration is, as far as that is known: where [`config_context`] shows a caret at that byte, in its line, and
 /// else in the line of the fault. Where the token stands is taken from the fault.
-#[tactic(auto, unfolding(crate::specs::Configs::config_spot))]
 pub fn config_spot(text: &[u8], fault: &ConfigFault) -> Spot
     requires { length text.now ≤ most_bytes }
-    ensures { result ≡ spec.config_spot text.now fault.now }
 {
     let Some(place) = place_of(text, fault.left) else {
         return foreign_spot(text, fault.line);

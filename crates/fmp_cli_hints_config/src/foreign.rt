@@ -1,7 +1,5 @@
 //! A character that is not ASCII, in a line in which no token is at fault.
-ghost use Rattle.std.specs.Prelude.{◌≡◌, ◌<◌, ◌++◌, length, position, OnOk, IfSome};
-ghost use Rattle.std.specs.Option.{option_copied};
-ghost use Rattle.fmp_cli_hints_config.specs.Foreign as spec;
+ghost use Rattle.std.specs.Prelude.{◌<◌, length, IfSome};
 
 use fmp_bytes::Class;
 use fmp_cli_diagnostics::Spot;
@@ -9,25 +7,20 @@ use fmp_cli_hints::{foreign_words, line_after, put_excerpt, put_line, without_ma
 use std::alloc::AllocError;
 
 /// Whether a byte is printed ASCII or a tab, and neither a quotation mark nor a slash, after which a string or a comment may begin.
-fn is_plain(byte: u8) -> bool
-    ensures { result ≡ spec.is_plain byte }
-{
+fn is_plain(byte: u8) -> bool {
     (Class::Printed.has(byte) || byte == b'\t') && byte != b'"' && byte != b'/'
 }
 
 /// The first byte of a line that is not plain.
 fn unplain(line: &[u8]) -> Option<usize>
-    ensures place { result ≡ position spec.is_unplain line.now }
-    ensures within { IfSome result (λ i. i < length line.now) }
+    ensures { IfSome result (λ i. i < length line.now) }
 {
     line.iter().position(|byte| !is_plain(*byte))
 }
 
 /// The column of the first byte of a line that is not ASCII, where no string and no comment can have begun before it.
-#[tactic(auto, unfolding(crate::specs::Foreign::foreign_column))]
 fn foreign_column(line: &[u8]) -> Option<usize>
-    ensures column { result ≡ spec.foreign_column line.now }
-    ensures within { IfSome result (λ i. i < length line.now) }
+    ensures { IfSome result (λ i. i < length line.now) }
 {
     let column = unplain(line)?;
     if line[column] < 0x80 {
@@ -37,10 +30,7 @@ fn foreign_column(line: &[u8]) -> Option<usize>
 }
 
 /// The line of this number from 1, if there is one, without a byte order mark before it.
-#[tactic(auto, unfolding(crate::specs::Foreign::line_at))]
-fn line_at(text: &[u8], line: u32) -> Option<&[u8]>
-    ensures { option_copied result ≡ spec.line_at text.now line }
-{
+fn line_at(text: &[u8], line: u32) -> Option<&[u8]> {
     if line == 0 {
         return None;
     }
@@ -49,10 +39,7 @@ fn line_at(text: &[u8], line: u32) -> Option<&[u8]>
 }
 
 /// Adds a line, with a caret under the first byte that is not ASCII, if it has one.
-#[tactic(auto, unfolding(crate::specs::Foreign::line_shown_so))]
-fn put_shown(out: &mut Vec<u8>, line: &[u8]) -> Result<(), AllocError>
-    ensures { OnOk result (out.new.items ≡ out.old.items ++ spec.line_shown_so line.now) }
-{
+fn put_shown(out: &mut Vec<u8>, line: &[u8]) -> Result<(), AllocError> {
     match foreign_column(line) {
         Some(column) => put_excerpt(out, line, column),
         None => put_line(out, line, 0),
@@ -60,10 +47,7 @@ fn put_shown(out: &mut Vec<u8>, line: &[u8]) -> Result<(), AllocError>
 }
 
 /// Adds the line of this number from 1, if there is one, with a caret under the first byte that is not ASCII, if it has one.
-#[tactic(auto, unfolding(crate::specs::Foreign::numbered))]
-pub(crate) fn put_numbered(out: &mut Vec<u8>, text: &[u8], line: u32) -> Result<(), AllocError>
-    ensures { OnOk result (out.new.items ≡ out.old.items ++ spec.numbered text.now line) }
-{
+pub(crate) fn put_numbered(out: &mut Vec<u8>, text: &[u8], line: u32) -> Result<(), AllocError> {
     match line_at(text, line) {
         Some(line) => put_shown(out, line),
         None => Ok(()),
@@ -71,10 +55,7 @@ pub(crate) fn put_numbered(out: &mut Vec<u8>, text: &[u8], line: u32) -> Result<
 }
 
 /// What is told of the first byte of a line that is not ASCII.
-#[tactic(auto, unfolding(crate::specs::Foreign::words_in))]
-fn words_in(line: &[u8]) -> &'static [u8]
-    ensures { result.now ≡ spec.words_in line.now }
-{
+fn words_in(line: &[u8]) -> &'static [u8] {
     match foreign_column(line) {
         Some(column) => foreign_words(&line[column..]),
         None => b"",
@@ -82,10 +63,7 @@ fn words_in(line: &[u8]) -> &'static [u8]
 }
 
 /// What is told of the first byte that is not ASCII of the line of this number from 1.
-#[tactic(auto, unfolding(crate::specs::Foreign::words_at))]
-pub(crate) fn words_at(text: &[u8], line: u32) -> &'static [u8]
-    ensures { result.now ≡ spec.words_at text.now line }
-{
+pub(crate) fn words_at(text: &[u8], line: u32) -> &'static [u8] {
     match line_at(text, line) {
         Some(line) => words_in(line),
         None => b"",
@@ -93,10 +71,7 @@ pub(crate) fn words_at(text: &[u8], line: u32) -> &'static [u8]
 }
 
 /// Where the first byte that is not ASCII stands in the line of this number from 1.
-#[tactic(auto, unfolding(crate::specs::Foreign::foreign_spot))]
-pub(crate) fn foreign_spot(text: &[u8], line: u32) -> Spot
-    ensures { result ≡ spec.foreign_spot text.now line }
-{
+pub(crate) fn foreign_spot(text: &[u8], line: u32) -> Spot {
     let Some(shown) = line_at(text, line) else {
         return Spot::of_line(line);
     };

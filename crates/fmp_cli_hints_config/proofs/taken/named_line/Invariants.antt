@@ -1,14 +1,10 @@
-use Rattle.std.proofs.Common.{◌≡◌, ◌+◌, ◌<◌, ◌^◌, false, None, length}
-use Rattle.fmp_cli_hints_config.specs.Taken.{named_from}
+use Rattle.std.proofs.Common.{◌+◌, ◌<◌, ◌^◌, length}
 use Rattle.fmp_cli_hints_config.specs.Opened.{depth_in}
-use Rattle.fmp_config_tokens.specs.Lexing.{lexed_text}
 use Rattle.fmp_cli_hints_config.proofs.taken.named_line.Given as goal
 
+-- no more parentheses are open than tokens were read
 abbrev pub invariant-loop-token : goal.invariant-loop-token
-invariant-loop-token l = record {
-  line : named_from l.word l.line l.inside l.opened l.lexer.lexemes ≡ named_from l.fn.word None false None (lexed_text l.fn.text).lexemes;
-  depth : depth_in l.opened + length l.lexer.lexemes < 2 ^ 64;
-}
+invariant-loop-token l = depth_in l.opened + length l.lexer.lexemes < 2 ^ 64
 
 abbrev pub decreases-loop-token : goal.decreases-loop-token
 decreases-loop-token l = length l.lexer.lexemes
