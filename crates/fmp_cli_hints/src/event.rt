@@ -1,5 +1,5 @@
 //! The first byte of an event's line that is at fault.
-ghost use Rattle.std.specs.Prelude.{◌≡◌, IfOk, option_map};
+ghost use Rattle.std.specs.Prelude.{◌≡◌, ◌≤◌, length};
 ghost use Rattle.fmp_cli_hints.specs.Contexts as contexts;
 ghost use Rattle.fmp_cli_hints.specs.Places as spec;
 
@@ -77,22 +77,27 @@ pub fn event_place<'a>(names: &Names, line: &'a [u8]) -> Walk<'a>
     }
 }
 
+/// How many bytes of a line stand before the place.
+pub(crate) fn column_of(line: &[u8], walk: &Walk<'_>) -> usize
+    ensures column { result ≡ contexts.column_of line.now walk.now }
+    ensures within { result ≤ length line.now }
+{
+    line.len().saturating_sub(walk.rest().len())
+}
+
 /// What stands beside a line: the line, a caret under the place, and what is wanted there, if anything is, with what is told of the word
 /// that stands there.
-#[tactic(auto, unfolding(crate::specs::Contexts::context_at))]
 pub(crate) fn context_at(
     alloc: Global,
     names: &Names,
     line: &[u8],
     walk: &Walk<'_>,
-) -> Result<Option<Vec<u8>>, AllocError>
-    ensures { IfOk result (λ found. option_map (λ text. text.items) found ≡ contexts.context_at names.now line.now walk.now) }
-{
+) -> Result<Option<Vec<u8>>, AllocError> {
     let Some(wanted) = walk.wanted() else {
         return Ok(None);
     };
     let mut out = Vec::new(alloc);
-    put_excerpt(&mut out, line, line.len().saturating_sub(walk.rest().len()))?;
+    put_excerpt(&mut out, line, column_of(line, walk))?;
     put_wanted(&mut out, names, wanted)?;
     put_hint(alloc, &mut out, names, wanted, walk.rest())?;
     Ok(Some(out))

@@ -1,6 +1,5 @@
 //! A line as it is shown, with a caret under one of its bytes.
-ghost use Rattle.std.specs.Prelude.{◌≡◌, ◌++◌, ◌≤◌, length, replicate, OnOk};
-ghost use Rattle.fmp_cli_hints.specs.Excerpts as spec;
+ghost use Rattle.std.specs.Prelude.{◌≤◌, length};
 
 use fmp_bytes::Class;
 use std::alloc::AllocError;
@@ -12,10 +11,7 @@ const MOST_SHOWN: usize = 200;
 const BEFORE: usize = 100;
 
 /// A byte as it is shown: a tab is a blank, and what is not printed is `?`.
-#[tactic(auto, unfolding(crate::specs::Excerpts::shown_byte))]
-fn shown_byte(byte: u8) -> u8
-    ensures { result ≡ spec.shown_byte byte }
-{
+fn shown_byte(byte: u8) -> u8 {
     if byte == b'\t' {
         b' '
     } else if Class::Printed.has(byte) {
@@ -26,9 +22,7 @@ fn shown_byte(byte: u8) -> u8
 }
 
 /// Adds bytes as they are shown.
-fn put_shown(out: &mut Vec<u8>, bytes: &[u8]) -> Result<(), AllocError>
-    ensures { OnOk result (out.new.items ≡ out.old.items ++ spec.shown_bytes bytes.now) }
-{
+fn put_shown(out: &mut Vec<u8>, bytes: &[u8]) -> Result<(), AllocError> {
     for byte in bytes {
         out.push(shown_byte(*byte))?;
     }
@@ -36,9 +30,7 @@ fn put_shown(out: &mut Vec<u8>, bytes: &[u8]) -> Result<(), AllocError>
 }
 
 /// Adds so many blanks.
-fn put_blanks(out: &mut Vec<u8>, count: usize) -> Result<(), AllocError>
-    ensures { OnOk result (out.new.items ≡ out.old.items ++ replicate count 32) }
-{
+fn put_blanks(out: &mut Vec<u8>, count: usize) -> Result<(), AllocError> {
     for _step in 0..count {
         out.push(b' ')?;
     }
@@ -46,24 +38,18 @@ fn put_blanks(out: &mut Vec<u8>, count: usize) -> Result<(), AllocError>
 }
 
 /// What stands before a line, whether or not its beginning is cut off.
-fn margin(cut: bool) -> &'static [u8]
-    ensures { result.now ≡ spec.margin cut }
-{
+fn margin(cut: bool) -> &'static [u8] {
     if cut { b".." } else { b"  " }
 }
 
 /// What stands after a line, whether or not its end is cut off.
-fn tail(cut: bool) -> &'static [u8]
-    ensures { result.now ≡ spec.tail cut }
-{
+fn tail(cut: bool) -> &'static [u8] {
     if cut { b"..\n" } else { b"\n" }
 }
 
 /// The first byte that is shown.
-#[tactic(auto, unfolding(crate::specs::Excerpts::start_of))]
 fn start_of(length: usize, column: usize) -> usize
     requires { column ≤ length }
-    ensures start { result ≡ spec.start_of length column }
     ensures within { result ≤ length }
     ensures before { result ≤ column }
 {
@@ -75,10 +61,8 @@ fn start_of(length: usize, column: usize) -> usize
 }
 
 /// The byte after those that are shown.
-#[tactic(auto, unfolding(crate::specs::Excerpts::end_of))]
 fn end_of(length: usize, start: usize) -> usize
     requires { start ≤ length }
-    ensures end { result ≡ spec.end_of length start }
     ensures within { result ≤ length }
     ensures following { start ≤ result }
 {
@@ -90,10 +74,8 @@ fn end_of(length: usize, start: usize) -> usize
 }
 
 /// Adds a line as it is shown from its byte `start` on: at most 200 bytes, with `..` where some are cut off.
-#[tactic(auto, unfolding(crate::specs::Excerpts::line_shown))]
 pub fn put_line(out: &mut Vec<u8>, line: &[u8], start: usize) -> Result<(), AllocError>
     requires { start ≤ length line.now }
-    ensures { OnOk result (out.new.items ≡ out.old.items ++ spec.line_shown line.now start) }
 {
     let end = end_of(line.len(), start);
     out.extend_from_slice(margin(0 < start))?;
@@ -102,20 +84,15 @@ pub fn put_line(out: &mut Vec<u8>, line: &[u8], start: usize) -> Result<(), Allo
 }
 
 /// Adds the line of a caret, under the shown byte that has so many before it.
-#[tactic(auto, unfolding(crate::specs::Excerpts::caret_line))]
-fn put_caret(out: &mut Vec<u8>, count: usize) -> Result<(), AllocError>
-    ensures { OnOk result (out.new.items ≡ out.old.items ++ spec.caret_line count) }
-{
+fn put_caret(out: &mut Vec<u8>, count: usize) -> Result<(), AllocError> {
     out.extend_from_slice(b"  ")?;
     put_blanks(out, count)?;
     out.extend_from_slice(b"^\n")
 }
 
 /// Adds a line as it is shown, and a caret under the byte of this column, which counts from 0.
-#[tactic(auto, unfolding(crate::specs::Excerpts::excerpt))]
 pub fn put_excerpt(out: &mut Vec<u8>, line: &[u8], column: usize) -> Result<(), AllocError>
     requires { column ≤ length line.now }
-    ensures { OnOk result (out.new.items ≡ out.old.items ++ spec.excerpt line.now column) }
 {
     let start = start_of(line.len(), column);
     put_line(out, line, start)?;

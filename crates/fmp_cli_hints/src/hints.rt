@@ -1,5 +1,5 @@
 //! What is told of the word at fault, beside what is wanted in its place.
-ghost use Rattle.std.specs.Prelude.{◌≡◌, ◌++◌, [], ◌∷◌, None, OnOk, IfOk};
+ghost use Rattle.std.specs.Prelude.{◌≡◌, [], ◌∷◌, None, IfOk};
 ghost use Rattle.std.specs.Option.{option_copied};
 ghost use Rattle.fmp_codes.specs.declared.kinds.NameKind.TheVariants.{Object};
 ghost use Rattle.fmp_cli_hints.specs.Hints as spec;
@@ -18,9 +18,7 @@ use itoa::Buffer;
 use std::alloc::{AllocError, Global};
 
 /// Adds the name that may be meant, if there is one.
-pub fn put_near(out: &mut Vec<u8>, name: Option<&[u8]>) -> Result<(), AllocError>
-    ensures { OnOk result (out.new.items ≡ out.old.items ++ spec.near_line (option_copied name.entry)) }
-{
+pub fn put_near(out: &mut Vec<u8>, name: Option<&[u8]>) -> Result<(), AllocError> {
     let Some(name) = name else {
         return Ok(());
     };
@@ -30,10 +28,7 @@ pub fn put_near(out: &mut Vec<u8>, name: Option<&[u8]>) -> Result<(), AllocError
 }
 
 /// Adds that a call is left out, or the nearest one to a word that is none.
-#[tactic(auto, unfolding(crate::specs::Hints::call_hint))]
-fn put_call_hint(alloc: Global, out: &mut Vec<u8>, word: &[u8]) -> Result<(), AllocError>
-    ensures { OnOk result (out.new.items ≡ out.old.items ++ spec.call_hint word.now) }
-{
+fn put_call_hint(alloc: Global, out: &mut Vec<u8>, word: &[u8]) -> Result<(), AllocError> {
     if is_left_out(word) {
         out.extend_from_slice(b"  ")?;
         return put_left_out(out, word);
@@ -128,9 +123,7 @@ fn near_argument<'a>(
 }
 
 /// Adds that a number has no leading zero, where the word is one that has.
-fn put_zero_hint(out: &mut Vec<u8>, word: &[u8]) -> Result<(), AllocError>
-    ensures { OnOk result (out.new.items ≡ out.old.items ++ spec.zero_hint word.now) }
-{
+fn put_zero_hint(out: &mut Vec<u8>, word: &[u8]) -> Result<(), AllocError> {
     match spelled_number(word) {
         Some(number) if number.zero_led => {
             out.extend_from_slice(b"  a number has no leading zero\n")
@@ -140,17 +133,12 @@ fn put_zero_hint(out: &mut Vec<u8>, word: &[u8]) -> Result<(), AllocError>
 }
 
 /// What is told of a name that the configuration defines, after it.
-#[tactic(auto, unfolding(crate::specs::Hints::defined_words))]
-fn defined_words() -> &'static [u8]
-    ensures { result.now ≡ spec.defined_words }
-{
+fn defined_words() -> &'static [u8] {
     b" is a `#define` of the configuration, which is read there alone"
 }
 
 /// Adds the number to write in place of a name that stands for it, where that may stand there, and the end of the line.
-fn put_number_to_write(out: &mut Vec<u8>, fits: bool, digits: &[u8]) -> Result<(), AllocError>
-    ensures { OnOk result (out.new.items ≡ out.old.items ++ spec.number_to_write fits digits.now) }
-{
+fn put_number_to_write(out: &mut Vec<u8>, fits: bool, digits: &[u8]) -> Result<(), AllocError> {
     if !fits {
         return out.extend_from_slice(b"\n");
     }
@@ -160,16 +148,13 @@ fn put_number_to_write(out: &mut Vec<u8>, fits: bool, digits: &[u8]) -> Result<(
 }
 
 /// Adds that a name in the place of an argument of this kind is one that the configuration defines to stand for a number.
-#[tactic(auto, unfolding(crate::specs::Hints::defined_hint))]
 fn put_defined_hint(
     out: &mut Vec<u8>,
     names: &Names,
     kind: ArgumentKind,
     word: &[u8],
     number: u32,
-) -> Result<(), AllocError>
-    ensures { OnOk result (out.new.items ≡ out.old.items ++ spec.defined_hint names.now kind word.now number) }
-{
+) -> Result<(), AllocError> {
     let mut buffer = Buffer::new();
     let digits = buffer.format(number).as_bytes();
     out.extend_from_slice(b"  ")?;
@@ -180,16 +165,13 @@ fn put_defined_hint(
 
 /// Adds what is told of a name in the place of an argument of this kind: that the configuration defines it, or the nearest that may be
 /// meant.
-#[tactic(auto, unfolding(crate::specs::Hints::name_hint))]
 fn put_name_hint(
     alloc: Global,
     out: &mut Vec<u8>,
     names: &Names,
     kind: ArgumentKind,
     word: &[u8],
-) -> Result<(), AllocError>
-    ensures { OnOk result (out.new.items ≡ out.old.items ++ spec.name_hint names.now kind word.now) }
-{
+) -> Result<(), AllocError> {
     match names.defined(word) {
         Some(number) => put_defined_hint(out, names, kind, word, number),
         None => put_near(out, near_argument(alloc, names, kind, word)?),
@@ -197,16 +179,13 @@ fn put_name_hint(
 }
 
 /// Adds what is told of a word in the place of an argument of this kind.
-#[tactic(auto, unfolding(crate::specs::Hints::argument_hint))]
 fn put_argument_hint(
     alloc: Global,
     out: &mut Vec<u8>,
     names: &Names,
     kind: ArgumentKind,
     word: &[u8],
-) -> Result<(), AllocError>
-    ensures { OnOk result (out.new.items ≡ out.old.items ++ spec.argument_hint names.now kind word.now) }
-{
+) -> Result<(), AllocError> {
     if is_name(word) {
         put_name_hint(alloc, out, names, kind, word)
     } else {
@@ -215,18 +194,12 @@ fn put_argument_hint(
 }
 
 /// What is told of an object in the place of a function, after its name.
-#[tactic(auto, unfolding(crate::specs::Hints::object_words))]
-fn object_words() -> &'static [u8]
-    ensures { result.now ≡ spec.object_words }
-{
+fn object_words() -> &'static [u8] {
     b" is an object. A script is named by the function that stands in the object's statement.\n"
 }
 
 /// Adds that an object stands in the place of a function.
-#[tactic(auto, unfolding(crate::specs::Hints::function_hint))]
-fn put_function_hint(out: &mut Vec<u8>, names: &Names, word: &[u8]) -> Result<(), AllocError>
-    ensures { OnOk result (out.new.items ≡ out.old.items ++ spec.function_hint names.now word.now) }
-{
+fn put_function_hint(out: &mut Vec<u8>, names: &Names, word: &[u8]) -> Result<(), AllocError> {
     if !names.contains_object(word) {
         return Ok(());
     }
@@ -236,10 +209,7 @@ fn put_function_hint(out: &mut Vec<u8>, names: &Names, word: &[u8]) -> Result<()
 }
 
 /// Adds the code that may be meant by a word, if one is near.
-#[tactic(auto, unfolding(crate::specs::Hints::code_hint))]
-fn put_code_hint(alloc: Global, out: &mut Vec<u8>, word: &[u8]) -> Result<(), AllocError>
-    ensures { OnOk result (out.new.items ≡ out.old.items ++ spec.code_hint word.now) }
-{
+fn put_code_hint(alloc: Global, out: &mut Vec<u8>, word: &[u8]) -> Result<(), AllocError> {
     match near_answer(alloc, word)? {
         Some(name) if is_code(name) => put_near(out, Some(name)),
         _ => Ok(()),
@@ -247,16 +217,13 @@ fn put_code_hint(alloc: Global, out: &mut Vec<u8>, word: &[u8]) -> Result<(), Al
 }
 
 /// Adds what is told of the word that begins the text at a place, where this is wanted.
-#[tactic(auto, unfolding(crate::specs::Hints::hint))]
 pub(crate) fn put_hint(
     alloc: Global,
     out: &mut Vec<u8>,
     names: &Names,
     wanted: Wanted,
     text: &[u8],
-) -> Result<(), AllocError>
-    ensures { OnOk result (out.new.items ≡ out.old.items ++ spec.hint names.now wanted text.now) }
-{
+) -> Result<(), AllocError> {
     let (word, _rest) = split_prefix(Class::Word, text);
     match wanted {
         Wanted::Happening | Wanted::Step => put_call_hint(alloc, out, word),

@@ -1,8 +1,7 @@
 //! Which jump of a script has no label.
-ghost use Rattle.std.specs.Prelude.{◌≡◌, ◌++◌, None, OnOk, IfOk};
+ghost use Rattle.std.specs.Prelude.{◌≡◌, None, IfOk};
 ghost use Rattle.std.specs.Option.{option_copied};
 ghost use Rattle.fmp_cli_help.specs.Near.{nearest};
-ghost use Rattle.fmp_cli_hints.specs.Labels as spec;
 
 use crate::hints::put_near;
 use crate::wanted::Wanted;
@@ -35,9 +34,7 @@ impl<'t> Name<'t> {
     }
 
     /// Whether two names have the same bytes.
-    fn is_same(&self, other: &Name<'_>) -> bool
-        ensures { result ≡ spec.is_same self.now other.now }
-    {
+    fn is_same(&self, other: &Name<'_>) -> bool {
         self.text == other.text
     }
 }
@@ -50,10 +47,7 @@ struct Jump<'t> {
 }
 
 /// The name in a line that is a label.
-#[tactic(auto, unfolding(crate::specs::Labels::label_of))]
-fn label_of(line: &[u8]) -> Option<&[u8]>
-    ensures { option_copied result ≡ spec.label_of line.now }
-{
+fn label_of(line: &[u8]) -> Option<&[u8]> {
     let (name, rest) = split_prefix(Class::Word, skip(Class::Blank, line));
     match following(b':', skip(Class::Blank, rest)) {
         Some(_) => Some(name),
@@ -62,10 +56,7 @@ fn label_of(line: &[u8]) -> Option<&[u8]>
 }
 
 /// The name after `goto`, where a text begins with that.
-#[tactic(auto, unfolding(crate::specs::Labels::goal_of))]
-fn goal_of(text: &[u8]) -> Option<&[u8]>
-    ensures { option_copied result ≡ spec.goal_of text.now }
-{
+fn goal_of(text: &[u8]) -> Option<&[u8]> {
     let (word, rest) = split_prefix(Class::Word, skip(Class::Blank, text));
     if word != b"goto".as_slice() {
         return None;
@@ -75,10 +66,7 @@ fn goal_of(text: &[u8]) -> Option<&[u8]>
 }
 
 /// What follows an answer: a word, or a word with a value after its colon.
-#[tactic(auto, unfolding(crate::specs::Labels::after_answer))]
-fn after_answer(text: &[u8]) -> &[u8]
-    ensures { result.now ≡ spec.after_answer text.now }
-{
+fn after_answer(text: &[u8]) -> &[u8] {
     let rest = skip(Class::Word, skip(Class::Blank, text));
     match following(b':', rest) {
         Some(value) => skip(Class::Argument, value),
@@ -87,10 +75,7 @@ fn after_answer(text: &[u8]) -> &[u8]
 }
 
 /// The name of the label in a line that is a jump.
-#[tactic(auto, unfolding(crate::specs::Labels::jump_of))]
-fn jump_of(line: &[u8]) -> Option<&[u8]>
-    ensures { option_copied result ≡ spec.jump_of line.now }
-{
+fn jump_of(line: &[u8]) -> Option<&[u8]> {
     let (word, rest) = split_prefix(Class::Word, skip(Class::Blank, line));
     if word == b"on".as_slice() {
         goal_of(after_answer(rest))
@@ -100,24 +85,18 @@ fn jump_of(line: &[u8]) -> Option<&[u8]>
 }
 
 /// Whether a line begins a script.
-fn is_head(line: &[u8]) -> bool
-    ensures { result ≡ spec.is_head line.now }
-{
+fn is_head(line: &[u8]) -> bool {
     let (word, _rest) = split_prefix(Class::Word, skip(Class::Blank, line));
     word == b"script".as_slice()
 }
 
 /// Whether one of these labels has this name.
-fn has_label(labels: &[Name<'_>], name: &Name<'_>) -> bool
-    ensures { result ≡ spec.has_label labels.now name.now }
-{
+fn has_label(labels: &[Name<'_>], name: &Name<'_>) -> bool {
     labels.iter().any(|label| label.is_same(name))
 }
 
 /// The first of these jumps whose name no label has.
-fn first_without<'a, 't>(labels: &[Name<'t>], jumps: &'a [Jump<'t>]) -> Option<&'a Jump<'t>>
-    ensures { option_copied result ≡ spec.first_without labels.now jumps.now }
-{
+fn first_without<'a, 't>(labels: &[Name<'t>], jumps: &'a [Jump<'t>]) -> Option<&'a Jump<'t>> {
     for jump in jumps {
         if !has_label(labels, &jump.name) {
             return Some(jump);
@@ -148,23 +127,9 @@ struct Marks<'t> {
     jumps: Vec<Jump<'t>>,
 }
 
-impl<'t> Model for Marks<'t> {
-    ghost use Rattle.fmp_cli_hints.specs.Labels.{Marked};
-
-    ghost Value = { Marked };
-
-    ghost view = { λ m. record { labels = m.labels.items; jumps = m.jumps.items } };
-}
-
 impl<'t> Marks<'t> {
-    ghost use Rattle.std.specs.Prelude.{◌≡◌, OnOk};
-    ghost use Rattle.std.specs.Option.{option_copied};
-    ghost use Rattle.fmp_cli_hints.specs.Labels as spec;
-
     /// There are none.
-    fn new(alloc: Global) -> Self
-        ensures { result ≡ spec.no_marks }
-    {
+    fn new(alloc: Global) -> Self {
         Marks {
             labels: Vec::new(alloc),
             jumps: Vec::new(alloc),
@@ -172,9 +137,7 @@ impl<'t> Marks<'t> {
     }
 
     /// Adds a label, if there is one.
-    fn add_label(&mut self, label: Option<&'t [u8]>) -> Result<(), AllocError>
-        ensures { OnOk result (self.new ≡ spec.with_label (option_copied label.entry) self.old) }
-    {
+    fn add_label(&mut self, label: Option<&'t [u8]>) -> Result<(), AllocError> {
         if let Some(text) = label {
             self.labels.push(Name { text })?;
         }
@@ -182,9 +145,7 @@ impl<'t> Marks<'t> {
     }
 
     /// Adds a jump in the line of this number, if there is one.
-    fn add_jump(&mut self, line: u32, goal: Option<&'t [u8]>) -> Result<(), AllocError>
-        ensures { OnOk result (self.new ≡ spec.with_jump line (option_copied goal.entry) self.old) }
-    {
+    fn add_jump(&mut self, line: u32, goal: Option<&'t [u8]>) -> Result<(), AllocError> {
         if let Some(text) = goal {
             let name = Name { text };
             self.jumps.push(Jump { line, name })?;
@@ -193,10 +154,7 @@ impl<'t> Marks<'t> {
     }
 
     /// Takes in a line of this number: one that begins a script leaves nothing of those before it.
-    #[tactic(auto, unfolding(crate::specs::Labels::with_line))]
-    fn take_in(&mut self, number: u32, line: &'t [u8]) -> Result<(), AllocError>
-        ensures { OnOk result (self.new ≡ spec.with_line number line.now self.old) }
-    {
+    fn take_in(&mut self, number: u32, line: &'t [u8]) -> Result<(), AllocError> {
         if is_head(line) {
             self.labels.clear();
             self.jumps.clear();
@@ -208,9 +166,7 @@ impl<'t> Marks<'t> {
 }
 
 /// The labels and the jumps of the script that the lines before this one leave open.
-fn marks_before<'t>(alloc: Global, line: u32, text: &'t [u8]) -> Result<Marks<'t>, AllocError>
-    ensures { IfOk result (λ marks. marks ≡ spec.marks_before line text.now) }
-{
+fn marks_before<'t>(alloc: Global, line: u32, text: &'t [u8]) -> Result<Marks<'t>, AllocError> {
     let mut marks = Marks::new(alloc);
     let mut rest = Some(text);
     for number in 1..line {
@@ -225,26 +181,17 @@ fn marks_before<'t>(alloc: Global, line: u32, text: &'t [u8]) -> Result<Marks<'t
 }
 
 /// What stands after the number of a line that jumps.
-#[tactic(auto, unfolding(crate::specs::Labels::jumping_words))]
-fn jumping_words() -> &'static [u8]
-    ensures { result.now ≡ spec.jumping_words }
-{
+fn jumping_words() -> &'static [u8] {
     b" jumps to `"
 }
 
 /// What stands after the name of a label that is not there.
-#[tactic(auto, unfolding(crate::specs::Labels::missing_words))]
-fn missing_words() -> &'static [u8]
-    ensures { result.now ≡ spec.missing_words }
-{
+fn missing_words() -> &'static [u8] {
     b"`, and the script has no such label\n"
 }
 
 /// Adds which line jumps.
-#[tactic(auto, unfolding(crate::specs::Labels::line_jumping))]
-fn put_line_jumping(out: &mut Vec<u8>, line: u32) -> Result<(), AllocError>
-    ensures { OnOk result (out.new.items ≡ out.old.items ++ spec.line_jumping line) }
-{
+fn put_line_jumping(out: &mut Vec<u8>, line: u32) -> Result<(), AllocError> {
     let mut buffer = Buffer::new();
     out.extend_from_slice(b"  line ")?;
     out.extend_from_slice(buffer.format(line).as_bytes())?;
@@ -252,20 +199,18 @@ fn put_line_jumping(out: &mut Vec<u8>, line: u32) -> Result<(), AllocError>
 }
 
 /// Adds that the line of this number jumps to a label that is not there.
-#[tactic(auto, unfolding(crate::specs::Labels::jump_line))]
-fn put_jump(out: &mut Vec<u8>, line: u32, name: &[u8]) -> Result<(), AllocError>
-    ensures { OnOk result (out.new.items ≡ out.old.items ++ spec.jump_line line name.now) }
-{
+fn put_jump(out: &mut Vec<u8>, line: u32, name: &[u8]) -> Result<(), AllocError> {
     put_line_jumping(out, line)?;
     out.extend_from_slice(name)?;
     out.extend_from_slice(missing_words())
 }
 
 /// Adds which of the jumps has no label, if one has none, and the label that may be meant.
-#[tactic(auto, unfolding(crate::specs::Labels::without_label))]
-fn put_without_label(alloc: Global, out: &mut Vec<u8>, marks: &Marks<'_>) -> Result<(), AllocError>
-    ensures { OnOk result (out.new.items ≡ out.old.items ++ spec.without_label marks.now) }
-{
+fn put_without_label(
+    alloc: Global,
+    out: &mut Vec<u8>,
+    marks: &Marks<'_>,
+) -> Result<(), AllocError> {
     let Some(jump) = first_without(&marks.labels, &marks.jumps) else {
         return Ok(());
     };
@@ -275,16 +220,13 @@ fn put_without_label(alloc: Global, out: &mut Vec<u8>, marks: &Marks<'_>) -> Res
 }
 
 /// Adds, where a label for each jump is wanted before the line of this number, which jump before it has none.
-#[tactic(auto, unfolding(crate::specs::Labels::label_hint))]
 pub(crate) fn put_label_hint(
     alloc: Global,
     out: &mut Vec<u8>,
     line: u32,
     text: &[u8],
     wanted: Option<Wanted>,
-) -> Result<(), AllocError>
-    ensures { OnOk result (out.new.items ≡ out.old.items ++ spec.label_hint line text.now wanted) }
-{
+) -> Result<(), AllocError> {
     match wanted {
         Some(Wanted::Labels) => {
             let marks = marks_before(alloc, line, text)?;

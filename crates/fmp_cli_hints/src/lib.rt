@@ -1,13 +1,10 @@
 //! What stands beside a fault line: the line of the text, a caret under the first byte at fault, and what is wanted there.
 //!
-//! A [`Walk`] goes over a line as its reader does, and stops where the reader refuses. Each contract is one equation with a
-//! definition: of a line of events (`specs/Places`), of scripts (`specs/Texts`), of a trace (`specs/Traces`), of what is told of the word
-//! at fault (`specs/Hints`), of a jump without a label (`specs/Labels`), and of a line that looks like one of another text (`specs/Likeness`). The law
-//! `places_are_in_their_lines` says that the place of a line of events is in that line.
+//! A [`Walk`] goes over a line as its reader does, and stops where the reader refuses. How far it goes in a line of events is a definition
+//! (`specs/Places`), and the law `places_are_in_their_lines` says that the place is in that line. [`text_spot`] is the place of the caret as
+//! numbers: of a fault of events it is that place (`specs/Texts`). A near name is a nearest one (`specs/Hints`, `specs/Things`).
 //!
-//! [`text_spot`] is the place of the caret as numbers.
-//!
-//! That the caret is where the reader refuses is only tested. Begin at [`text_context`]. What stands beside a fault of a configuration is `fmp_cli_hints_config`, and
+//! The texts that are told, the places in the lines of other texts, and that the caret is where the reader refuses are only tested. Begin at [`text_context`]. What stands beside a fault of a configuration is `fmp_cli_hints_config`, and
 //! of a question `fmp_cli_hints_question`.
 #![tactic(auto)]
 

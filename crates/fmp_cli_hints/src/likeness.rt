@@ -1,5 +1,6 @@
 //! What kind of text a line looks like one of.
-ghost use Rattle.std.specs.Prelude.{◌≡◌, ◌++◌, OnOk};
+
+ghost use Rattle.std.specs.Prelude.{◌≡◌};
 ghost use Rattle.std.specs.Option.{option_copied};
 ghost use Rattle.fmp_cli_hints.specs.Likeness as spec;
 
@@ -39,9 +40,7 @@ pub fn without_mark(line: &[u8]) -> &[u8]
 }
 
 /// What a line with these first two words looks like, if anything.
-fn likeness_by(first: &[u8], second: &[u8]) -> Option<Likeness>
-    ensures { result ≡ spec.likeness_by first.now second.now }
-{
+fn likeness_by(first: &[u8], second: &[u8]) -> Option<Likeness> {
     if is_processor_word(first) && second == b"run".as_slice() {
         Some(Likeness::States)
     } else if is_processor_word(first) {
@@ -58,10 +57,7 @@ fn likeness_by(first: &[u8], second: &[u8]) -> Option<Likeness>
 }
 
 /// What a line looks like, if anything: by a byte order mark before it, or by its first words.
-#[tactic(auto, unfolding(crate::specs::Likeness::looks_like))]
-fn looks_like(line: &[u8]) -> Option<Likeness>
-    ensures { result ≡ spec.looks_like line.now }
-{
+fn looks_like(line: &[u8]) -> Option<Likeness> {
     if after_mark(line).is_some() {
         return Some(Likeness::Marked);
     }
@@ -71,9 +67,7 @@ fn looks_like(line: &[u8]) -> Option<Likeness>
 }
 
 /// What is told of a line that looks so.
-fn report(likeness: Likeness) -> &'static [u8]
-    ensures { result.now ≡ spec.report likeness }
-{
+fn report(likeness: Likeness) -> &'static [u8] {
     match likeness {
         Likeness::Marked => {
             b"  A byte order mark stands before the line: save the text without it.\n"
@@ -97,9 +91,7 @@ fn report(likeness: Likeness) -> &'static [u8]
 }
 
 /// Whether such lines are among those of a text of this form.
-fn is_own(form: TextForm, likeness: Likeness) -> bool
-    ensures { result ≡ spec.is_own form likeness }
-{
+fn is_own(form: TextForm, likeness: Likeness) -> bool {
     matches!(
         (form, likeness),
         (TextForm::Events | TextForm::Partial, Likeness::Events)
@@ -109,22 +101,17 @@ fn is_own(form: TextForm, likeness: Likeness) -> bool
 }
 
 /// Whether a text with such a fault may be one of another form.
-fn may_be_foreign(kind: TextKind) -> bool
-    ensures { result ≡ spec.may_be_foreign kind }
-{
+fn may_be_foreign(kind: TextKind) -> bool {
     matches!(kind, TextKind::BadByte | TextKind::BadWord)
 }
 
 /// Adds what a line of a text with such a fault looks like, where it looks like one of another text.
-#[tactic(auto, unfolding(crate::specs::Likeness::text_likeness))]
 pub(crate) fn put_text_likeness(
     out: &mut Vec<u8>,
     form: TextForm,
     kind: TextKind,
     line: &[u8],
-) -> Result<(), AllocError>
-    ensures { OnOk result (out.new.items ≡ out.old.items ++ spec.text_likeness form kind line.now) }
-{
+) -> Result<(), AllocError> {
     if !may_be_foreign(kind) {
         return Ok(());
     }
@@ -135,21 +122,16 @@ pub(crate) fn put_text_likeness(
 }
 
 /// Whether a configuration with such a fault may be another text.
-fn may_be_no_statement(kind: ConfigKind) -> bool
-    ensures { result ≡ spec.may_be_no_statement kind }
-{
+fn may_be_no_statement(kind: ConfigKind) -> bool {
     matches!(kind, ConfigKind::Syntax | ConfigKind::Unsupported)
 }
 
 /// Adds what a line of a configuration with such a fault looks like, where it looks like one of another text.
-#[tactic(auto, unfolding(crate::specs::Likeness::config_likeness))]
 pub fn put_config_likeness(
     out: &mut Vec<u8>,
     kind: ConfigKind,
     line: &[u8],
-) -> Result<(), AllocError>
-    ensures { OnOk result (out.new.items ≡ out.old.items ++ spec.config_likeness kind line.now) }
-{
+) -> Result<(), AllocError> {
     if !may_be_no_statement(kind) {
         return Ok(());
     }

@@ -1,6 +1,4 @@
 //! Tables of what is told of words, and the row of one.
-ghost use Rattle.std.specs.Prelude.{◌≡◌, map};
-ghost use Rattle.fmp_cli_hints.specs.Rows as spec;
 
 /// What is told of a word in the place of a call that has another name elsewhere.
 pub const CALL_ROWS: [(&[u8], &[u8]); 4] = [
@@ -42,9 +40,7 @@ pub const FOREIGN_ROWS: [(&[u8], &[u8]); 6] = [
 ];
 
 /// What the first of these rows tells that has the word, or nothing.
-pub fn report_of<'a>(rows: &[(&[u8], &'a [u8])], word: &[u8]) -> &'a [u8]
-    ensures { result.now ≡ spec.report_of (map (λ row. (row.0.now, row.1.now)) rows.now) word.now }
-{
+pub fn report_of<'a>(rows: &[(&[u8], &'a [u8])], word: &[u8]) -> &'a [u8] {
     for row in rows {
         if row.0 == word {
             return row.1;
@@ -54,9 +50,7 @@ pub fn report_of<'a>(rows: &[(&[u8], &'a [u8])], word: &[u8]) -> &'a [u8]
 }
 
 /// What the first of these rows tells with which the text begins, or nothing.
-pub(crate) fn report_at<'a>(rows: &[(&[u8], &'a [u8])], text: &[u8]) -> &'a [u8]
-    ensures { result.now ≡ spec.report_at (map (λ row. (row.0.now, row.1.now)) rows.now) text.now }
-{
+pub(crate) fn report_at<'a>(rows: &[(&[u8], &'a [u8])], text: &[u8]) -> &'a [u8] {
     for row in rows {
         if text.starts_with(row.0) {
             return row.1;
@@ -66,8 +60,6 @@ pub(crate) fn report_at<'a>(rows: &[(&[u8], &'a [u8])], text: &[u8]) -> &'a [u8]
 }
 
 /// What is told of the character that begins a text, where it is one of those that are known and not ASCII.
-pub fn foreign_words(text: &[u8]) -> &'static [u8]
-    ensures { result.now ≡ spec.foreign_words text.now }
-{
+pub fn foreign_words(text: &[u8]) -> &'static [u8] {
     report_at(&FOREIGN_ROWS, text)
 }

@@ -1,10 +1,10 @@
 //! What stands beside a fault line of events, scripts or a trace.
 ghost use Rattle.std.specs.Prelude.{◌≡◌, IfOk};
 ghost use Rattle.std.specs.Option.{option_copied};
-ghost use Rattle.fmp_cli_hints.specs.Steps as steps;
+ghost use Rattle.fmp_cli_hints.specs.declared.text.TextForm.TheVariants.{Events};
 ghost use Rattle.fmp_cli_hints.specs.Texts as spec;
 
-use crate::event::{context_at, event_place};
+use crate::event::{column_of, context_at, event_place};
 use crate::excerpt::put_excerpt;
 use crate::labels::put_label_hint;
 use crate::likeness::{put_text_likeness, without_mark};
@@ -32,10 +32,7 @@ pub enum TextForm {
 }
 
 /// A function's name, or what stands after it.
-#[tactic(auto, unfolding(crate::specs::Steps::function_place))]
-fn function_place<'a>(text: &'a [u8]) -> Walk<'a>
-    ensures { result ≡ steps.function_place text.now }
-{
+fn function_place<'a>(text: &'a [u8]) -> Walk<'a> {
     let (name, rest) = split_prefix(Class::Word, text);
     if is_identifier(name) && !all_of(Class::Blank, rest) {
         Walk::stuck(skip(Class::Blank, rest), Wanted::LineEnd)
@@ -45,10 +42,7 @@ fn function_place<'a>(text: &'a [u8]) -> Walk<'a>
 }
 
 /// How far a line of a script fits, by its first word.
-#[tactic(auto, unfolding(crate::specs::Steps::step_place))]
-pub(crate) fn step_place<'a>(names: &Names, text: &'a [u8]) -> Walk<'a>
-    ensures { result ≡ steps.step_place names.now text.now }
-{
+pub(crate) fn step_place<'a>(names: &Names, text: &'a [u8]) -> Walk<'a> {
     let (word, rest) = split_prefix(Class::Word, text);
     if word == b"script".as_slice() {
         return function_place(skip(Class::Blank, rest));
@@ -63,9 +57,7 @@ pub(crate) fn step_place<'a>(names: &Names, text: &'a [u8]) -> Walk<'a>
 }
 
 /// Where a line of a script text is at fault, by the kind of the fault.
-fn script_place<'a>(names: &Names, line: &'a [u8], kind: TextKind) -> Walk<'a>
-    ensures { result ≡ spec.script_kind_place names.now line.now kind }
-{
+fn script_place<'a>(names: &Names, line: &'a [u8], kind: TextKind) -> Walk<'a> {
     match kind {
         TextKind::BadByte => barred_place(line),
         TextKind::UnknownName | TextKind::WrongArguments => {
@@ -87,7 +79,7 @@ fn whole_place<'a>(
     line: &'a [u8],
     fault: TextFault,
 ) -> Result<Walk<'a>, AllocError>
-    ensures { IfOk result (λ walk. walk ≡ spec.whole_place names.now form fault.line line.now fault.kind) }
+    ensures { IfOk result (λ walk. form ≡ Events → walk ≡ spec.whole_place names.now line.now fault.kind) }
 {
     match (form, fault.kind) {
         (TextForm::Events, TextKind::TooMany) => Ok(Walk::going(skip(Class::Blank, line))),
@@ -107,7 +99,7 @@ fn place<'a>(
     after: Option<&[u8]>,
     fault: TextFault,
 ) -> Result<Walk<'a>, AllocError>
-    ensures { IfOk result (λ walk. walk ≡ spec.place names.now form fault.line line.now (option_copied after.entry) fault.kind) }
+    ensures { IfOk result (λ walk. form ≡ Events → walk ≡ spec.place names.now line.now (option_copied after.entry) fault.kind) }
 {
     match after {
         None => Ok(Walk::going(&[])),
@@ -116,32 +108,26 @@ fn place<'a>(
 }
 
 /// The line with a caret, and what to do about such a fault.
-#[tactic(auto, unfolding(crate::specs::Texts::advised))]
 fn advised(
     alloc: Global,
     line: &[u8],
     walk: &Walk<'_>,
     kind: TextKind,
-) -> Result<Vec<u8>, AllocError>
-    ensures { IfOk result (λ out. out.items ≡ spec.advised line.now walk.now kind) }
-{
+) -> Result<Vec<u8>, AllocError> {
     let mut out = Vec::new(alloc);
-    put_excerpt(&mut out, line, line.len().saturating_sub(walk.rest().len()))?;
+    put_excerpt(&mut out, line, column_of(line, walk))?;
     put_text_advice(&mut out, kind)?;
     Ok(out)
 }
 
 /// The line with a caret, and what is wanted there, or else what to do about such a fault.
-#[tactic(auto, unfolding(crate::specs::Texts::report))]
 fn report(
     alloc: Global,
     names: &Names,
     line: &[u8],
     walk: &Walk<'_>,
     kind: TextKind,
-) -> Result<Vec<u8>, AllocError>
-    ensures { IfOk result (λ out. out.items ≡ spec.report names.now line.now walk.now kind) }
-{
+) -> Result<Vec<u8>, AllocError> {
     match context_at(alloc, names, line, walk)? {
         Some(text) => Ok(text),
         None => advised(alloc, line, walk, kind),
@@ -149,7 +135,6 @@ fn report(
 }
 
 /// What is told of a line of a text with this fault, with what follows its line feed, if it has one.
-#[tactic(auto, unfolding(crate::specs::Texts::report_line))]
 fn report_line(
     alloc: Global,
     names: &Names,
@@ -158,9 +143,7 @@ fn report_line(
     fault: TextFault,
     line: &[u8],
     after: Option<&[u8]>,
-) -> Result<Vec<u8>, AllocError>
-    ensures { IfOk result (λ out. out.items ≡ spec.report_line names.now form text.now fault line.now (option_copied after.entry)) }
-{
+) -> Result<Vec<u8>, AllocError> {
     let whole = without_return(line);
     let walk = place(alloc, names, form, whole, after, fault)?;
     let mut out = report(alloc, names, without_mark(whole), &walk, fault.kind)?;
@@ -170,9 +153,7 @@ fn report_line(
 }
 
 /// What to do about a fault of events, scripts or a trace: what stands beside a fault whose line cannot be shown.
-pub fn text_advice(alloc: Global, kind: TextKind) -> Result<Vec<u8>, AllocError>
-    ensures { IfOk result (λ out. out.items ≡ spec.advice kind) }
-{
+pub fn text_advice(alloc: Global, kind: TextKind) -> Result<Vec<u8>, AllocError> {
     let mut out = Vec::new(alloc);
     put_text_advice(&mut out, kind)?;
     Ok(out)
@@ -181,16 +162,13 @@ pub fn text_advice(alloc: Global, kind: TextKind) -> Result<Vec<u8>, AllocError>
 /// What stands beside a fault of this text: the line, a caret under the first byte at fault, and what is wanted there or what to do
 /// about such a fault. Where the fault has no line in the text, what to do about it alone. That the text has the fault is taken
 /// from the caller.
-#[tactic(auto, unfolding(crate::specs::Texts::text_context))]
 pub fn text_context(
     alloc: Global,
     names: &Names,
     form: TextForm,
     text: &[u8],
     fault: TextFault,
-) -> Result<Vec<u8>, AllocError>
-    ensures { IfOk result (λ out. out.items ≡ spec.text_context names.now form text.now fault) }
-{
+) -> Result<Vec<u8>, AllocError> {
     if fault.line == 0 {
         return text_advice(alloc, fault.kind);
     }
@@ -210,11 +188,11 @@ fn line_spot(
     line: &[u8],
     after: Option<&[u8]>,
 ) -> Result<Spot, AllocError>
-    ensures { IfOk result (λ spot. spot ≡ spec.line_spot names.now form fault line.now (option_copied after.entry)) }
+    ensures { IfOk result (λ spot. form ≡ Events → spot ≡ spec.line_spot names.now fault line.now (option_copied after.entry)) }
 {
     let whole = without_return(line);
     let walk = place(alloc, names, form, whole, after, fault)?;
-    let column = without_mark(whole).len().saturating_sub(walk.rest().len());
+    let column = column_of(without_mark(whole), &walk);
     Ok(Spot::Column(fault.line as usize, column + 1))
 }
 
@@ -228,7 +206,7 @@ pub fn text_spot(
     text: &[u8],
     fault: TextFault,
 ) -> Result<Spot, AllocError>
-    ensures { IfOk result (λ spot. spot ≡ spec.text_spot names.now form text.now fault) }
+    ensures { IfOk result (λ spot. form ≡ Events → spot ≡ spec.text_spot names.now text.now fault) }
 {
     if fault.line == 0 {
         return Ok(Spot::Nowhere);
@@ -240,9 +218,7 @@ pub fn text_spot(
 }
 
 /// The word that stands where a function is wanted.
-fn word_for_function<'a>(walk: Walk<'a>) -> Option<&'a [u8]>
-    ensures { option_copied result ≡ spec.word_for_function walk.entry }
-{
+fn word_for_function<'a>(walk: Walk<'a>) -> Option<&'a [u8]> {
     match walk.wanted() {
         Some(Wanted::Function) => {
             let (word, _rest) = split_prefix(Class::Word, walk.rest());
@@ -253,9 +229,7 @@ fn word_for_function<'a>(walk: Walk<'a>) -> Option<&'a [u8]>
 }
 
 /// The word that stands where a task is wanted.
-fn word_for_task<'a>(walk: Walk<'a>) -> Option<&'a [u8]>
-    ensures { option_copied result ≡ spec.word_for_task walk.entry }
-{
+fn word_for_task<'a>(walk: Walk<'a>) -> Option<&'a [u8]> {
     match walk.wanted() {
         Some(Wanted::Argument(_, ArgumentKind::Object(ObjectKind::Task))) => {
             let (word, _rest) = split_prefix(Class::Argument, walk.rest());
@@ -266,16 +240,13 @@ fn word_for_task<'a>(walk: Walk<'a>) -> Option<&'a [u8]>
 }
 
 /// The word that stands where a task is wanted, where this fault of a text is there.
-#[tactic(auto, unfolding(crate::specs::Texts::task_at))]
 pub fn task_at<'a>(
     alloc: Global,
     names: &Names,
     form: TextForm,
     text: &'a [u8],
     fault: TextFault,
-) -> Result<Option<&'a [u8]>, AllocError>
-    ensures { IfOk result (λ word. option_copied word ≡ spec.task_at names.now form text.now fault) }
-{
+) -> Result<Option<&'a [u8]>, AllocError> {
     if fault.line == 0 {
         return Ok(None);
     }
@@ -287,15 +258,12 @@ pub fn task_at<'a>(
 }
 
 /// The word that stands where a function is wanted, where this fault of scripts is there.
-#[tactic(auto, unfolding(crate::specs::Texts::function_at))]
 pub fn function_at<'a>(
     alloc: Global,
     names: &Names,
     text: &'a [u8],
     fault: TextFault,
-) -> Result<Option<&'a [u8]>, AllocError>
-    ensures { IfOk result (λ word. option_copied word ≡ spec.function_at names.now text.now fault) }
-{
+) -> Result<Option<&'a [u8]>, AllocError> {
     if fault.line == 0 {
         return Ok(None);
     }

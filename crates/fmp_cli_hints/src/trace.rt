@@ -1,10 +1,7 @@
 //! The first part of a trace's line that is not printed so.
-ghost use Rattle.std.specs.Prelude.{◌≡◌, ◌≤◌, ◌+◌, ◌++◌, length, IfOk, OnOk};
+ghost use Rattle.std.specs.Prelude.{◌≡◌, ◌≤◌, ◌+◌, length, IfOk};
 ghost use Rattle.std.specs.Option.{option_copied, option_map_or};
-ghost use Rattle.fmp_bytes.specs.Bytes.{cut_at, pieces_of};
-ghost use Rattle.fmp_text.specs.Reading.{call_in};
-ghost use Rattle.fmp_cli_hints.specs.declared.wanted.Wanted.TheVariants.{Answer as WantsAnswer};
-ghost use Rattle.fmp_cli_hints.specs.Traces as spec;
+ghost use Rattle.fmp_bytes.specs.Bytes.{cut_at};
 
 use crate::walk::{Walk, after_name};
 use crate::wanted::Wanted;
@@ -29,9 +26,7 @@ fn cut_whole(byte: u8, text: &[u8]) -> (&[u8], Option<&[u8]>)
 }
 
 /// Goes on over a word, up to the next blank, where it passes.
-fn passed<'a>(passes: bool, wanted: Wanted, text: &'a [u8]) -> Walk<'a>
-    ensures { result ≡ spec.passed passes wanted text.now }
-{
+fn passed<'a>(passes: bool, wanted: Wanted, text: &'a [u8]) -> Walk<'a> {
     if passes {
         let (word, _after) = cut_whole(b' ', text);
         Walk::going(&text[word.len()..])
@@ -41,9 +36,7 @@ fn passed<'a>(passes: bool, wanted: Wanted, text: &'a [u8]) -> Walk<'a>
 }
 
 /// Goes on over one blank.
-fn spaced<'a>(wanted: Wanted, text: &'a [u8]) -> Walk<'a>
-    ensures { result ≡ spec.spaced wanted text.now }
-{
+fn spaced<'a>(wanted: Wanted, text: &'a [u8]) -> Walk<'a> {
     match following(b' ', text) {
         Some(rest) => Walk::going(rest),
         None => Walk::stuck(text, wanted),
@@ -51,10 +44,7 @@ fn spaced<'a>(wanted: Wanted, text: &'a [u8]) -> Walk<'a>
 }
 
 /// The number of the line.
-#[tactic(auto, unfolding(crate::specs::Traces::numbered))]
-fn numbered<'a>(n: u32, line: &'a [u8]) -> Walk<'a>
-    ensures { result ≡ spec.numbered n line.now }
-{
+fn numbered<'a>(n: u32, line: &'a [u8]) -> Walk<'a> {
     let mut buffer = Buffer::new();
     let number = buffer.format(n).as_bytes();
     let (word, _after) = cut(b' ', line);
@@ -62,10 +52,7 @@ fn numbered<'a>(n: u32, line: &'a [u8]) -> Walk<'a>
 }
 
 /// Goes on over a blank and a processor of the machine.
-#[tactic(auto, unfolding(crate::specs::Traces::placed_on))]
-fn placed_on<'a>(names: &Names, walk: Walk<'a>) -> Walk<'a>
-    ensures { result ≡ spec.placed_on names.now walk.entry }
-{
+fn placed_on<'a>(names: &Names, walk: Walk<'a>) -> Walk<'a> {
     if walk.wanted().is_some() {
         return walk;
     }
@@ -79,17 +66,12 @@ fn placed_on<'a>(names: &Names, walk: Walk<'a>) -> Walk<'a>
 }
 
 /// Whether a word is the name of an object of this kind.
-fn is_object(names: &Names, kind: ObjectKind, word: &[u8]) -> bool
-    ensures { result ≡ spec.is_object names.now kind word.now }
-{
+fn is_object(names: &Names, kind: ObjectKind, word: &[u8]) -> bool {
     names.number(NameKind::Object(kind), word).is_some()
 }
 
 /// Whether a word tells who runs: the name of a task or a handler, or a sign for nobody.
-#[tactic(auto, unfolding(crate::specs::Traces::is_runner))]
-fn is_runner(names: &Names, word: &[u8]) -> bool
-    ensures { result ≡ spec.is_runner names.now word.now }
-{
+fn is_runner(names: &Names, word: &[u8]) -> bool {
     word == b"-".as_slice()
         || is_object(names, ObjectKind::Task, word)
         || is_object(names, ObjectKind::Alarm, word)
@@ -97,10 +79,7 @@ fn is_runner(names: &Names, word: &[u8]) -> bool
 }
 
 /// Goes on over a blank and the word that tells who runs.
-#[tactic(auto, unfolding(crate::specs::Traces::run_by))]
-fn run_by<'a>(names: &Names, walk: Walk<'a>) -> Walk<'a>
-    ensures { result ≡ spec.run_by names.now walk.entry }
-{
+fn run_by<'a>(names: &Names, walk: Walk<'a>) -> Walk<'a> {
     if walk.wanted().is_some() {
         return walk;
     }
@@ -114,10 +93,7 @@ fn run_by<'a>(names: &Names, walk: Walk<'a>) -> Walk<'a>
 }
 
 /// Goes on over all that stands before the event in the line of this number, with the blank after it.
-#[tactic(auto, unfolding(crate::specs::Traces::headed))]
-fn headed<'a>(names: &Names, n: u32, line: &'a [u8]) -> Walk<'a>
-    ensures { result ≡ spec.headed names.now n line.now }
-{
+fn headed<'a>(names: &Names, n: u32, line: &'a [u8]) -> Walk<'a> {
     let walk = run_by(names, placed_on(names, numbered(n, line)));
     if walk.wanted().is_some() {
         return walk;
@@ -127,7 +103,6 @@ fn headed<'a>(names: &Names, n: u32, line: &'a [u8]) -> Walk<'a>
 
 /// How many bytes from the first on are the same. A call as it is printed has few.
 fn agreeing(a: &[u8], b: &[u8]) -> usize
-    ensures count { result ≡ spec.agreeing a.now b.now }
     ensures within { result ≤ length a.now }
 {
     match a {
@@ -141,9 +116,7 @@ fn agreeing(a: &[u8], b: &[u8]) -> usize
 }
 
 /// A text up to its first closing parenthesis, or all of it.
-#[tactic(auto, unfolding(crate::specs::Traces::call_part))]
 fn call_part(text: &[u8]) -> &[u8]
-    ensures part { result.now ≡ spec.call_part text.now }
     ensures within { length result.now ≤ length text.now }
 {
     let (inner, after) = cut_whole(b')', text);
@@ -154,10 +127,8 @@ fn call_part(text: &[u8]) -> &[u8]
 }
 
 /// Goes on over a written call, where it is printed so, else up to the first byte that is not.
-#[tactic(auto, unfolding(crate::specs::Traces::compared))]
 fn compared<'a>(printed: &[u8], call: Call, written: &[u8], text: &'a [u8]) -> Walk<'a>
     requires { length written.now ≤ length text.now }
-    ensures walk { result ≡ spec.compared printed.now call written.now text.now }
     ensures within { length result.rest ≤ length text.now }
 {
     if printed == written {
@@ -175,7 +146,6 @@ fn read_so<'a>(
     text: &'a [u8],
 ) -> Result<Walk<'a>, AllocError>
     requires { length written.now ≤ length text.now }
-    ensures walk { IfOk result (λ w. w ≡ spec.read_so names.now (call_in names.now written.now) written.now text.now) }
     ensures within { IfOk result (λ w. length w.rest ≤ length text.now) }
 {
     let Ok(call) = read_call(written, names) else {
@@ -187,14 +157,12 @@ fn read_so<'a>(
 }
 
 /// Goes on over a call that has arguments, where it can be read and is printed so.
-#[tactic(auto, unfolding(crate::specs::Traces::called))]
 fn called<'a>(
     alloc: Global,
     names: &Names,
     call: Call,
     text: &'a [u8],
 ) -> Result<Walk<'a>, AllocError>
-    ensures walk { IfOk result (λ w. w ≡ spec.called names.now call text.now) }
     ensures within { IfOk result (λ w. length w.rest ≤ length text.now) }
 {
     let written = call_part(text);
@@ -209,9 +177,7 @@ fn called<'a>(
 }
 
 /// Goes on over what happens.
-#[tactic(auto, unfolding(crate::specs::Traces::happened))]
 fn happened<'a>(alloc: Global, names: &Names, text: &'a [u8]) -> Result<Walk<'a>, AllocError>
-    ensures walk { IfOk result (λ w. w ≡ spec.happened names.now text.now) }
     ensures within { IfOk result (λ w. length w.rest ≤ length text.now) }
 {
     let (word, rest) = split_prefix(Class::Word, text);
@@ -226,10 +192,7 @@ fn happened<'a>(alloc: Global, names: &Names, text: &'a [u8]) -> Result<Walk<'a>
 }
 
 /// Adds what is printed from the event on.
-#[tactic(auto, unfolding(crate::specs::Traces::report_from_event, fmp_trace::specs::Lines::tail_text))]
-fn put_from_event(out: &mut Vec<u8>, names: &Names, entry: &Record) -> Result<(), AllocError>
-    ensures { OnOk result (out.new.items ≡ out.old.items ++ spec.report_from_event names.now entry.now) }
-{
+fn put_from_event(out: &mut Vec<u8>, names: &Names, entry: &Record) -> Result<(), AllocError> {
     put_event(out, names, entry.event)?;
     out.push(b' ')?;
     put_answer(out, entry.answer)?;
@@ -240,10 +203,7 @@ fn put_from_event(out: &mut Vec<u8>, names: &Names, entry: &Record) -> Result<()
 }
 
 /// Whether a text is printed so from the event on, on whatever processor and whoever runs there.
-#[tactic(auto, unfolding(crate::specs::Traces::is_printed))]
-fn is_printed(alloc: Global, names: &Names, text: &[u8]) -> Result<bool, AllocError>
-    ensures { IfOk result (λ same. same ≡ spec.is_printed names.now text.now) }
-{
+fn is_printed(alloc: Global, names: &Names, text: &[u8]) -> Result<bool, AllocError> {
     let Some(entry) = guess_event(names, None, Proc::new(1), text) else {
         return Ok(false);
     };
@@ -262,7 +222,6 @@ fn words_from<'a>(
     words: &[u8],
 ) -> Result<Walk<'a>, AllocError>
     requires { start + 1 + length words.now ≤ length text.now }
-    ensures { IfOk result (λ w. w ≡ spec.words_from names.now text.now start WantsAnswer (pieces_of 32 words.now)) }
 {
     let mut count = start;
     let mut wanted = Wanted::Answer;
@@ -282,7 +241,6 @@ fn words_from<'a>(
 }
 
 /// Goes on over what follows the event in a text that begins with it.
-#[tactic(auto, unfolding(crate::specs::Traces::answered, fmp_bytes::specs::Bytes::following))]
 fn answered<'a>(
     alloc: Global,
     names: &Names,
@@ -290,7 +248,6 @@ fn answered<'a>(
     rest: &'a [u8],
 ) -> Result<Walk<'a>, AllocError>
     requires { length rest.now ≤ length text.now }
-    ensures { IfOk result (λ w. w ≡ spec.answered names.now text.now rest.now) }
 {
     match rest {
         [b' ', words @ ..] => words_from(alloc, names, text, text.len() - rest.len(), words),
@@ -299,15 +256,12 @@ fn answered<'a>(
 }
 
 /// How far the line of this number is printed so.
-#[tactic(auto, unfolding(crate::specs::Traces::printed_place))]
 fn printed_place<'a>(
     alloc: Global,
     names: &Names,
     n: u32,
     line: &'a [u8],
-) -> Result<Walk<'a>, AllocError>
-    ensures { IfOk result (λ w. w ≡ spec.printed_place names.now n line.now) }
-{
+) -> Result<Walk<'a>, AllocError> {
     let head = headed(names, n, line);
     if head.wanted().is_some() {
         return Ok(head);
@@ -321,9 +275,7 @@ fn printed_place<'a>(
 }
 
 /// Where a byte is not printed, or the carriage return at the end was left out.
-fn byte_place<'a>(rest: &'a [u8]) -> Walk<'a>
-    ensures { result ≡ spec.byte_place rest.now }
-{
+fn byte_place<'a>(rest: &'a [u8]) -> Walk<'a> {
     let wanted = if rest.is_empty() {
         Wanted::NoReturn
     } else {
@@ -339,9 +291,7 @@ pub(crate) fn trace_place<'a>(
     n: u32,
     line: &'a [u8],
     kind: TextKind,
-) -> Result<Walk<'a>, AllocError>
-    ensures { IfOk result (λ w. w ≡ spec.trace_place names.now n line.now kind) }
-{
+) -> Result<Walk<'a>, AllocError> {
     match kind {
         TextKind::BadByte => Ok(byte_place(skip(Class::Printed, line))),
         TextKind::BadWord => printed_place(alloc, names, n, line),
@@ -350,9 +300,7 @@ pub(crate) fn trace_place<'a>(
 }
 
 /// Where a line of a trace that may leave out parts is at fault, by the kind of the fault.
-pub(crate) fn partial_place<'a>(line: &'a [u8], kind: TextKind) -> Walk<'a>
-    ensures { result ≡ spec.partial_place line.now kind }
-{
+pub(crate) fn partial_place<'a>(line: &'a [u8], kind: TextKind) -> Walk<'a> {
     match kind {
         TextKind::BadByte => byte_place(skip(Class::Printed, line)),
         TextKind::BadWord => Walk::stuck(line, Wanted::PartialLine),

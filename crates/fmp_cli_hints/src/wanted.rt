@@ -1,6 +1,4 @@
 //! What is wanted at a place of a text.
-ghost use Rattle.std.specs.Prelude.{◌≡◌, ◌++◌, OnOk, decimal};
-ghost use Rattle.fmp_cli_hints.specs.Wanted as spec;
 
 use fmp_cli_help::{put_argument, put_call};
 use fmp_codes::{ArgumentKind, Call, Event, Proc};
@@ -75,17 +73,12 @@ pub enum Wanted {
 }
 
 /// What stands before what is wanted.
-#[tactic(auto, unfolding(crate::specs::Wanted::label))]
-pub fn label() -> &'static [u8]
-    ensures { result.now ≡ spec.label }
-{
+pub fn label() -> &'static [u8] {
     b"  expected: "
 }
 
 /// What is wanted in a script where no call is.
-fn script_words(wanted: Wanted) -> &'static [u8]
-    ensures { result.now ≡ spec.script_words wanted }
-{
+fn script_words(wanted: Wanted) -> &'static [u8] {
     match wanted {
         Wanted::Step => {
             b"`script` and a function, or in a script `end`, a label, as `again:`, `on <answer> goto <label>`, `goto <label>`, or a call that `fmpsim list` has, but not `ret_hdr`\n"
@@ -113,9 +106,7 @@ fn script_words(wanted: Wanted) -> &'static [u8]
 }
 
 /// What is wanted where no call and no processor is.
-fn words(wanted: Wanted) -> &'static [u8]
-    ensures { result.now ≡ spec.words wanted }
-{
+fn words(wanted: Wanted) -> &'static [u8] {
     match wanted {
         Wanted::LineByte => b"a letter, a digit, `_`, `-`, `(`, `)`, `,` or a blank\n",
         Wanted::Happening => b"`tick`, `ipi`, or a call that `fmpsim list` has\n",
@@ -144,10 +135,7 @@ fn words(wanted: Wanted) -> &'static [u8]
 }
 
 /// Adds that a processor of the machine is wanted.
-#[tactic(auto, unfolding(crate::specs::Wanted::processors))]
-pub fn put_processors(out: &mut Vec<u8>, processors: u8) -> Result<(), AllocError>
-    ensures { OnOk result (out.new.items ≡ out.old.items ++ spec.processors processors) }
-{
+pub fn put_processors(out: &mut Vec<u8>, processors: u8) -> Result<(), AllocError> {
     let mut buffer = Buffer::new();
     out.extend_from_slice(b"a processor, P1 to P")?;
     out.extend_from_slice(buffer.format(processors).as_bytes())?;
@@ -155,10 +143,7 @@ pub fn put_processors(out: &mut Vec<u8>, processors: u8) -> Result<(), AllocErro
 }
 
 /// Adds that this number of the line is wanted.
-#[tactic(auto, unfolding(crate::specs::Wanted::number_line))]
-fn put_line_number(out: &mut Vec<u8>, number: u32) -> Result<(), AllocError>
-    ensures { OnOk result (out.new.items ≡ out.old.items ++ spec.number_line number) }
-{
+fn put_line_number(out: &mut Vec<u8>, number: u32) -> Result<(), AllocError> {
     let mut buffer = Buffer::new();
     out.extend_from_slice(b"the line's number, ")?;
     out.extend_from_slice(buffer.format(number).as_bytes())?;
@@ -166,37 +151,25 @@ fn put_line_number(out: &mut Vec<u8>, number: u32) -> Result<(), AllocError>
 }
 
 /// Adds that this call is wanted as it is printed.
-#[tactic(auto, unfolding(crate::specs::Wanted::printed_line))]
-fn put_printed(out: &mut Vec<u8>, names: &Names, call: Call) -> Result<(), AllocError>
-    ensures { OnOk result (out.new.items ≡ out.old.items ++ spec.printed_line names.now call) }
-{
+fn put_printed(out: &mut Vec<u8>, names: &Names, call: Call) -> Result<(), AllocError> {
     put_event(out, names, Event::Call(Proc::new(1), call))?;
     out.extend_from_slice(b"\n")
 }
 
 /// Adds that this byte is wanted at the place.
-#[tactic(auto, unfolding(crate::specs::Wanted::mark_line))]
-pub fn put_mark(out: &mut Vec<u8>, byte: u8) -> Result<(), AllocError>
-    ensures { OnOk result (out.new.items ≡ out.old.items ++ spec.mark_line byte) }
-{
+pub fn put_mark(out: &mut Vec<u8>, byte: u8) -> Result<(), AllocError> {
     out.extend_from_slice(b"  here: `")?;
     out.push(byte)?;
     out.extend_from_slice(b"`\n")
 }
 
 /// Adds that the end of the line is wanted at the place.
-#[tactic(auto, unfolding(crate::specs::Wanted::end_line))]
-fn put_end(out: &mut Vec<u8>) -> Result<(), AllocError>
-    ensures { OnOk result (out.new.items ≡ out.old.items ++ spec.end_line) }
-{
+fn put_end(out: &mut Vec<u8>) -> Result<(), AllocError> {
     out.extend_from_slice(b"  here: the end of the line\n")
 }
 
 /// Adds what is wanted, after its label.
-#[tactic(auto, unfolding(crate::specs::Wanted::report))]
-fn put_reported(out: &mut Vec<u8>, names: &Names, wanted: Wanted) -> Result<(), AllocError>
-    ensures { OnOk result (out.new.items ≡ out.old.items ++ spec.report names.now wanted) }
-{
+fn put_reported(out: &mut Vec<u8>, names: &Names, wanted: Wanted) -> Result<(), AllocError> {
     match wanted {
         Wanted::Processor => put_processors(out, names.processors()),
         Wanted::LineNumber(number) => put_line_number(out, number),
@@ -218,10 +191,7 @@ fn put_reported(out: &mut Vec<u8>, names: &Names, wanted: Wanted) -> Result<(), 
 }
 
 /// Adds what is wanted, on the machine of these names.
-#[tactic(auto, unfolding(crate::specs::Wanted::wanted_text))]
-pub fn put_wanted(out: &mut Vec<u8>, names: &Names, wanted: Wanted) -> Result<(), AllocError>
-    ensures { OnOk result (out.new.items ≡ out.old.items ++ spec.wanted_text names.now wanted) }
-{
+pub fn put_wanted(out: &mut Vec<u8>, names: &Names, wanted: Wanted) -> Result<(), AllocError> {
     out.extend_from_slice(label())?;
     put_reported(out, names, wanted)
 }

@@ -1,6 +1,4 @@
 //! Where a line of a script text is at fault that says where its script goes on.
-ghost use Rattle.std.specs.Prelude.{◌≡◌};
-ghost use Rattle.fmp_cli_hints.specs.Ways as spec;
 
 use crate::event::barred;
 use crate::text::step_place;
@@ -11,9 +9,7 @@ use fmp_codes::Code;
 use fmp_text::Names;
 
 /// Whether a word is one of those by which C programs choose and repeat.
-fn is_of_c(word: &[u8]) -> bool
-    ensures { result ≡ spec.is_of_c word.now }
-{
+fn is_of_c(word: &[u8]) -> bool {
     word == b"if".as_slice()
         || word == b"else".as_slice()
         || word == b"while".as_slice()
@@ -26,9 +22,7 @@ fn is_of_c(word: &[u8]) -> bool
 }
 
 /// Whether a word begins a line of a script, so that no label has it.
-fn is_taken(word: &[u8]) -> bool
-    ensures { result ≡ spec.is_taken word.now }
-{
+fn is_taken(word: &[u8]) -> bool {
     word == b"script".as_slice()
         || word == b"end".as_slice()
         || word == b"ret_hdr".as_slice()
@@ -37,17 +31,12 @@ fn is_taken(word: &[u8]) -> bool
 }
 
 /// Whether a word is the name of a code.
-pub(crate) fn is_code(word: &[u8]) -> bool
-    ensures { result ≡ spec.is_code word.now }
-{
+pub(crate) fn is_code(word: &[u8]) -> bool {
     Code::ALL.iter().any(|code| code.name().as_bytes() == word)
 }
 
 /// From a byte on that stands in no line of a script text: one of those with which C programs set variables and put statements together, or another.
-#[tactic(auto, unfolding(crate::specs::Ways::byte_place))]
-fn byte_place<'a>(text: &'a [u8]) -> Walk<'a>
-    ensures { result ≡ spec.byte_place text.now }
-{
+fn byte_place<'a>(text: &'a [u8]) -> Walk<'a> {
     match text {
         [b'{' | b'}' | b'=', ..] => Walk::stuck(text, Wanted::Jumps),
         _ => barred(text),
@@ -55,16 +44,12 @@ fn byte_place<'a>(text: &'a [u8]) -> Walk<'a>
 }
 
 /// Whether a byte may stand in a line of a script text.
-fn may_stand(byte: u8) -> bool
-    ensures { result ≡ spec.may_stand byte }
-{
+fn may_stand(byte: u8) -> bool {
     Class::Line.has(byte) || byte == b':'
 }
 
 /// From the first byte on that stands in no line of a script text.
-fn after_line(line: &[u8]) -> &[u8]
-    ensures { result.now ≡ spec.after_line line.now }
-{
+fn after_line(line: &[u8]) -> &[u8] {
     for (index, byte) in line.iter().enumerate() {
         if !may_stand(*byte) {
             return &line[index..];
@@ -74,10 +59,7 @@ fn after_line(line: &[u8]) -> &[u8]
 }
 
 /// A line with a byte that may not stand there. A colon may, but in no call.
-#[tactic(auto, unfolding(crate::specs::Ways::barred_place))]
-pub(crate) fn barred_place<'a>(line: &'a [u8]) -> Walk<'a>
-    ensures { result ≡ spec.barred_place line.now }
-{
+pub(crate) fn barred_place<'a>(line: &'a [u8]) -> Walk<'a> {
     let (word, _rest) = split_prefix(Class::Word, skip(Class::Blank, line));
     let rest = after_line(line);
     if is_of_c(word) {
@@ -91,10 +73,7 @@ pub(crate) fn barred_place<'a>(line: &'a [u8]) -> Walk<'a>
 }
 
 /// A line whose first word may not stand there: a word of C, a jump that stands after no call, one that begins another script, or another.
-#[tactic(auto, unfolding(crate::specs::Ways::word_place))]
-pub(crate) fn word_place<'a>(text: &'a [u8]) -> Walk<'a>
-    ensures { result ≡ spec.word_place text.now }
-{
+pub(crate) fn word_place<'a>(text: &'a [u8]) -> Walk<'a> {
     let (word, _rest) = split_prefix(Class::Word, text);
     if is_of_c(word) {
         return Walk::stuck(text, Wanted::Jumps);
@@ -109,10 +88,7 @@ pub(crate) fn word_place<'a>(text: &'a [u8]) -> Walk<'a>
 }
 
 /// The name of a label, and the end of the line.
-#[tactic(auto, unfolding(crate::specs::Ways::name_place))]
-fn name_place<'a>(text: &'a [u8]) -> Walk<'a>
-    ensures { result ≡ spec.name_place text.now }
-{
+fn name_place<'a>(text: &'a [u8]) -> Walk<'a> {
     let (name, rest) = split_prefix(Class::Word, text);
     if is_identifier(name) && !is_taken(name) {
         ending(Wanted::LineEnd, Walk::going(rest))
@@ -122,10 +98,7 @@ fn name_place<'a>(text: &'a [u8]) -> Walk<'a>
 }
 
 /// `goto` and the name of a label.
-#[tactic(auto, unfolding(crate::specs::Ways::goal_place))]
-fn goal_place<'a>(text: &'a [u8]) -> Walk<'a>
-    ensures { result ≡ spec.goal_place text.now }
-{
+fn goal_place<'a>(text: &'a [u8]) -> Walk<'a> {
     let (word, rest) = split_prefix(Class::Word, text);
     if word == b"goto".as_slice() {
         name_place(skip(Class::Blank, rest))
@@ -135,10 +108,7 @@ fn goal_place<'a>(text: &'a [u8]) -> Walk<'a>
 }
 
 /// The value of an answer, where it is out of its range or not, and what follows it.
-#[tactic(auto, unfolding(crate::specs::Ways::value_place))]
-fn value_place<'a>(ranged: bool, text: &'a [u8]) -> Walk<'a>
-    ensures { result ≡ spec.value_place ranged text.now }
-{
+fn value_place<'a>(ranged: bool, text: &'a [u8]) -> Walk<'a> {
     let (number, rest) = split_prefix(Class::Argument, text);
     if ranged || spelled_number(number).is_none() {
         Walk::stuck(text, Wanted::AnsweredValue)
@@ -148,10 +118,7 @@ fn value_place<'a>(ranged: bool, text: &'a [u8]) -> Walk<'a>
 }
 
 /// What follows `on`: an answer, and what follows it.
-#[tactic(auto, unfolding(crate::specs::Ways::turn_place))]
-fn turn_place<'a>(ranged: bool, text: &'a [u8]) -> Walk<'a>
-    ensures { result ≡ spec.turn_place ranged text.now }
-{
+fn turn_place<'a>(ranged: bool, text: &'a [u8]) -> Walk<'a> {
     let (word, rest) = split_prefix(Class::Word, text);
     match following(b':', rest) {
         Some(number) => {
@@ -172,10 +139,7 @@ fn turn_place<'a>(ranged: bool, text: &'a [u8]) -> Walk<'a>
 }
 
 /// A label, with what follows its colon.
-#[tactic(auto, unfolding(crate::specs::Ways::label_place))]
-fn label_place<'a>(text: &'a [u8], after: &'a [u8]) -> Walk<'a>
-    ensures { result ≡ spec.label_place text.now after.now }
-{
+fn label_place<'a>(text: &'a [u8], after: &'a [u8]) -> Walk<'a> {
     let (name, _rest) = split_prefix(Class::Word, text);
     if !is_identifier(name) {
         return Walk::stuck(text, Wanted::LabelName);
@@ -188,10 +152,7 @@ fn label_place<'a>(text: &'a [u8], after: &'a [u8]) -> Walk<'a>
 }
 
 /// A line that says where its script goes on, or a step: whether a number in it is out of its range is known.
-#[tactic(auto, unfolding(crate::specs::Ways::line_place))]
-pub(crate) fn line_place<'a>(names: &Names, ranged: bool, text: &'a [u8]) -> Walk<'a>
-    ensures { result ≡ spec.line_place names.now ranged text.now }
-{
+pub(crate) fn line_place<'a>(names: &Names, ranged: bool, text: &'a [u8]) -> Walk<'a> {
     let (word, rest) = split_prefix(Class::Word, text);
     if word == b"on".as_slice() {
         return turn_place(ranged, skip(Class::Blank, rest));
