@@ -9,8 +9,9 @@ use Rattle.fmp_config_statements.specs.Table.{statement_of}
 use Rattle.fmp_text.specs.Faults as texts
 use Rattle.fmp_text.specs.declared.fault.TextKind.{TextKind}
 use Rattle.fmp_text.specs.declared.fault.TextKind.TheVariants as text
-use Rattle.fmp_cli_help.specs.Faults.{config_kinds, text_kinds, about_config, about_text}
-use Rattle.fmp_cli_help.specs.Listing.{about, of_fault_or_left_out}
+use Rattle.fmp_cli_help.specs.declared.faults.TheConstants.{CONFIG_KINDS, TEXT_KINDS}
+use Rattle.fmp_cli_help.specs.declared.listing.Subject.TheVariants.{ConfigFault, TextFault}
+use Rattle.fmp_cli_help.specs.Listing.{subject_of, other_subject}
 
 -- the kinds of a list have these places, from n on
 abbrev AreFrom : {K : Type 0} → ℕ → (K → ℕ) → List K → Type 0
@@ -46,7 +47,7 @@ config_place config.BadClass = 10
 config_place config.Memory = 11
 config_place config.ForeignHandler = 12
 
-pub config_listed : (kind : ConfigKind) → Contains config_kinds kind
+pub config_listed : (kind : ConfigKind) → Contains CONFIG_KINDS kind
 config_listed config.Syntax = (0, lit< tt, refl)
 config_listed config.CutShort = (1, lit< tt, refl)
 config_listed config.Unsupported = (2, lit< tt, refl)
@@ -61,13 +62,13 @@ config_listed config.BadClass = (10, lit< tt, refl)
 config_listed config.Memory = (11, lit< tt, refl)
 config_listed config.ForeignHandler = (12, lit< tt, refl)
 
-config_places : AreFrom 0 config_place config_kinds
+config_places : AreFrom 0 config_place CONFIG_KINDS
 config_places = search rules
 
-config_at : (i : ℕ) (kind : ConfigKind) → slice_get config_kinds i ≡ Some kind → config_place kind ≡ i
-config_at i kind e = let at = place_in 0 config_place config_kinds config_places i kind e in omega (arith, at)
+config_at : (i : ℕ) (kind : ConfigKind) → slice_get CONFIG_KINDS i ≡ Some kind → config_place kind ≡ i
+config_at i kind e = let at = place_in 0 config_place CONFIG_KINDS config_places i kind e in omega (arith, at)
 
-pub config_listed_once : (i j : ℕ) (kind : ConfigKind) → slice_get config_kinds i ≡ Some kind → slice_get config_kinds j ≡ Some kind → i ≡ j
+pub config_listed_once : (i j : ℕ) (kind : ConfigKind) → slice_get CONFIG_KINDS i ≡ Some kind → slice_get CONFIG_KINDS j ≡ Some kind → i ≡ j
 config_listed_once i j kind ei ej = sym (config_at i kind ei) ∙ config_at j kind ej
 
 config_number : (kind : ConfigKind) → configs.code_of kind ≡ codes "F" ++ decimal (config_place kind + 1)
@@ -86,12 +87,12 @@ config_number config.BadClass = refl
 config_number config.Memory = refl
 config_number config.ForeignHandler = refl
 
-pub config_in_order : (i : ℕ) (kind : ConfigKind) → slice_get config_kinds i ≡ Some kind → configs.code_of kind ≡ codes "F" ++ decimal (i + 1)
+pub config_in_order : (i : ℕ) (kind : ConfigKind) → slice_get CONFIG_KINDS i ≡ Some kind → configs.code_of kind ≡ codes "F" ++ decimal (i + 1)
 config_in_order i kind e =
     subst (λ (place : ℕ). configs.code_of kind ≡ codes "F" ++ decimal (place + 1)) (config_at i kind e) (config_number kind)
 
-pub config_reported : (kind : ConfigKind) → about (configs.code_of kind) ≡ Some (about_config kind)
-unfolding about of_fault_or_left_out statement_of
+pub config_reported : (kind : ConfigKind) → subject_of (configs.code_of kind) ≡ Some (ConfigFault kind)
+unfolding subject_of other_subject statement_of
 config_reported config.Syntax = refl
 config_reported config.CutShort = refl
 config_reported config.Unsupported = refl
@@ -118,7 +119,7 @@ text_place text.CutShort = 5
 text_place text.TooMany = 6
 text_place text.Memory = 7
 
-pub text_listed : (kind : TextKind) → Contains text_kinds kind
+pub text_listed : (kind : TextKind) → Contains TEXT_KINDS kind
 text_listed text.BadByte = (0, lit< tt, refl)
 text_listed text.BadWord = (1, lit< tt, refl)
 text_listed text.UnknownName = (2, lit< tt, refl)
@@ -128,13 +129,13 @@ text_listed text.CutShort = (5, lit< tt, refl)
 text_listed text.TooMany = (6, lit< tt, refl)
 text_listed text.Memory = (7, lit< tt, refl)
 
-text_places : AreFrom 0 text_place text_kinds
+text_places : AreFrom 0 text_place TEXT_KINDS
 text_places = search rules
 
-text_at : (i : ℕ) (kind : TextKind) → slice_get text_kinds i ≡ Some kind → text_place kind ≡ i
-text_at i kind e = let at = place_in 0 text_place text_kinds text_places i kind e in omega (arith, at)
+text_at : (i : ℕ) (kind : TextKind) → slice_get TEXT_KINDS i ≡ Some kind → text_place kind ≡ i
+text_at i kind e = let at = place_in 0 text_place TEXT_KINDS text_places i kind e in omega (arith, at)
 
-pub text_listed_once : (i j : ℕ) (kind : TextKind) → slice_get text_kinds i ≡ Some kind → slice_get text_kinds j ≡ Some kind → i ≡ j
+pub text_listed_once : (i j : ℕ) (kind : TextKind) → slice_get TEXT_KINDS i ≡ Some kind → slice_get TEXT_KINDS j ≡ Some kind → i ≡ j
 text_listed_once i j kind ei ej = sym (text_at i kind ei) ∙ text_at j kind ej
 
 text_number : (kind : TextKind) → texts.code_of kind ≡ codes "E" ++ decimal (text_place kind + 1)
@@ -148,12 +149,12 @@ text_number text.CutShort = refl
 text_number text.TooMany = refl
 text_number text.Memory = refl
 
-pub text_in_order : (i : ℕ) (kind : TextKind) → slice_get text_kinds i ≡ Some kind → texts.code_of kind ≡ codes "E" ++ decimal (i + 1)
+pub text_in_order : (i : ℕ) (kind : TextKind) → slice_get TEXT_KINDS i ≡ Some kind → texts.code_of kind ≡ codes "E" ++ decimal (i + 1)
 text_in_order i kind e =
     subst (λ (place : ℕ). texts.code_of kind ≡ codes "E" ++ decimal (place + 1)) (text_at i kind e) (text_number kind)
 
-pub text_reported : (kind : TextKind) → about (texts.code_of kind) ≡ Some (about_text kind)
-unfolding about of_fault_or_left_out statement_of
+pub text_reported : (kind : TextKind) → subject_of (texts.code_of kind) ≡ Some (TextFault kind)
+unfolding subject_of other_subject statement_of
 text_reported text.BadByte = refl
 text_reported text.BadWord = refl
 text_reported text.UnknownName = refl

@@ -13,21 +13,20 @@ use Rattle.fmp_config_statements.specs.Table as statements
 use Rattle.fmp_config_statements.specs.declared.attributes.Attribute.{Attribute}
 use Rattle.fmp_config_statements.specs.declared.attributes.Attribute.TheVariants as attribute
 use Rattle.fmp_cli_help.specs.LeftOut.{is_left_out}
-use Rattle.fmp_cli_help.specs.Listing.{about, of_fault_or_left_out}
-use Rattle.fmp_cli_help.specs.Words as words
+use Rattle.fmp_cli_help.specs.Listing.{subject_of, other_subject}
 
-pub code_reported : (code : Code) → is_some (about (name_of code)) ≡ true
-unfolding about of_fault_or_left_out is_left_out words.about words.word_named statements.statement_of
+pub code_reported : (code : Code) → is_some (subject_of (name_of code)) ≡ true
+unfolding subject_of other_subject is_left_out statements.statement_of
 code_reported codes.Accepted = refl
 code_reported _ = refl
 
-pub answer_reported : (answer : Answer) → option_map_or (λ word. is_some (about word)) (word_of answer) true ≡ true
-unfolding about of_fault_or_left_out is_left_out words.about words.word_named statements.statement_of
+pub answer_reported : (answer : Answer) → option_map_or (λ word. is_some (subject_of word)) (word_of answer) true ≡ true
+unfolding subject_of other_subject is_left_out statements.statement_of
 answer_reported (answers.Done code value) = refl
 answer_reported answers.Wait = refl
 answer_reported _ = refl
 
-pub attribute_reported : (a : Attribute) → is_some (about (attributes.text_of a)) ≡ true
-unfolding about of_fault_or_left_out is_left_out words.about words.word_named statements.statement_of
+pub attribute_reported : (a : Attribute) → is_some (subject_of (attributes.text_of a)) ≡ true
+unfolding subject_of other_subject is_left_out statements.statement_of
 attribute_reported attribute.Null = refl
 attribute_reported _ = refl

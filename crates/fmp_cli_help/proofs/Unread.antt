@@ -2,6 +2,7 @@
 use Rattle.std.proofs.Common.{◌≡◌, ℕ, Bool, true, false, List, Option, Some, None, option_map, find, refl}
 use Rattle.std.proofs.lemmas.Slice.Eq.{bytes_eq-Decides}
 use Rattle.std.specs.Prelude.{if◌then◌else◌}
+use Rattle.std.specs.List.{list_any}
 use Rattle.std.specs.Option.{option_or}
 use Rattle.std.specs.Str.{bytes_eq}
 use Rattle.fmp_codes.specs.declared.calls.Call.{Call}
@@ -26,12 +27,12 @@ use Rattle.fmp_config_statements.specs.declared.table.TheConstants.{STATEMENT_NA
 use Rattle.fmp_text.specs.Faults as texts
 use Rattle.fmp_text.specs.declared.fault.TextKind.{TextKind}
 use Rattle.fmp_text.specs.declared.fault.TextKind.TheVariants as text
-use Rattle.fmp_cli_help.specs.Calls as report_calls
-use Rattle.fmp_cli_help.specs.Faults as faults
 use Rattle.fmp_cli_help.specs.LeftOut.{is_left_out}
-use Rattle.fmp_cli_help.specs.Listing.{about, of_fault_or_left_out, left_out_line}
-use Rattle.fmp_cli_help.specs.Statements as report_statements
-use Rattle.fmp_cli_help.specs.Words as words
+use Rattle.fmp_cli_help.specs.Listing.{subject_of, other_subject}
+use Rattle.fmp_cli_help.specs.declared.faults.TheConstants.{CONFIG_KINDS, TEXT_KINDS}
+use Rattle.fmp_cli_help.specs.declared.listing.Subject.{Subject}
+use Rattle.fmp_cli_help.specs.declared.listing.Subject.TheVariants as subject
+use Rattle.fmp_cli_help.specs.declared.words.TheConstants.{WORDS}
 
 -- nothing that is read is left out; a lemma goes through all cases, where its first clauses name one of each family
 pub call_is_read : (call : Call) → is_left_out (table.text_of call) ≡ false
@@ -77,25 +78,25 @@ none_found text list word read left_out (Some k) is =
     let same = (bytes_eq-Decides (text k) word).0 (found_passes (λ k. bytes_eq (text k) word) list k is) in
     absurd (differs (text k) word same (read k) left_out)
 
--- what is told where nothing is found
-report_of : (call : Option Call) (name : Option StatementName) (kind : Option ConfigKind) (fault : Option TextKind) (left_out : Bool) (line : List ℕ) (other : Option (List ℕ))
+-- what a word is where nothing is found
+subject_is : (call : Option Call) (name : Option StatementName) (kind : Option ConfigKind) (fault : Option TextKind) (left_out : Bool) (other : Option Subject)
     → call ≡ None → name ≡ None → kind ≡ None → fault ≡ None → left_out ≡ true
-    → option_or (option_map report_calls.about call) (
-    option_or (option_map report_statements.about name) (
-    option_or (option_map faults.about_config kind) (
-    option_or (option_map faults.about_text fault) (
-    if left_out then Some line else other)))) ≡ Some line
-report_of call name kind fault left_out line other ec en ek ef el = rw (ec, en, ek, ef, el) refl
+    → option_or (option_map subject.Call call) (
+    option_or (option_map subject.Statement name) (
+    option_or (option_map subject.ConfigFault kind) (
+    option_or (option_map subject.TextFault fault) (
+    if left_out then Some subject.LeftOut else other)))) ≡ Some subject.LeftOut
+subject_is call name kind fault left_out other ec en ek ef el = rw (ec, en, ek, ef, el) refl
 
-pub left_out_is_reported : (word : List ℕ) → is_left_out word ≡ true → about word ≡ Some (left_out_line word)
-unfolding about of_fault_or_left_out statements.statement_of
+pub left_out_is_reported : (word : List ℕ) → is_left_out word ≡ true → subject_of word ≡ Some subject.LeftOut
+unfolding subject_of other_subject statements.statement_of
 left_out_is_reported word left_out =
-    report_of (table.named word) (statements.statement_of word)
-    (find (λ kind. bytes_eq (configs.code_of kind) word) faults.config_kinds)
-    (find (λ kind. bytes_eq (texts.code_of kind) word) faults.text_kinds)
-    (is_left_out word) (left_out_line word) (words.about word)
+    subject_is (table.named word) (statements.statement_of word)
+    (find (λ kind. bytes_eq (configs.code_of kind) word) CONFIG_KINDS)
+    (find (λ kind. bytes_eq (texts.code_of kind) word) TEXT_KINDS)
+    (is_left_out word) (if list_any (λ row. bytes_eq row.0.now word) WORDS then Some subject.Word else None)
     (no_call word left_out _ refl)
     (none_found statements.text_of STATEMENT_NAMES word statement_is_read left_out _ refl)
-    (none_found configs.code_of faults.config_kinds word config_fault_is_read left_out _ refl)
-    (none_found texts.code_of faults.text_kinds word text_fault_is_read left_out _ refl)
+    (none_found configs.code_of CONFIG_KINDS word config_fault_is_read left_out _ refl)
+    (none_found texts.code_of TEXT_KINDS word text_fault_is_read left_out _ refl)
     left_out

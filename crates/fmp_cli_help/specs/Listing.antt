@@ -1,38 +1,25 @@
--- The whole list, and what is told of one word.
-use Rattle.std.specs.Prelude.{ℕ, List, ◌++◌, Option, Some, option_map, find, codes, if◌then◌else◌}
+-- What a word is of which there is something to tell.
+use Rattle.std.specs.Prelude.{ℕ, List, Option, Some, None, option_map, find, if◌then◌else◌}
+use Rattle.std.specs.List.{list_any}
 use Rattle.std.specs.Option.{option_or}
 use Rattle.std.specs.Str.{bytes_eq}
 use Rattle.fmp_calls.specs.Table.{named}
-use Rattle.fmp_cli_help.specs.Calls as calls
-use Rattle.fmp_cli_help.specs.Faults as faults
+use Rattle.fmp_cli_help.specs.declared.faults.TheConstants.{CONFIG_KINDS, TEXT_KINDS}
+use Rattle.fmp_cli_help.specs.declared.listing.Subject.{Subject}
+use Rattle.fmp_cli_help.specs.declared.listing.Subject.TheVariants.{Call, Statement, ConfigFault, TextFault, LeftOut, Word}
+use Rattle.fmp_cli_help.specs.declared.words.TheConstants.{WORDS}
 use Rattle.fmp_cli_help.specs.LeftOut.{is_left_out}
-use Rattle.fmp_cli_help.specs.Statements as statements
-use Rattle.fmp_cli_help.specs.Words as words
 use Rattle.fmp_config_statements.specs.Faults as config
 use Rattle.fmp_config_statements.specs.Table.{statement_of}
 use Rattle.fmp_text.specs.Faults as text
 
--- everything, under headings
-unfoldable pub everything : List ℕ
-everything =
-    codes "Service calls:\n" ++ calls.all_calls
-    ++ codes "\nStatements of a configuration:\n" ++ statements.all_statements
-    ++ codes "\nFaults of a configuration:\n" ++ faults.all_of_config
-    ++ codes "\nFaults of events, scripts and traces:\n" ++ faults.all_of_texts
+-- the number of a fault, a name that is left out, or a word of the texts
+unfoldable pub other_subject : List ℕ → Option Subject
+other_subject word =
+    option_or (option_map ConfigFault (find (λ kind. bytes_eq (config.code_of kind) word) CONFIG_KINDS)) (
+    option_or (option_map TextFault (find (λ kind. bytes_eq (text.code_of kind) word) TEXT_KINDS)) (
+    if is_left_out word then Some LeftOut else (if list_any (λ row. bytes_eq row.0.now word) WORDS then Some Word else None)))
 
-unfoldable pub left_out_line : List ℕ → List ℕ
-left_out_line word = codes "fmpsim has no " ++ word ++ codes "\n"
-
--- what is told of a fault's number, of a name that is left out, or of a word of the texts
-unfoldable pub of_fault_or_left_out : List ℕ → Option (List ℕ)
-of_fault_or_left_out word =
-    option_or (option_map faults.about_config (find (λ kind. bytes_eq (config.code_of kind) word) faults.config_kinds)) (
-    option_or (option_map faults.about_text (find (λ kind. bytes_eq (text.code_of kind) word) faults.text_kinds)) (
-    if is_left_out word then Some (left_out_line word) else words.about word))
-
--- what is told of a word: of a call, of a statement, of a fault, of what is left out, or of a word of the texts
-unfoldable pub about : List ℕ → Option (List ℕ)
-about word =
-    option_or (option_map calls.about (named word)) (
-    option_or (option_map statements.about (statement_of word)) (
-    of_fault_or_left_out word))
+-- a call, a statement, or one of these: the first of them that the word is
+unfoldable pub subject_of : List ℕ → Option Subject
+subject_of word = option_or (option_map Call (named word)) (option_or (option_map Statement (statement_of word)) (other_subject word))

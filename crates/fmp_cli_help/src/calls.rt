@@ -1,7 +1,4 @@
 //! The service calls with their arguments.
-ghost use Rattle.std.specs.Prelude.{◌≡◌, ◌++◌, OnOk};
-ghost use Rattle.fmp_codes.specs.declared.calls.Call.TheVariants as families;
-ghost use Rattle.fmp_cli_help.specs.Calls as spec;
 
 use crate::deeds::deed;
 use fmp_calls::{BUFFER_CALLS, SPIN_CALLS, SYNC_CALLS, SYSTEM_CALLS, TASK_CALLS, TIME_CALLS, form};
@@ -11,9 +8,7 @@ use fmp_codes::{
 use std::alloc::AllocError;
 
 /// What an argument of a kind is called.
-fn word_of(kind: ArgumentKind) -> &'static [u8]
-    ensures { result.now ≡ spec.word_of kind }
-{
+fn word_of(kind: ArgumentKind) -> &'static [u8] {
     match kind {
         ArgumentKind::Object(ObjectKind::Task) => b"task",
         ArgumentKind::Object(ObjectKind::Semaphore) => b"semaphore",
@@ -35,9 +30,7 @@ fn word_of(kind: ArgumentKind) -> &'static [u8]
 }
 
 /// What may be written for an argument of a kind.
-fn written(kind: ArgumentKind) -> &'static [u8]
-    ensures { result.now ≡ spec.written kind }
-{
+fn written(kind: ArgumentKind) -> &'static [u8] {
     match kind {
         ArgumentKind::Object(ObjectKind::Task) => {
             b"its name, TSK_SELF for 0, or a number of 32 bits with a sign"
@@ -58,9 +51,7 @@ fn written(kind: ArgumentKind) -> &'static [u8]
 }
 
 /// Adds the kinds of a call's arguments, with commas between them.
-fn put_kinds(out: &mut Vec<u8>, kinds: &[ArgumentKind]) -> Result<(), AllocError>
-    ensures { OnOk result (out.new.items ≡ out.old.items ++ spec.kinds_from 0 kinds.now) }
-{
+fn put_kinds(out: &mut Vec<u8>, kinds: &[ArgumentKind]) -> Result<(), AllocError> {
     for (index, kind) in kinds.iter().enumerate() {
         if index > 0 {
             out.extend_from_slice(b", ")?;
@@ -71,10 +62,7 @@ fn put_kinds(out: &mut Vec<u8>, kinds: &[ArgumentKind]) -> Result<(), AllocError
 }
 
 /// Adds a call as it is written, with the kinds of its arguments.
-#[tactic(auto, unfolding(crate::specs::Calls::line_of))]
-pub fn put_call(out: &mut Vec<u8>, call: Call) -> Result<(), AllocError>
-    ensures { OnOk result (out.new.items ≡ out.old.items ++ spec.line_of call) }
-{
+pub fn put_call(out: &mut Vec<u8>, call: Call) -> Result<(), AllocError> {
     let form = form(call);
     out.extend_from_slice(form.text)?;
     if !form.bare {
@@ -86,10 +74,7 @@ pub fn put_call(out: &mut Vec<u8>, call: Call) -> Result<(), AllocError>
 }
 
 /// Adds what may be written for an argument of a kind.
-#[tactic(auto, unfolding(crate::specs::Calls::argument_of))]
-pub fn put_argument(out: &mut Vec<u8>, kind: ArgumentKind) -> Result<(), AllocError>
-    ensures { OnOk result (out.new.items ≡ out.old.items ++ spec.argument_of kind) }
-{
+pub fn put_argument(out: &mut Vec<u8>, kind: ArgumentKind) -> Result<(), AllocError> {
     out.extend_from_slice(b"  ")?;
     out.extend_from_slice(word_of(kind))?;
     out.extend_from_slice(b": ")?;
@@ -98,9 +83,7 @@ pub fn put_argument(out: &mut Vec<u8>, kind: ArgumentKind) -> Result<(), AllocEr
 }
 
 /// Adds for each of these kinds of arguments what may be written.
-fn put_arguments(out: &mut Vec<u8>, kinds: &[ArgumentKind]) -> Result<(), AllocError>
-    ensures { OnOk result (out.new.items ≡ out.old.items ++ spec.arguments_of kinds.now) }
-{
+fn put_arguments(out: &mut Vec<u8>, kinds: &[ArgumentKind]) -> Result<(), AllocError> {
     for kind in kinds {
         put_argument(out, *kind)?;
     }
@@ -108,20 +91,14 @@ fn put_arguments(out: &mut Vec<u8>, kinds: &[ArgumentKind]) -> Result<(), AllocE
 }
 
 /// Adds a call, and for each of its arguments what may be written.
-#[tactic(auto, unfolding(crate::specs::Calls::about))]
-pub(crate) fn put_about(out: &mut Vec<u8>, call: Call) -> Result<(), AllocError>
-    ensures { OnOk result (out.new.items ≡ out.old.items ++ spec.about call) }
-{
+pub(crate) fn put_about(out: &mut Vec<u8>, call: Call) -> Result<(), AllocError> {
     put_call(out, call)?;
     put_arguments(out, form(call).kinds)?;
     out.extend_from_slice(deed(call))
 }
 
 /// Adds a line for each of these calls on tasks.
-#[tactic(auto, unfolding(crate::specs::Calls::lines_of))]
-fn put_task_lines(out: &mut Vec<u8>, calls: &[TaskCall]) -> Result<(), AllocError>
-    ensures { OnOk result (out.new.items ≡ out.old.items ++ spec.lines_of families.Task calls.now) }
-{
+fn put_task_lines(out: &mut Vec<u8>, calls: &[TaskCall]) -> Result<(), AllocError> {
     for call in calls {
         put_call(out, Call::Task(*call))?;
     }
@@ -129,10 +106,7 @@ fn put_task_lines(out: &mut Vec<u8>, calls: &[TaskCall]) -> Result<(), AllocErro
 }
 
 /// Adds a line for each of these calls on semaphores and eventflags.
-#[tactic(auto, unfolding(crate::specs::Calls::lines_of))]
-fn put_sync_lines(out: &mut Vec<u8>, calls: &[SyncCall]) -> Result<(), AllocError>
-    ensures { OnOk result (out.new.items ≡ out.old.items ++ spec.lines_of families.Sync calls.now) }
-{
+fn put_sync_lines(out: &mut Vec<u8>, calls: &[SyncCall]) -> Result<(), AllocError> {
     for call in calls {
         put_call(out, Call::Sync(*call))?;
     }
@@ -140,10 +114,7 @@ fn put_sync_lines(out: &mut Vec<u8>, calls: &[SyncCall]) -> Result<(), AllocErro
 }
 
 /// Adds a line for each of these calls on data queues and pools.
-#[tactic(auto, unfolding(crate::specs::Calls::lines_of))]
-fn put_buffer_lines(out: &mut Vec<u8>, calls: &[BufferCall]) -> Result<(), AllocError>
-    ensures { OnOk result (out.new.items ≡ out.old.items ++ spec.lines_of families.Buffer calls.now) }
-{
+fn put_buffer_lines(out: &mut Vec<u8>, calls: &[BufferCall]) -> Result<(), AllocError> {
     for call in calls {
         put_call(out, Call::Buffer(*call))?;
     }
@@ -151,10 +122,7 @@ fn put_buffer_lines(out: &mut Vec<u8>, calls: &[BufferCall]) -> Result<(), Alloc
 }
 
 /// Adds a line for each of these calls on cyclic handlers and alarms.
-#[tactic(auto, unfolding(crate::specs::Calls::lines_of))]
-fn put_time_lines(out: &mut Vec<u8>, calls: &[TimeCall]) -> Result<(), AllocError>
-    ensures { OnOk result (out.new.items ≡ out.old.items ++ spec.lines_of families.Time calls.now) }
-{
+fn put_time_lines(out: &mut Vec<u8>, calls: &[TimeCall]) -> Result<(), AllocError> {
     for call in calls {
         put_call(out, Call::Time(*call))?;
     }
@@ -162,10 +130,7 @@ fn put_time_lines(out: &mut Vec<u8>, calls: &[TimeCall]) -> Result<(), AllocErro
 }
 
 /// Adds a line for each of these calls on the processors and the state of dispatching.
-#[tactic(auto, unfolding(crate::specs::Calls::lines_of))]
-fn put_system_lines(out: &mut Vec<u8>, calls: &[SystemCall]) -> Result<(), AllocError>
-    ensures { OnOk result (out.new.items ≡ out.old.items ++ spec.lines_of families.System calls.now) }
-{
+fn put_system_lines(out: &mut Vec<u8>, calls: &[SystemCall]) -> Result<(), AllocError> {
     for call in calls {
         put_call(out, Call::System(*call))?;
     }
@@ -173,74 +138,20 @@ fn put_system_lines(out: &mut Vec<u8>, calls: &[SystemCall]) -> Result<(), Alloc
 }
 
 /// Adds a line for each of these calls on spin locks.
-#[tactic(auto, unfolding(crate::specs::Calls::lines_of))]
-fn put_spin_lines(out: &mut Vec<u8>, calls: &[SpinCall]) -> Result<(), AllocError>
-    ensures { OnOk result (out.new.items ≡ out.old.items ++ spec.lines_of families.Spin calls.now) }
-{
+fn put_spin_lines(out: &mut Vec<u8>, calls: &[SpinCall]) -> Result<(), AllocError> {
     for call in calls {
         put_call(out, Call::Spin(*call))?;
     }
     Ok(())
 }
 
-/// Adds a line for each call on tasks.
-#[tactic(auto, unfolding(crate::specs::Calls::task_calls))]
-fn put_task_calls(out: &mut Vec<u8>) -> Result<(), AllocError>
-    ensures { OnOk result (out.new.items ≡ out.old.items ++ spec.task_calls) }
-{
-    put_task_lines(out, TASK_CALLS)
-}
-
-/// Adds a line for each call on semaphores and eventflags.
-#[tactic(auto, unfolding(crate::specs::Calls::sync_calls))]
-fn put_sync_calls(out: &mut Vec<u8>) -> Result<(), AllocError>
-    ensures { OnOk result (out.new.items ≡ out.old.items ++ spec.sync_calls) }
-{
-    put_sync_lines(out, SYNC_CALLS)
-}
-
-/// Adds a line for each call on data queues and pools.
-#[tactic(auto, unfolding(crate::specs::Calls::buffer_calls))]
-fn put_buffer_calls(out: &mut Vec<u8>) -> Result<(), AllocError>
-    ensures { OnOk result (out.new.items ≡ out.old.items ++ spec.buffer_calls) }
-{
-    put_buffer_lines(out, BUFFER_CALLS)
-}
-
-/// Adds a line for each call on cyclic handlers and alarms.
-#[tactic(auto, unfolding(crate::specs::Calls::time_calls))]
-fn put_time_calls(out: &mut Vec<u8>) -> Result<(), AllocError>
-    ensures { OnOk result (out.new.items ≡ out.old.items ++ spec.time_calls) }
-{
-    put_time_lines(out, TIME_CALLS)
-}
-
-/// Adds a line for each call on the processors and the state of dispatching.
-#[tactic(auto, unfolding(crate::specs::Calls::system_calls))]
-fn put_system_calls(out: &mut Vec<u8>) -> Result<(), AllocError>
-    ensures { OnOk result (out.new.items ≡ out.old.items ++ spec.system_calls) }
-{
-    put_system_lines(out, SYSTEM_CALLS)
-}
-
-/// Adds a line for each call on spin locks.
-#[tactic(auto, unfolding(crate::specs::Calls::spin_calls))]
-fn put_spin_calls(out: &mut Vec<u8>) -> Result<(), AllocError>
-    ensures { OnOk result (out.new.items ≡ out.old.items ++ spec.spin_calls) }
-{
-    put_spin_lines(out, SPIN_CALLS)
-}
-
 /// Adds a line for each call.
-#[tactic(auto, unfolding(crate::specs::Calls::all_calls))]
-pub fn put_calls(out: &mut Vec<u8>) -> Result<(), AllocError>
-    ensures { OnOk result (out.new.items ≡ out.old.items ++ spec.all_calls) }
-{
-    put_task_calls(out)?;
-    put_sync_calls(out)?;
-    put_buffer_calls(out)?;
-    put_time_calls(out)?;
-    put_system_calls(out)?;
-    put_spin_calls(out)?;
+pub fn put_calls(out: &mut Vec<u8>) -> Result<(), AllocError> {
+    put_task_lines(out, TASK_CALLS)?;
+    put_sync_lines(out, SYNC_CALLS)?;
+    put_buffer_lines(out, BUFFER_CALLS)?;
+    put_time_lines(out, TIME_CALLS)?;
+    put_system_lines(out, SYSTEM_CALLS)?;
+    put_spin_lines(out, SPIN_CALLS)?;
     put_call(out, Call::RetHdr)
 }

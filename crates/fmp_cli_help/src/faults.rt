@@ -1,9 +1,8 @@
 //! The faults of texts, and what to do about them.
-ghost use Rattle.std.specs.Prelude.{◌≡◌, ◌++◌, OnOk, find};
+ghost use Rattle.std.specs.Prelude.{◌≡◌, find};
 ghost use Rattle.std.specs.Str.{bytes_eq};
 ghost use Rattle.fmp_config_statements.specs.Faults as config;
 ghost use Rattle.fmp_text.specs.Faults as text;
-ghost use Rattle.fmp_cli_help.specs.Faults as spec;
 
 use fmp_config_statements::ConfigKind;
 use fmp_text::TextKind;
@@ -39,9 +38,7 @@ pub(crate) const TEXT_KINDS: [TextKind; 8] = [
 ];
 
 /// What to do about a fault of a configuration.
-fn config_advice(kind: ConfigKind) -> &'static [u8]
-    ensures { result.now ≡ spec.config_advice kind }
-{
+fn config_advice(kind: ConfigKind) -> &'static [u8] {
     match kind {
         ConfigKind::Syntax =>
             b"Compare the statement with its form, which `fmpsim list` shows for its name. The word is the token that does not fit.",
@@ -70,9 +67,7 @@ fn config_advice(kind: ConfigKind) -> &'static [u8]
 }
 
 /// What to do about a fault of events, scripts or a trace.
-fn text_advice(kind: TextKind) -> &'static [u8]
-    ensures { result.now ≡ spec.text_advice kind }
-{
+fn text_advice(kind: TextKind) -> &'static [u8] {
     match kind {
         TextKind::BadByte =>
             b"Write only letters, digits, `_`, `-`, `(`, `)`, `,` and blanks. A comment has a line of its own that begins with `#`.",
@@ -92,10 +87,7 @@ fn text_advice(kind: TextKind) -> &'static [u8]
 }
 
 /// Adds the line of a fault of a configuration: its number and its words.
-#[tactic(auto, unfolding(crate::specs::Faults::config_line))]
-fn put_config_line(out: &mut Vec<u8>, kind: ConfigKind) -> Result<(), AllocError>
-    ensures { OnOk result (out.new.items ≡ out.old.items ++ spec.config_line kind) }
-{
+fn put_config_line(out: &mut Vec<u8>, kind: ConfigKind) -> Result<(), AllocError> {
     out.extend_from_slice(kind.code().as_bytes())?;
     out.push(b' ')?;
     out.extend_from_slice(kind.words().as_bytes())?;
@@ -103,10 +95,7 @@ fn put_config_line(out: &mut Vec<u8>, kind: ConfigKind) -> Result<(), AllocError
 }
 
 /// Adds the line of a fault of events, scripts or a trace: its number and its words.
-#[tactic(auto, unfolding(crate::specs::Faults::text_line))]
-fn put_text_line(out: &mut Vec<u8>, kind: TextKind) -> Result<(), AllocError>
-    ensures { OnOk result (out.new.items ≡ out.old.items ++ spec.text_line kind) }
-{
+fn put_text_line(out: &mut Vec<u8>, kind: TextKind) -> Result<(), AllocError> {
     out.extend_from_slice(kind.code().as_bytes())?;
     out.push(b' ')?;
     out.extend_from_slice(kind.words().as_bytes())?;
@@ -114,51 +103,36 @@ fn put_text_line(out: &mut Vec<u8>, kind: TextKind) -> Result<(), AllocError>
 }
 
 /// Adds the line of what to do about a fault.
-#[tactic(auto, unfolding(crate::specs::Faults::advice_line))]
-fn put_advice(out: &mut Vec<u8>, advice: &[u8]) -> Result<(), AllocError>
-    ensures { OnOk result (out.new.items ≡ out.old.items ++ spec.advice_line advice.now) }
-{
+fn put_advice(out: &mut Vec<u8>, advice: &[u8]) -> Result<(), AllocError> {
     out.extend_from_slice(b"  ")?;
     out.extend_from_slice(advice)?;
     out.extend_from_slice(b"\n")
 }
 
 /// Adds what to do about a fault of a configuration.
-pub fn put_config_advice(out: &mut Vec<u8>, kind: ConfigKind) -> Result<(), AllocError>
-    ensures { OnOk result (out.new.items ≡ out.old.items ++ spec.advice_line (spec.config_advice kind)) }
-{
+pub fn put_config_advice(out: &mut Vec<u8>, kind: ConfigKind) -> Result<(), AllocError> {
     put_advice(out, config_advice(kind))
 }
 
 /// Adds a fault of a configuration, and what to do about it.
-#[tactic(auto, unfolding(crate::specs::Faults::about_config))]
-pub(crate) fn put_about_config(out: &mut Vec<u8>, kind: ConfigKind) -> Result<(), AllocError>
-    ensures { OnOk result (out.new.items ≡ out.old.items ++ spec.about_config kind) }
-{
+pub(crate) fn put_about_config(out: &mut Vec<u8>, kind: ConfigKind) -> Result<(), AllocError> {
     put_config_line(out, kind)?;
     put_advice(out, config_advice(kind))
 }
 
 /// Adds what to do about a fault of events, scripts or a trace.
-pub fn put_text_advice(out: &mut Vec<u8>, kind: TextKind) -> Result<(), AllocError>
-    ensures { OnOk result (out.new.items ≡ out.old.items ++ spec.advice_line (spec.text_advice kind)) }
-{
+pub fn put_text_advice(out: &mut Vec<u8>, kind: TextKind) -> Result<(), AllocError> {
     put_advice(out, text_advice(kind))
 }
 
 /// Adds a fault of events, scripts or a trace, and what to do about it.
-#[tactic(auto, unfolding(crate::specs::Faults::about_text))]
-pub(crate) fn put_about_text(out: &mut Vec<u8>, kind: TextKind) -> Result<(), AllocError>
-    ensures { OnOk result (out.new.items ≡ out.old.items ++ spec.about_text kind) }
-{
+pub(crate) fn put_about_text(out: &mut Vec<u8>, kind: TextKind) -> Result<(), AllocError> {
     put_text_line(out, kind)?;
     put_advice(out, text_advice(kind))
 }
 
 /// Adds a line for each of these faults of a configuration.
-fn put_config_lines(out: &mut Vec<u8>, kinds: &[ConfigKind]) -> Result<(), AllocError>
-    ensures { OnOk result (out.new.items ≡ out.old.items ++ spec.config_lines kinds.now) }
-{
+fn put_config_lines(out: &mut Vec<u8>, kinds: &[ConfigKind]) -> Result<(), AllocError> {
     for kind in kinds {
         put_config_line(out, *kind)?;
     }
@@ -166,17 +140,12 @@ fn put_config_lines(out: &mut Vec<u8>, kinds: &[ConfigKind]) -> Result<(), Alloc
 }
 
 /// Adds a line for each fault of a configuration.
-#[tactic(auto, unfolding(crate::specs::Faults::all_of_config))]
-pub(crate) fn put_config_faults(out: &mut Vec<u8>) -> Result<(), AllocError>
-    ensures { OnOk result (out.new.items ≡ out.old.items ++ spec.all_of_config) }
-{
+pub(crate) fn put_config_faults(out: &mut Vec<u8>) -> Result<(), AllocError> {
     put_config_lines(out, &CONFIG_KINDS)
 }
 
 /// Adds a line for each of these faults of events, scripts or a trace.
-fn put_text_lines(out: &mut Vec<u8>, kinds: &[TextKind]) -> Result<(), AllocError>
-    ensures { OnOk result (out.new.items ≡ out.old.items ++ spec.text_lines kinds.now) }
-{
+fn put_text_lines(out: &mut Vec<u8>, kinds: &[TextKind]) -> Result<(), AllocError> {
     for kind in kinds {
         put_text_line(out, *kind)?;
     }
@@ -184,16 +153,13 @@ fn put_text_lines(out: &mut Vec<u8>, kinds: &[TextKind]) -> Result<(), AllocErro
 }
 
 /// Adds a line for each fault of events, scripts and traces.
-#[tactic(auto, unfolding(crate::specs::Faults::all_of_texts))]
-pub(crate) fn put_text_faults(out: &mut Vec<u8>) -> Result<(), AllocError>
-    ensures { OnOk result (out.new.items ≡ out.old.items ++ spec.all_of_texts) }
-{
+pub(crate) fn put_text_faults(out: &mut Vec<u8>) -> Result<(), AllocError> {
     put_text_lines(out, &TEXT_KINDS)
 }
 
 /// The fault of a configuration with this number, such as `F7`.
 pub(crate) fn find_config_kind(word: &[u8]) -> Option<ConfigKind>
-    ensures { result ≡ find (λ kind. bytes_eq (config.code_of kind) word.now) spec.config_kinds }
+    ensures { result ≡ find (λ kind. bytes_eq (config.code_of kind) word.now) CONFIG_KINDS }
 {
     CONFIG_KINDS
         .iter()
@@ -203,7 +169,7 @@ pub(crate) fn find_config_kind(word: &[u8]) -> Option<ConfigKind>
 
 /// The fault of events, scripts and traces with this number, such as `E4`.
 pub(crate) fn find_text_kind(word: &[u8]) -> Option<TextKind>
-    ensures { result ≡ find (λ kind. bytes_eq (text.code_of kind) word.now) spec.text_kinds }
+    ensures { result ≡ find (λ kind. bytes_eq (text.code_of kind) word.now) TEXT_KINDS }
 {
     TEXT_KINDS
         .iter()

@@ -1,14 +1,10 @@
 //! What the fields of statements are called.
-ghost use Rattle.std.specs.Prelude.{◌≡◌};
-ghost use Rattle.fmp_cli_help.specs.Fields as spec;
 
 use fmp_codes::ObjectKind;
 use fmp_config_statements::{Item, StatementName};
 
 /// What the identifier of what a statement names is called.
-fn name_word(name: StatementName) -> &'static [u8]
-    ensures { result.now ≡ spec.name_word name }
-{
+fn name_word(name: StatementName) -> &'static [u8] {
     match name {
         StatementName::Create(ObjectKind::Task) => b"tskid",
         StatementName::Create(ObjectKind::Semaphore) => b"semid",
@@ -23,9 +19,7 @@ fn name_word(name: StatementName) -> &'static [u8]
 }
 
 /// What the attribute of what a statement creates is called.
-pub(crate) fn attribute_word(name: StatementName) -> &'static [u8]
-    ensures { result.now ≡ spec.attribute_word name }
-{
+pub(crate) fn attribute_word(name: StatementName) -> &'static [u8] {
     match name {
         StatementName::Create(ObjectKind::Task) => b"tskatr",
         StatementName::Create(ObjectKind::Semaphore) => b"sematr",
@@ -40,9 +34,7 @@ pub(crate) fn attribute_word(name: StatementName) -> &'static [u8]
 }
 
 /// What the function of what a statement creates is called.
-fn function_word(name: StatementName) -> &'static [u8]
-    ensures { result.now ≡ spec.function_word name }
-{
+fn function_word(name: StatementName) -> &'static [u8] {
     match name {
         StatementName::Create(ObjectKind::Task) => b"task",
         StatementName::Create(ObjectKind::Cyclic) => b"cychdr",
@@ -52,9 +44,7 @@ fn function_word(name: StatementName) -> &'static [u8]
 }
 
 /// What the first number of a statement is called.
-pub(crate) fn first_word(name: StatementName) -> &'static [u8]
-    ensures { result.now ≡ spec.first_word name }
-{
+pub(crate) fn first_word(name: StatementName) -> &'static [u8] {
     match name {
         StatementName::Timer => b"processor",
         StatementName::Limits => b"wupcnt",
@@ -70,9 +60,7 @@ pub(crate) fn first_word(name: StatementName) -> &'static [u8]
 }
 
 /// What the second number of a statement is called.
-pub(crate) fn second_word(name: StatementName) -> &'static [u8]
-    ensures { result.now ≡ spec.second_word name }
-{
+pub(crate) fn second_word(name: StatementName) -> &'static [u8] {
     match name {
         StatementName::Limits => b"pri",
         StatementName::Create(ObjectKind::Semaphore) => b"maxsem",
@@ -82,9 +70,7 @@ pub(crate) fn second_word(name: StatementName) -> &'static [u8]
 }
 
 /// The word for an item of a statement.
-pub fn word_of(name: StatementName, item: Item) -> &'static [u8]
-    ensures { result.now ≡ spec.word_of name item }
-{
+pub fn word_of(name: StatementName, item: Item) -> &'static [u8] {
     match item {
         Item::Name => name_word(name),
         Item::Function => function_word(name),
@@ -97,9 +83,7 @@ pub fn word_of(name: StatementName, item: Item) -> &'static [u8]
 }
 
 /// The field of a task without effect that has so many before it.
-fn task_field(index: usize) -> &'static [u8]
-    ensures { result.now ≡ spec.task_field index }
-{
+fn task_field(index: usize) -> &'static [u8] {
     if index == 0 {
         b"exinf"
     } else if index == 1 {
@@ -110,9 +94,7 @@ fn task_field(index: usize) -> &'static [u8]
 }
 
 /// The field of a pool without effect that has so many before it.
-fn pool_field(index: usize) -> &'static [u8]
-    ensures { result.now ≡ spec.pool_field index }
-{
+fn pool_field(index: usize) -> &'static [u8] {
     if index == 0 {
         b"blksz"
     } else if index == 1 {
@@ -123,9 +105,7 @@ fn pool_field(index: usize) -> &'static [u8]
 }
 
 /// The field of a statement without effect that has so many before it.
-pub(crate) fn free_field(name: StatementName, index: usize) -> &'static [u8]
-    ensures { result.now ≡ spec.free_field name index }
-{
+pub(crate) fn free_field(name: StatementName, index: usize) -> &'static [u8] {
     match name {
         StatementName::Create(ObjectKind::Task) => task_field(index),
         StatementName::Create(ObjectKind::Pool) => pool_field(index),

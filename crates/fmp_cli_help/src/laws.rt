@@ -21,32 +21,30 @@ ghost use Rattle.fmp_text.specs.Faults as texts;
 ghost use Rattle.fmp_cli_help.specs.declared.deeds.TheConstants.{DEEDS};
 ghost use Rattle.fmp_cli_help.specs.declared.faults.TheConstants.{CONFIG_KINDS, TEXT_KINDS};
 ghost use Rattle.fmp_cli_help.specs.declared.left_out.TheConstants.{BEGINNINGS, ENDINGS, NAMES};
-ghost use Rattle.fmp_cli_help.specs.Faults.{config_kinds, text_kinds, about_config, about_text};
 ghost use Rattle.fmp_cli_help.specs.LeftOut.{beginnings, endings, names, is_left_out};
-ghost use Rattle.fmp_cli_help.specs.Listing.{about, left_out_line};
+ghost use Rattle.fmp_cli_help.specs.Listing.{subject_of};
+ghost use Rattle.fmp_cli_help.specs.declared.listing.Subject.TheVariants as subjects;
 
 /// The list of the faults of a configuration has each of them exactly once, in the order of their numbers, and each is told where
 /// its number is asked for.
 pub fn config_faults_are_listed()
-    ensures list { CONFIG_KINDS ≡ config_kinds }
-    ensures every { (kind : ConfigKind) → Contains config_kinds kind }
-    ensures once { (i j : ℕ) (kind : ConfigKind) → slice_get config_kinds i ≡ Some kind
-        → slice_get config_kinds j ≡ Some kind → i ≡ j }
-    ensures order { (i : ℕ) (kind : ConfigKind) → slice_get config_kinds i ≡ Some kind
+    ensures every { (kind : ConfigKind) → Contains CONFIG_KINDS kind }
+    ensures once { (i j : ℕ) (kind : ConfigKind) → slice_get CONFIG_KINDS i ≡ Some kind
+        → slice_get CONFIG_KINDS j ≡ Some kind → i ≡ j }
+    ensures order { (i : ℕ) (kind : ConfigKind) → slice_get CONFIG_KINDS i ≡ Some kind
         → configs.code_of kind ≡ codes "F" ++ decimal (i + 1) }
-    ensures report { (kind : ConfigKind) → about (configs.code_of kind) ≡ Some (about_config kind) }
+    ensures report { (kind : ConfigKind) → subject_of (configs.code_of kind) ≡ Some (subjects.ConfigFault kind) }
 {}
 
 /// The list of the faults of events, scripts and traces has each of them exactly once, in the order of their numbers, and each is
 /// told where its number is asked for.
 pub fn text_faults_are_listed()
-    ensures list { TEXT_KINDS ≡ text_kinds }
-    ensures every { (kind : TextKind) → Contains text_kinds kind }
-    ensures once { (i j : ℕ) (kind : TextKind) → slice_get text_kinds i ≡ Some kind
-        → slice_get text_kinds j ≡ Some kind → i ≡ j }
-    ensures order { (i : ℕ) (kind : TextKind) → slice_get text_kinds i ≡ Some kind
+    ensures every { (kind : TextKind) → Contains TEXT_KINDS kind }
+    ensures once { (i j : ℕ) (kind : TextKind) → slice_get TEXT_KINDS i ≡ Some kind
+        → slice_get TEXT_KINDS j ≡ Some kind → i ≡ j }
+    ensures order { (i : ℕ) (kind : TextKind) → slice_get TEXT_KINDS i ≡ Some kind
         → texts.code_of kind ≡ codes "E" ++ decimal (i + 1) }
-    ensures report { (kind : TextKind) → about (texts.code_of kind) ≡ Some (about_text kind) }
+    ensures report { (kind : TextKind) → subject_of (texts.code_of kind) ≡ Some (subjects.TextFault kind) }
 {}
 
 /// The table of what the calls do has exactly one row with the name of each call, and no other row.
@@ -64,14 +62,14 @@ pub fn left_out_words_are_listed()
 
 /// What is left out is told so, and no call and no statement that is read is left out.
 pub fn what_is_left_out_is_reported()
-    ensures report { (word : List ℕ) → is_left_out word ≡ true → about word ≡ Some (left_out_line word) }
+    ensures report { (word : List ℕ) → is_left_out word ≡ true → subject_of word ≡ Some subjects.LeftOut }
     ensures calls { (call : Call) → is_left_out (calls.text_of call) ≡ false }
     ensures statements { (name : StatementName) → is_left_out (statements.text_of name) ≡ false }
 {}
 
 /// There is something to tell of each code, of each other answer and of each attribute.
 pub fn answers_and_attributes_are_reported()
-    ensures codes { (code : Code) → is_some (about (name_of code)) ≡ true }
-    ensures answers { (answer : Answer) → option_map_or (λ word. is_some (about word)) (word_of answer) true ≡ true }
-    ensures attributes { (attribute : Attribute) → is_some (about (attributes.text_of attribute)) ≡ true }
+    ensures codes { (code : Code) → is_some (subject_of (name_of code)) ≡ true }
+    ensures answers { (answer : Answer) → option_map_or (λ word. is_some (subject_of word)) (word_of answer) true ≡ true }
+    ensures attributes { (attribute : Attribute) → is_some (subject_of (attributes.text_of attribute)) ≡ true }
 {}

@@ -2,10 +2,9 @@
 //! read.
 //!
 //! [`everything`] tells all of it, and [`about`] what there is to tell of one word: also of an answer, an attribute or another word of
-//! the texts. The contract of each is one equation with a text of `specs/Listing`, which is made of the readers' tables: a call or a
-//! statement that is read is told, with the arguments and ranges that the reader takes. What to do about a fault is told here alone, and
-//! so is what a call does, what a word means and what is left out. What a call does stands in the table `DEEDS`, which the definition
-//! cites, and the other texts stand in `specs`. Laws say that no fault, no call, no answer and no attribute is forgotten.
+//! the texts. By contract there is something to tell of just the words that are a subject by `specs/Listing`, which goes by the readers' tables
+//! ([`subject_of`]); what a call does is what its row of the table `DEEDS` says; and a near name is a nearest one (`specs/Near`). Laws say that no
+//! fault, no call, no answer and no attribute is forgotten. The texts that are told are only tested, word for word.
 #![tactic(auto)]
 
 mod calls;
@@ -18,7 +17,6 @@ mod listing;
 mod near;
 mod projects;
 mod statements;
-mod states;
 mod words;
 
 pub use calls::{put_argument, put_call};

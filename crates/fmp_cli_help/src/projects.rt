@@ -1,6 +1,4 @@
 //! The words by which a text is known to be of the static API files of a TOPPERS project.
-ghost use Rattle.std.specs.Prelude.{◌≡◌};
-ghost use Rattle.fmp_cli_help.specs.Projects as spec;
 
 use crate::left_out::{begins_with_one, is_one};
 
@@ -17,23 +15,16 @@ pub const PROJECT_NAMES: [&[u8]; 10] = [
 ];
 
 /// Whether a word is called as the classes are that a kernel brings with it.
-pub fn is_class_word(word: &[u8]) -> bool
-    ensures { result ≡ spec.is_class_word word.now }
-{
+pub fn is_class_word(word: &[u8]) -> bool {
     begins_with_one(&CLASS_BEGINNINGS, word)
 }
 
 /// Whether a word says how a handler is told.
-pub fn is_notice_word(word: &[u8]) -> bool
-    ensures { result ≡ spec.is_notice_word word.now }
-{
+pub fn is_notice_word(word: &[u8]) -> bool {
     begins_with_one(&NOTICE_BEGINNINGS, word)
 }
 
 /// Whether a word stands in the static API files of a project, and in no configuration.
-#[tactic(auto, unfolding(crate::specs::Projects::is_project_word))]
-pub fn is_project_word(word: &[u8]) -> bool
-    ensures { result ≡ spec.is_project_word word.now }
-{
+pub fn is_project_word(word: &[u8]) -> bool {
     is_notice_word(word) || is_one(&PROJECT_NAMES, word)
 }

@@ -1,6 +1,4 @@
 //! The statements of a configuration, with their fields.
-ghost use Rattle.std.specs.Prelude.{◌≡◌, ◌≤◌, ◌++◌, OnOk, decimal};
-ghost use Rattle.fmp_cli_help.specs.Statements as spec;
 
 use crate::fields::{attribute_word, first_word, free_field, second_word, word_of};
 use fmp_codes::ObjectKind;
@@ -15,15 +13,12 @@ const MOST_PROCESSORS: u8 = 8;
 const USUAL_PRIORITIES: u8 = 16;
 
 /// Adds a part of a statement as it is written, which has so many fields without effect before it.
-#[tactic(auto, unfolding(crate::specs::Statements::part_of))]
 fn put_part(
     out: &mut Vec<u8>,
     name: StatementName,
     index: usize,
     part: Part,
-) -> Result<(), AllocError>
-    ensures { OnOk result (out.new.items ≡ out.old.items ++ spec.part_of name index part) }
-{
+) -> Result<(), AllocError> {
     match part {
         Part::Mark(b',') => out.extend_from_slice(b", "),
         Part::Mark(byte) => Ok(out.push(byte)?),
@@ -43,10 +38,7 @@ fn put_part(
 }
 
 /// How many fields without effect a part is.
-fn frees_of(part: Part) -> usize
-    ensures count { result ≡ spec.frees_of part }
-    ensures few { result ≤ 1 }
-{
+fn frees_of(part: Part) -> usize {
     match part {
         Part::Free => 1,
         _ => 0,
@@ -54,9 +46,7 @@ fn frees_of(part: Part) -> usize
 }
 
 /// Adds the parts of a statement, one after the other.
-fn put_parts(out: &mut Vec<u8>, name: StatementName, parts: &[Part]) -> Result<(), AllocError>
-    ensures { OnOk result (out.new.items ≡ out.old.items ++ spec.parts_from name 0 parts.now) }
-{
+fn put_parts(out: &mut Vec<u8>, name: StatementName, parts: &[Part]) -> Result<(), AllocError> {
     let mut index = 0;
     for part in parts {
         put_part(out, name, index, *part)?;
@@ -66,20 +56,14 @@ fn put_parts(out: &mut Vec<u8>, name: StatementName, parts: &[Part]) -> Result<(
 }
 
 /// Adds a statement as it is written.
-#[tactic(auto, unfolding(crate::specs::Statements::line_of))]
-fn put_statement(out: &mut Vec<u8>, name: StatementName) -> Result<(), AllocError>
-    ensures { OnOk result (out.new.items ≡ out.old.items ++ spec.line_of name) }
-{
+fn put_statement(out: &mut Vec<u8>, name: StatementName) -> Result<(), AllocError> {
     out.extend_from_slice(name.text())?;
     put_parts(out, name, name.parts())?;
     out.extend_from_slice(b"\n")
 }
 
 /// Adds attributes, each after a blank.
-#[tactic(auto, unfolding(crate::specs::Statements::attributes_of))]
-fn put_attributes(out: &mut Vec<u8>, attributes: &[Attribute]) -> Result<(), AllocError>
-    ensures { OnOk result (out.new.items ≡ out.old.items ++ spec.attributes_of attributes.now) }
-{
+fn put_attributes(out: &mut Vec<u8>, attributes: &[Attribute]) -> Result<(), AllocError> {
     for attribute in attributes {
         out.push(b' ')?;
         out.extend_from_slice(attribute.text())?;
@@ -88,14 +72,11 @@ fn put_attributes(out: &mut Vec<u8>, attributes: &[Attribute]) -> Result<(), All
 }
 
 /// Adds the line of these attributes.
-#[tactic(auto, unfolding(crate::specs::Statements::attributes_line))]
 fn put_attributes_line(
     out: &mut Vec<u8>,
     name: StatementName,
     attributes: &[Attribute],
-) -> Result<(), AllocError>
-    ensures { OnOk result (out.new.items ≡ out.old.items ++ spec.attributes_line name attributes.now) }
-{
+) -> Result<(), AllocError> {
     out.extend_from_slice(b"  ")?;
     out.extend_from_slice(attribute_word(name))?;
     out.push(b':')?;
@@ -104,10 +85,7 @@ fn put_attributes_line(
 }
 
 /// Adds the attributes of a statement that creates an object.
-#[tactic(auto, unfolding(crate::specs::Statements::allowed_line))]
-fn put_allowed_line(out: &mut Vec<u8>, name: StatementName) -> Result<(), AllocError>
-    ensures { OnOk result (out.new.items ≡ out.old.items ++ spec.allowed_line name) }
-{
+fn put_allowed_line(out: &mut Vec<u8>, name: StatementName) -> Result<(), AllocError> {
     match name {
         StatementName::Create(kind) => put_attributes_line(out, name, allowed(kind)),
         _ => Ok(()),
@@ -115,18 +93,13 @@ fn put_allowed_line(out: &mut Vec<u8>, name: StatementName) -> Result<(), AllocE
 }
 
 /// Adds a number in decimal digits.
-fn put_number(out: &mut Vec<u8>, number: u64) -> Result<(), AllocError>
-    ensures { OnOk result (out.new.items ≡ out.old.items ++ decimal number) }
-{
+fn put_number(out: &mut Vec<u8>, number: u64) -> Result<(), AllocError> {
     let mut buffer = Buffer::new();
     out.extend_from_slice(buffer.format(number).as_bytes())
 }
 
 /// Adds the range of a number of this name, unless it may be any.
-#[tactic(auto, unfolding(crate::specs::Statements::range_line))]
-fn put_range(out: &mut Vec<u8>, word: &[u8], range: Option<Range>) -> Result<(), AllocError>
-    ensures { OnOk result (out.new.items ≡ out.old.items ++ spec.range_line word.now range) }
-{
+fn put_range(out: &mut Vec<u8>, word: &[u8], range: Option<Range>) -> Result<(), AllocError> {
     match range {
         Some(Range { least, most }) if most < u64::MAX => {
             out.extend_from_slice(b"  ")?;
@@ -142,9 +115,7 @@ fn put_range(out: &mut Vec<u8>, word: &[u8], range: Option<Range>) -> Result<(),
 }
 
 /// What else is to be said of a statement's numbers.
-fn note_of(name: StatementName) -> &'static [u8]
-    ensures { result.now ≡ spec.note_of name }
-{
+fn note_of(name: StatementName) -> &'static [u8] {
     match name {
         StatementName::Create(ObjectKind::Task) => {
             b"  itskpri: up to 32 where `LIMITS(wupcnt, pri);` says so before the first class\n"
@@ -155,10 +126,7 @@ fn note_of(name: StatementName) -> &'static [u8]
 }
 
 /// Adds the ranges of a statement's numbers on the greatest machine, where nothing is said of its limits.
-#[tactic(auto, unfolding(crate::specs::Statements::ranges_of))]
-fn put_ranges(out: &mut Vec<u8>, name: StatementName) -> Result<(), AllocError>
-    ensures { OnOk result (out.new.items ≡ out.old.items ++ spec.ranges_of name) }
-{
+fn put_ranges(out: &mut Vec<u8>, name: StatementName) -> Result<(), AllocError> {
     let first = name.first_range(MOST_PROCESSORS, USUAL_PRIORITIES);
     put_range(out, first_word(name), first)?;
     put_range(out, second_word(name), name.second_range())?;
@@ -166,19 +134,14 @@ fn put_ranges(out: &mut Vec<u8>, name: StatementName) -> Result<(), AllocError>
 }
 
 /// Adds a statement, the attributes that it allows, and the ranges of its numbers on the greatest machine.
-#[tactic(auto, unfolding(crate::specs::Statements::about))]
-pub fn put_about(out: &mut Vec<u8>, name: StatementName) -> Result<(), AllocError>
-    ensures { OnOk result (out.new.items ≡ out.old.items ++ spec.about name) }
-{
+pub fn put_about(out: &mut Vec<u8>, name: StatementName) -> Result<(), AllocError> {
     put_statement(out, name)?;
     put_allowed_line(out, name)?;
     put_ranges(out, name)
 }
 
 /// Adds a line for each of these statements.
-fn put_lines(out: &mut Vec<u8>, names: &[StatementName]) -> Result<(), AllocError>
-    ensures { OnOk result (out.new.items ≡ out.old.items ++ spec.lines_of names.now) }
-{
+fn put_lines(out: &mut Vec<u8>, names: &[StatementName]) -> Result<(), AllocError> {
     for name in names {
         put_statement(out, *name)?;
     }
@@ -186,9 +149,6 @@ fn put_lines(out: &mut Vec<u8>, names: &[StatementName]) -> Result<(), AllocErro
 }
 
 /// Adds a line for each statement.
-#[tactic(auto, unfolding(crate::specs::Statements::all_statements))]
-pub(crate) fn put_statements(out: &mut Vec<u8>) -> Result<(), AllocError>
-    ensures { OnOk result (out.new.items ≡ out.old.items ++ spec.all_statements) }
-{
+pub(crate) fn put_statements(out: &mut Vec<u8>) -> Result<(), AllocError> {
     put_lines(out, &STATEMENT_NAMES)
 }
