@@ -1,2 +1,1 @@
-pub mod Diagnostics  -- Fault lines as compilers tell theirs.
 pub mod Options  -- The words of a command line that say which form fault lines have.

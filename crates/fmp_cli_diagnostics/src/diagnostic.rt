@@ -13,13 +13,8 @@ pub enum Spot {
 }
 
 impl Spot {
-    ghost use Rattle.std.specs.Prelude.{◌≡◌};
-    ghost use Rattle.fmp_cli_diagnostics.specs.Diagnostics.{of_line};
-
     /// The place of a fault of which the line alone is known, or 0 where it has none.
-    pub fn of_line(line: u32) -> Spot
-        ensures { result ≡ of_line line }
-    {
+    pub fn of_line(line: u32) -> Spot {
         if line == 0 {
             Spot::Nowhere
         } else {
@@ -30,11 +25,6 @@ impl Spot {
 
 /// What stands after the path: `:4:3`, `:4`, or nothing.
 impl fmt::Display for Spot {
-    ghost use Rattle.std.specs.Prelude.{Some};
-    ghost use Rattle.fmp_cli_diagnostics.specs.Diagnostics.{spot_text};
-
-    ghost output = { λ spot. Some (spot_text spot) };
-
     fn fmt<W: fmt::Write>(&self, f: &mut fmt::Formatter<W>) -> fmt::Result {
         match *self {
             Spot::Nowhere => Ok(()),
@@ -59,11 +49,6 @@ pub struct Diagnostic<'a> {
 }
 
 impl fmt::Display for Diagnostic<'_> {
-    ghost use Rattle.std.specs.Prelude.{Some};
-    ghost use Rattle.fmp_cli_diagnostics.specs.Diagnostics.{line_text};
-
-    ghost output = { λ line. Some (line_text line.path.now line.spot line.code.now line.words.now line.word.now) };
-
     fn fmt<W: fmt::Write>(&self, f: &mut fmt::Formatter<W>) -> fmt::Result {
         let (path, spot, code, words) = (self.path, self.spot, self.code, self.words);
         write!(f, "{path}{spot}: error: {code} {words}")?;
