@@ -2,7 +2,8 @@
 # plays the events, and judges the partial trace.
 
 from_log() {
-    local tool=$top/tools/from-log logs=$top/tests/kernel_logs
+    local tool=$top/tools/from-log logs=$top/tests/kernel_logs refused
+    refused=$(as_file echo refused)
     reads_log events
     run 0 "$logs/answers" /dev/null calls "$logs/machine.cfg" made
     reads_log trace
@@ -19,6 +20,8 @@ from_log() {
     log_of_a_million
     log_of_great_numbers
     log_command_lines
+    refused_in_a_pipe
+    logs_of_one_run
 }
 
 # log_rows TABLE: its rows, without its comments, with the byte 1 in the place of each tab, so that read sees fields that are empty, too.
@@ -57,45 +60,53 @@ all_calls() {
     count "$well" calls calls.cfg '# all calls'
 }
 
-# block_is_told LINE: what is told of a call of rel_mpf.
+# block_is_told LINE: what is told of a call of rel_mpf whose block no call has got.
 block_is_told() {
-    echo "x.log:$1: note: a block is an address on the target and a number from 0 in fmpsim: write the number here by hand"
+    echo "x.log:$1: note: the log does not say which number this block has: it is an address on the target, and a number from 0 in fmpsim, to be written here by hand"
 }
 
-# answered BETWEEN LINES WAIT: each call that task 1 enters and leaves, with so many LINES of this text in between, is a line of a trace with
-# its answer; with `wait` as WAIT that is the answer of those that may wait, which return later.
+# answered LINE..: each call that task 1 enters and leaves is a line of a trace with its answer: without these lines each call, and with them in between
+# each that may not wait. A task that has ended is dispatched to once more.
 answered() {
-    local enter leave event answer waits name line=1
+    local enter leave event answer waits name
     echo '[1]:[1]: dispatch to task 1.' > x.log
     : > wanted
     while IFS=$'\1' read -r enter leave event answer waits; do
         name=${enter%% *}
-        [ "$waits" != waits ] || answer=${3:-$answer}
-        [ "$answer" != untold ] || continue
-        printf '[1]:[1]: enter to %s.\n%b' "$enter" "$1" >> x.log
-        [ "$name" != rel_mpf ] || block_is_told $((line + 1)) > to_tell
-        line=$((line + 1 + $2))
-        if [ -n "$leave" ] && [ "$answer" != wait ]; then
+        [ $# = 0 ] || [ "$waits" = no ] || continue
+        echo "[1]:[1]: enter to $enter." >> x.log
+        [ "$name" != rel_mpf ] || block_is_told "$(wc -l < x.log)" > to_tell
+        if [ "$name" = ext_tsk ]; then
+            printf '[1]:[1]: %s.\n' 'dispatch from task 1' 'dispatch to task 1' >> x.log
+        else
+            [ $# = 0 ] || printf '[1]:[1]: %s.\n' "$@" >> x.log
             echo "[1]:[1]: leave to $name $leave." >> x.log
-            line=$((line + 1))
         fi
         echo "P1 T1 $event $answer" >> wanted
     done < "$(log_rows "$logs/calls.txt")"
-    reads 0 wanted to_tell --trace
+    # without those that get a block, all blocks are free
+    reads 0 "$([ $# = 0 ] && echo wanted || sed 's/pget_mpf(M2) E_OK:2/pget_mpf(M2) E_OK:0/' wanted | as_file)" to_tell --trace
 }
 
-# Each call, left at once, from which another task is dispatched, and in which its task becomes waiting. A trace ends before a call whose answer
-# the log does not say.
+# Each call, left at once, and with a dispatch in it. One that may wait does so where its task is dispatched from, or becomes WAITING, and no other can.
+# A log that does not say the value of an answer in its midst is refused.
 reads_calls() {
-    local enter answer
-    answered '' 0
-    answered '[1]:[1]: dispatch from task 1.\n[1]:[1]: dispatch to task 1.\n' 2 wait
-    answered '[1]:[1]: task 1 becomes WAITING.\n' 1 wait
-    while IFS=$'\1' read -r enter _ _ answer _; do
-        [ "$answer" = untold ] || continue
-        printf '[1]:[2]: %s.\n' 'enter to slp_tsk' 'leave to slp_tsk ercd=0' "enter to $enter" "leave to ${enter%% *} ercd=0, blk=0x2000" > x.log
-        echo "x.log:3: note: the log does not say what ${enter%% *} of this line answered, so the trace ends before it" > to_tell
-        reads 0 "$(as_file echo 'P2 slp_tsk() E_OK')" to_tell --trace
+    local enter event answer waits name
+    answered
+    answered 'dispatch from task 1' 'dispatch to task 1'
+    while IFS=$'\1' read -r enter _ event answer waits; do
+        name=${enter%% *}
+        printf '[1]:[1]: %s.\n' 'task 1 becomes RUNNABLE' 'dispatch to task 1' "enter to $enter" 'task 1 becomes WAITING' > x.log
+        if [ "$waits" = waits ]; then
+            reads 0 "$(as_file echo "P1 T1 $event wait")" /dev/null --trace
+            printf '[1]:[1]: %s.\n' 'dispatch to task 1' "enter to $enter" 'dispatch from task 1' > x.log
+            reads 0 "$(as_file echo "P1 T1 $event wait")" /dev/null --trace
+        elif [[ $name = [gp][eo][tl]_* ]]; then
+            reads 1 "$refused" "$(as_file echo "x.log:4: refused: task 1 becomes WAITING, and it is in no call that can make it wait")" --trace
+        fi
+        [[ $answer = E_OK:* ]] || continue
+        printf '[1]:[2]: %s.\n' 'enter to slp_tsk' 'leave to slp_tsk ercd=0' "enter to $enter" "leave to $name" 'enter to slp_tsk' 'leave to slp_tsk ercd=0' > x.log
+        reads 1 "$refused" "$(as_file echo "x.log:3: refused: the log does not say what $name of this line answered: say --up-to 2 to have what stands before it")" --trace
     done < "$(log_rows "$logs/calls.txt")"
 }
 
@@ -115,7 +126,7 @@ reads_codes() {
     reads 0 wanted /dev/null --trace
     for code in "${others[@]}"; do
         printf '[1]:[1]: %s to wai_sem %s.\n' enter semid=1 leave "ercd=$code" > x.log
-        reads 1 /dev/null "$(as_file echo "x.log:2: refused: \`$code\` is no code that fmpsim answers")" --trace
+        reads 1 "$refused" "$(as_file echo "x.log:2: refused: \`$code\` is no code that fmpsim answers")" --trace
     done
 }
 
@@ -127,7 +138,7 @@ reads_numbers() {
         reads 0 "$(as_file printf 'P1 %s\n' "${event/\{N\}/$least}" "${event/\{N\}/$greatest}")" /dev/null
         for number in "$below" "$above"; do
             echo "[1]:[1]: enter to ${enter/\{N\}/$number}." > x.log
-            reads 1 /dev/null "$(as_file echo "x.log:1: refused: \`$number\` is no $what")"
+            reads 1 "$refused" "$(as_file echo "x.log:1: refused: \`$number\` is no $what")"
         done
     done < "$(log_rows "$logs/numbers.txt")"
 }
@@ -155,7 +166,7 @@ log_of_a_million() {
     [ $? = 0 ] && [ ! -s told ] && [ "$(wc -l < made)" = 1000000 ] && [ "$(sort -u made)" = 'P1 slp_tsk()' ] && well=yes
     count "$well" '#' tools/from-log calls.cfg x.log '# a million events'
     echo '[1]:[1]: enter to slp_tsk' >> x.log
-    reads 1 /dev/null "$(as_file echo 'x.log:1000001: refused: it has more than 1000000 events')"
+    reads 1 "$refused" "$(as_file echo 'x.log:1000001: refused: it has more than 1000000 events')"
 }
 
 # Numbers of any length are no numbers of a log: their lines are passed over, or tell of an argument that is none.
@@ -166,7 +177,7 @@ log_of_great_numbers() {
         "[1]:[1]: enter to int handler $great." '[1]:[1]: enter to slp_tsk.' > x.log
     reads 0 "$(as_file echo 'P1 slp_tsk()')" "$(as_file echo 'x.log:1: passed over: what tells of no event, this line the first, and 3 more')"
     echo "[1]:[1]: enter to act_tsk tskid=$great." > x.log
-    reads 1 /dev/null "$(as_file echo "x.log:1: refused: \`${great:0:80}..\` is no number of 32 bits with a sign")"
+    reads 1 "$refused" "$(as_file echo "x.log:1: refused: \`${great:0:80}..\` is no number of 32 bits with a sign")"
 }
 
 # reads_log FOLDER: of the log, by the words in `words`, `made` is made, and `errors` is told.
@@ -226,12 +237,14 @@ log_command_lines() {
         well=no
         read -ra words <<< "$line"
         "$tool" "${words[@]}" > made 2> told
-        [ $? = 2 ] && grep -q '^usage: from-log' told && [ ! -s made ] && well=yes
+        [ $? = 2 ] && grep -q '^usage: from-log' told && cmp made "$refused" && well=yes
         count "$well" '#' tools/from-log "${words[@]}"
     done <<- END
 
 	x.cfg
-	x.cfg x.log y.log
+	x.cfg x.log y.log --up-to 1
+	x.cfg x.log --up-to
+	x.cfg - -
 	x.cfg x.log --tick
 	x.cfg x.log --tick one
 	x.cfg x.log --tick 1 --ipi 1
@@ -248,10 +261,34 @@ log_command_lines() {
     count "$well" '#' tools/from-log x.log '> /dev/full'
 }
 
-# refuses STATUS TOLD WORD..: the tool ends so, tells this, and makes nothing.
+# refuses STATUS TOLD WORD..: the tool ends so, tells this, and makes no event.
 refuses() {
     local well=no
     "$tool" "${@:3}" > made 2> told
-    [ $? = "$1" ] && [ "$(cat told)" = "$2" ] && [ ! -s made ] && well=yes
+    [ $? = "$1" ] && [ "$(cat told)" = "$2" ] && cmp made "$refused" && well=yes
     count "$well" '#' tools/from-log "${@:3}"
+}
+
+# What a refused log leaves in a pipe is refused by whoever reads it, and never `yes`.
+refused_in_a_pipe() {
+    local command
+    for command in calls 'check --partial' check; do
+        from=$refused run 1 /dev/null "$(as_file echo 'fmpsim: -: line 1: E2 bad word')" $command "$logs/machine.cfg" -
+    done
+}
+
+# Several logs of one run are merged by their times, each from the beginning of its own clock. What is told names the file and its line there.
+logs_of_one_run() {
+    local well=no
+    printf '[%s]:[1]: %s.\n' 1 'enter to sns_loc' 3 'leave to sns_loc state=false' 4294967290 'enter to sns_dsp' 2 'leave to sns_dsp state=false' > a.log
+    printf 'board\n[%s]:[2]: %s.\n' 2 'enter to sns_loc' 4 'leave to sns_loc state=true' 4294967295 'enter to pol_sem semid=1' > b.log
+    printf '[%s]:[2]: %s.\n' 1 'leave to pol_sem ercd=0' >> b.log
+    printf 'P%s %s\n' 1 'sns_loc() E_OK:0' 2 'sns_loc() E_OK:1' 1 'sns_dsp() E_OK:0' 2 'pol_sem(S) E_OK' > wanted
+    printf '%s\n' 'b.log:5: note: the clock of 32 bits begins again at 0 here' 'a.log:4: note: the clock of 32 bits begins again at 0 here' \
+        'b.log:1: passed over: what tells of no event, this line the first' | LC_ALL=C sort > to_tell
+    "$tool" "$logs/machine.cfg" a.log b.log --trace > made 2> told && diff wanted made && LC_ALL=C sort told | diff to_tell - && well=yes
+    count "$well" '#' tools/from-log machine.cfg a.log b.log --trace
+    echo '[3]:[2]: leave to pol_sem ercd=0.' >> b.log
+    refuses 1 "$(printf '%s\n' 'b.log:5: note: the clock of 32 bits begins again at 0 here' 'a.log:4: note: the clock of 32 bits begins again at 0 here' \
+        'b.log:6: refused: pol_sem is left, and was not entered: begin the log before it')" "$logs/machine.cfg" a.log b.log
 }

@@ -44,9 +44,9 @@ found_in() {
 
 # What is installed.
 wanted() {
-    printf '%s\n' bin/fmpsim bin/fmphost-cfg bin/fmpsim-{from-{toppers,log,trace},run-list} share/man/man1/fmpsim.1 share/bash-completion/completions/fmpsim \
+    printf '%s\n' bin/fmpsim bin/fmphost-cfg bin/fmpsim-{from-{toppers,log,trace},to-log,run-list} share/man/man1/fmpsim.1 share/bash-completion/completions/fmpsim \
         share/fish/vendor_completions.d/fmpsim.fish share/zsh/site-functions/_fmpsim \
-        share/fmpsim/{LICENSE,include/fmp.h,tools/{from-toppers,from-log,from-trace,run-list,c_numbers.py},host/{README.md,fmphost.mk},docs/{GUIDE.md,HOST.md,FORMATS.md,PROFILE.md,DECISIONS.md,view.png,wave.png}}
+        share/fmpsim/{LICENSE,include/fmp.h,tools/{from-toppers,from-log,to-log,from-trace,run-list,{c_numbers,log_calls,log_lines,log_tasks,log_written}.py},host/{README.md,fmphost.mk},docs/{GUIDE.md,HOST.md,FORMATS.md,PROFILE.md,DECISIONS.md,view.png,wave.png}}
     [ ! -e "$top/out/libfmp.a" ] || printf '%s\n' include/fmp.h lib/libfmp.a
     (cd "$top" && find tools/toppers-stub docs/formats examples host/{include,src,gen,programs} -type f | sed 's|^|share/fmpsim/|')
 }
@@ -89,6 +89,9 @@ tools_run() {
     read -ra words < "$top/tests/kernel_logs/events/words"
     (cd "$top/tests/kernel_logs" && "$1/fmpsim-from-log" "${words[@]}") 2> told | diff "$top/tests/kernel_logs/events/made" - && well=yes
     count "$well" "# $1/fmpsim-from-log"
+    well=no
+    (cd "$top/tests/kernel_logs" && "$1/fmpsim-to-log" machine.cfg to_log/trace) 2> told | diff "$top/tests/kernel_logs/to_log/log" - && well=yes
+    count "$well" "# $1/fmpsim-to-log"
     well=no
     "$1/fmpsim-from-trace" "$late/trace.txt" > made && "$1/fmpsim" calls "$late/machine.cfg" made | cmp - "$late/trace.txt" && well=yes
     count "$well" "# $1/fmpsim-from-trace"
