@@ -27,7 +27,7 @@ library = $(DESTDIR)$(PREFIX)/lib/libfmp.a
 # a command, fmpsim-from-toppers and so on.
 own = $(share)/fmpsim
 tools = from-toppers from-log to-log from-trace run-list
-modules = c_numbers.py log_calls.py log_lines.py log_tasks.py log_written.py
+modules = c_numbers.py log_calls.py log_lines.py log_tasks.py log_written.py toppers_settings.py
 pages = GUIDE.md HOST.md FORMATS.md PROFILE.md DECISIONS.md view.png wave.png
 files = LICENSE include/fmp.h $(tools:%=tools/%) $(modules:%=tools/%) $(pages:%=docs/%) host/README.md host/fmphost.mk \
     $(shell find tools/toppers-stub docs/formats examples host/include host/src host/gen host/programs -type f)
