@@ -17,6 +17,8 @@ TYPES = {
     "INTNO": (32, True), "EXCNO": (32, True), "SYSTIM": (64, True), "SIZE": (64, True), "size_t": (64, True),
     "intptr_t": (64, False), "uintptr_t": (64, True), "EXINF": (64, False),
 }
+# How many bits a `long` has, by the word that asks for it.
+LONG = {"bits": 32}
 C_TYPES = {"int", "unsigned", "signed", "long", "short", "char", "const"}
 C_WORDS = C_TYPES | {"void", "static", "extern", "typedef", "struct", "union", "enum", "inline", "return", "if", "while", "for"}
 # Words of C that may stand in a number, and that only a compiler computes.
@@ -97,7 +99,7 @@ def literal(token):
     base = 16 if digits.startswith("0x") else 8 if digits.startswith("0") else 10
     plain = digits.removeprefix("0x").lstrip("0") or "0"
     value = int(plain, base) if len(plain) <= 24 else 2**64
-    for bits in (64,) if "l" in suffix else (32, 64):
+    for bits in (64,) if "ll" in suffix else (LONG["bits"], 64) if "l" in suffix else (32, 64):
         for unsigned in (True,) if "u" in suffix else (False,) if base == 10 else (False, True):
             if value < 2 ** (bits - (not unsigned)):
                 return Value(value, bits, unsigned)
@@ -273,8 +275,8 @@ class Expression:
     def sized(self, token):
         """What UINT_C and the like make of a number: a literal gets their suffix, since without it some have too many bits."""
         self.take()
-        bits = 64 if re.search("64|MAX|PTR|LONG", token.word) else None
-        suffix = ("U" if token.word.startswith("U") else "") + ("L" if bits else "")
+        bits = 64 if re.search("64|MAX|PTR", token.word) else LONG["bits"] if "LONG" in token.word else None
+        suffix = ("U" if token.word.startswith("U") else "") + ("LL" if bits == 64 else "L" if bits else "")
         if self.word(1) == ")" and LITERAL.fullmatch(self.word() + suffix):
             inside = self.take()
             number = literal(inside._replace(word=inside.word + suffix))
@@ -290,9 +292,10 @@ class Expression:
         while self.word(ahead) in C_TYPES:
             ahead += 1
         words = [self.word(it) for it in range(ahead)]
-        kind = ("long" in words and 64 or "short" in words and 16 or "char" in words and 8 or 32, "unsigned" in words)
+        kind = (words.count("long") > 1 and 64 or "long" in words and LONG["bits"] or "short" in words and 16 or "char" in words and 8 or 32, "unsigned" in words)
         if self.word(ahead) in TYPES:
-            kind, ahead = TYPES[self.word(ahead)], ahead + 1
+            kind = TYPES[self.word(ahead)]
+            kind, ahead = (LONG["bits"] if self.word(ahead) in ("long_t", "ulong_t") else kind[0], kind[1]), ahead + 1
         if not ahead or self.word(ahead) != end:
             return None
         self.at += ahead + 1

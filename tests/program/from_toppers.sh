@@ -66,7 +66,7 @@ makes_numbers() {
             echo "  CRE_FLG(F$many, {TA_NULL, $number});" >> wanted
         done < "$part"
         echo '}' | tee -a wanted >> x.cfg
-        makes wanted /dev/null x.cfg
+        makes wanted /dev/null x.cfg --long 64
     done
 }
 

@@ -84,10 +84,18 @@
 #define LONG_MIN (-LONG_MAX - 1)
 #endif
 #ifndef LONG_MAX
+#ifdef FMPSIM_LONG_64
 #define LONG_MAX 9223372036854775807L
+#else
+#define LONG_MAX 2147483647L
+#endif
 #endif
 #ifndef ULONG_MAX
+#ifdef FMPSIM_LONG_64
 #define ULONG_MAX 18446744073709551615UL
+#else
+#define ULONG_MAX 4294967295UL
+#endif
 #endif
 #ifndef INT8_MIN
 #define INT8_MIN (-128)
