@@ -50,7 +50,7 @@ fn put_parts(out: &mut Vec<u8>, name: StatementName, parts: &[Part]) -> Result<(
     let mut index = 0;
     for part in parts {
         put_part(out, name, index, *part)?;
-        index += frees_of(*part);
+        index = index.saturating_add(frees_of(*part));
     }
     Ok(())
 }
