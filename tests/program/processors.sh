@@ -67,7 +67,7 @@ counted() {
 
 # How often trace.txt has a tick that is taken, by its processor, the return of a cyclic handler, and what a task does once.
 ring_told() {
-    sed -nE -e 's/^[0-9]+ (P[0-9]) [^ ]+ tick taken( .*)?$/\1 tick/p' -e 's/^[0-9]+ P[0-9] (BEAT[0-9] ret_hdr) E_OK( .*)?$/\1/p' \
+    LC_ALL=C sed -nE -e 's/^[0-9]+ (P[0-9]) [^ ]+ tick taken( .*)?$/\1 tick/p' -e 's/^[0-9]+ P[0-9] (BEAT[0-9] ret_hdr) E_OK( .*)?$/\1/p' \
         -e 's/^[0-9]+ P[0-9] (T[0-9] wup_tsk\(T[0-9]\)) .*$/\1/p' -e 's/^[0-9]+ P[0-9] (T[0-9] ext_tsk\(\)) gone( .*)?$/\1/p' trace.txt |
         counted
 }
@@ -323,7 +323,7 @@ differences_at_limits() {
 turns_at_limits() {
     local words=(smp limits.cfg limits.txt --ticks 1000000 "$@") well=no
     ends 900 6 "${words[@]}" && mv output trace.txt && [ "$(wc -l < trace.txt)" = "$2" ] && is_checked limits.cfg &&
-        sed -E 's/^[0-9]+ (P[0-9]) [^ ]+ ([a-z_]+\([^)]*\)|[a-z_]+) .*/\1 \2/' trace.txt > events.txt &&
+        LC_ALL=C sed -E 's/^[0-9]+ (P[0-9]) [^ ]+ ([a-z_]+\([^)]*\)|[a-z_]+) .*/\1 \2/' trace.txt > events.txt &&
         ends 900 0 calls limits.cfg events.txt && cmp output trace.txt && well=yes
     count "$well" "${words[@]}"
 }

@@ -17,6 +17,7 @@ import subprocess
 import sys
 import tempfile
 from concurrent.futures import ThreadPoolExecutor
+from functools import lru_cache
 from pathlib import Path
 from typing import NamedTuple
 
@@ -348,6 +349,8 @@ def defined_in(text):
     return dict(re.findall(r"^[ \t]*#[ \t]*define[ \t]+(\w+)[ \t]+(\w+)[ \t]*$", text, re.M))
 
 
+# These two are asked again for each state of a run, and kept: of a large configuration they take longer than all else.
+@lru_cache(maxsize=64)
 def tasks_of(machine):
     """The tasks of a configuration with their priorities at boot, in their order."""
     text = COMMENT_OR_STRING.sub(" ", machine)
@@ -356,14 +359,16 @@ def tasks_of(machine):
     return {name: int(defined_in(text).get(word, word), 0) for name, word in words.items()}
 
 
+@lru_cache(maxsize=64)
 def numbers_of(machine):
     """The objects of a configuration that have a number, with what that is called and what it is at boot, in the order of their kinds."""
     text = COMMENT_OR_STRING.sub(" ", machine)
-    defined = defined_in(text)
+    defined, numbers = defined_in(text), []
     for statement, letter, word, place in OF_OBJECTS:
         for n, (name, fields) in enumerate(re.findall(statement + r"\s*\(\s*(\w+)\s*,\s*\{([^}]*)\}", text), 1):
             number = "0" if place is None else fields.split(",")[place].strip()
-            yield letter, n, name, word, int(defined.get(number, number), 0)
+            numbers.append((letter, n, name, word, int(defined.get(number, number), 0)))
+    return numbers
 
 
 def declared(processors, machine):
@@ -445,8 +450,10 @@ def replay(machine, trace, told, wave):
     lines = [None, *trace.splitlines()]
     holds(dump.times == list(range(len(lines))) and len(states) == len(lines), "the times are not those of the lines")
     now, calls = {}, {f"P{p}_call": "-" for p in range(1, processors + 1)}
+    place_of = {variable: place for place, variable in enumerate(dump.variables)}
+    changes_at = {time: [*changes] for time, changes in itertools.groupby(dump.changes, lambda change: change.time)}
     for time, (line, state) in enumerate(zip(lines, states)):
-        changed = [(dump.variables[change.place], change.value) for change in dump.changes if change.time == time]
+        changed = [(dump.variables[change.place], change.value) for change in changes_at.get(time, [])]
         ticks = [(variable.scope, value) for variable, value in changed if variable.kind == "event"]
         processor = ticking(line) if line else None
         holds(ticks == ([(processor, "1")] if processor else []), f"#{time} has the ticks {ticks}")
@@ -457,7 +464,7 @@ def replay(machine, trace, told, wave):
             calls[f"{processor}_call"] = call
             told_calls = [(variable.name, value) for variable, value in changed if variable.name in calls]
             holds(told_calls == [(f"{processor}_call", call)], f"#{time} tells the calls {told_calls}")
-        places = [dump.variables.index(variable) for variable, _ in changed if line is None or variable.name not in calls and variable.kind != "event"]
+        places = [place_of[variable] for variable, _ in changed if line is None or variable.name not in calls and variable.kind != "event"]
         holds(places == sorted(places), f"#{time} tells the variables in another order than they are declared")
         for variable, value in changed:
             if variable.kind != "event":
