@@ -1,5 +1,5 @@
 #!/usr/bin/env bash
-# The whole test: rt ci, and then the two programs that it built, by all that stands under tests. The last line is
+# The whole test: rt ci, the tests in Rattle, and then the two programs that it built, by all else that stands under tests. The last line is
 # 'N passed, M failed', over everything, and the status is 0 only where nothing failed.
 #
 #     ./test.sh                         all of it
@@ -59,6 +59,12 @@ command_not_found_handle() {
 
 prove() {
     cd "$top" && add 'rt ci' rt ci
+    in_rattle
+}
+
+# The tests in Rattle, which are built without a proof.
+in_rattle() {
+    add 'tests/in_rattle' "$top/tests/in_rattle"
 }
 
 # try PROGRAM KIND: plays all cases on a program, and runs all else of it. The kind says how it was built.
@@ -124,7 +130,7 @@ case ${1-} in
     --runs) ;;
     --unproved)
         proved=': nothing was proved'
-        [ -n "${2-}" ] || "$top/tests/unproved" "$room/fmpsim"
+        [ -n "${2-}" ] || { in_rattle; "$top/tests/unproved" "$room/fmpsim"; }
         try "$(realpath -m "${2:-$room/fmpsim}")" unproved
         ;;
     *) echo 'wanted: ./test.sh [--runs | --unproved [PROGRAM]]' >&2 && exit 2 ;;
