@@ -87,7 +87,7 @@ def content(path, most=MOST_BYTES):
         with open(0 if path == "-" else path, "rb") as file:
             it = file.read(most + 1)
     except OSError as error:
-        raise Refused(f"cannot be read: {error.strerror}", (path,), 3) from None
+        raise Refused(f"cannot be read: {error.strerror}", (path, 0), 3) from None
     if len(it) > most:
-        raise Refused(f"it has more than {most} bytes", (path,))
+        raise Refused(f"it has more than {most} bytes", (path, 0))
     return it

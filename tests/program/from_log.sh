@@ -281,7 +281,7 @@ refused_in_a_pipe() {
 logs_of_one_run() {
     local well=no
     printf '[%s]:[1]: %s.\n' 1 'enter to sns_loc' 3 'leave to sns_loc state=false' 4294967290 'enter to sns_dsp' 2 'leave to sns_dsp state=false' > a.log
-    printf 'board\n[%s]:[2]: %s.\n' 2 'enter to sns_loc' 4 'leave to sns_loc state=true' 4294967295 'enter to pol_sem semid=1' > b.log
+    { echo board && printf '[%s]:[2]: %s.\n' 2 'enter to sns_loc' 4 'leave to sns_loc state=true' 4294967295 'enter to pol_sem semid=1'; } > b.log
     printf '[%s]:[2]: %s.\n' 1 'leave to pol_sem ercd=0' >> b.log
     printf 'P%s %s\n' 1 'sns_loc() E_OK:0' 2 'sns_loc() E_OK:1' 1 'sns_dsp() E_OK:0' 2 'pol_sem(S) E_OK' > wanted
     printf '%s\n' 'b.log:5: note: the clock of 32 bits begins again at 0 here' 'a.log:4: note: the clock of 32 bits begins again at 0 here' \
@@ -289,6 +289,6 @@ logs_of_one_run() {
     "$tool" "$logs/machine.cfg" a.log b.log --trace > made 2> told && diff wanted made && LC_ALL=C sort told | diff to_tell - && well=yes
     count "$well" '#' tools/from-log machine.cfg a.log b.log --trace
     echo '[3]:[2]: leave to pol_sem ercd=0.' >> b.log
-    refuses 1 "$(printf '%s\n' 'b.log:5: note: the clock of 32 bits begins again at 0 here' 'a.log:4: note: the clock of 32 bits begins again at 0 here' \
+    refuses 1 "$(printf '%s\n' 'a.log:4: note: the clock of 32 bits begins again at 0 here' 'b.log:5: note: the clock of 32 bits begins again at 0 here' \
         'b.log:6: refused: pol_sem is left, and was not entered: begin the log before it')" "$logs/machine.cfg" a.log b.log
 }
