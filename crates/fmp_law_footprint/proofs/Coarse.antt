@@ -31,7 +31,7 @@ use Rattle.fmp_law_footprint.specs.Named.{named_or_caller, named_task, semaphore
 use Rattle.fmp_law_footprint.specs.CoversObjects.{Signals, Sets, Sends, Receives, TakesUnit, TakesPattern, SendsOrWaits, ReceivesOrWaits, TakesBlock}
 use Rattle.fmp_law_footprint.specs.CoversCalls.{CoversTask, CoversCall, Rotates}
 use Rattle.fmp_law_footprint.specs.Covers.{CoversTick}
-use Rattle.fmp_law_footprint.specs.Kinds.{of_order, of_tasks, of_processors, of_locks, of_handlers, of_semaphores, of_eventflags, of_data_queues, of_pools, of_cyclics, of_alarms, of_exit, of_tick, Group, OnTasks, OnExit, OnSemaphores, OnEventflags, OnDataQueues, OnPools, OnCyclics, OnAlarms, OnOrder, OnProcessors, OnLocks, OnReturn, of_group, may_change}
+use Rattle.fmp_law_footprint.specs.Kinds.{of_order, of_waits, of_tasks, of_processors, of_locks, of_handlers, of_semaphores, of_eventflags, of_data_queues, of_pools, of_cyclics, of_alarms, of_exit, of_tick, Group, OnTasks, OnExit, OnSemaphores, OnEventflags, OnDataQueues, OnPools, OnCyclics, OnAlarms, OnOrder, OnProcessors, OnLocks, OnReturn, of_group, may_change}
 
 -- S has the waits of all tasks, and their order
 record HasWaits (S : Cell → Type 0) : Type 0 where
@@ -171,6 +171,18 @@ closed_coarse OnOrder = order_closed
 closed_coarse OnProcessors = placeless of_processors (λ n. refl)
 closed_coarse OnLocks = placeless of_locks (λ n. refl)
 closed_coarse OnReturn = placeless of_handlers (λ n. refl)
+
+waits_wait : HasWaits (Within of_waits)
+waits_wait = record { wait = λ n. refl; left = λ n. refl; spot = λ n. refl; ready = λ n. refl; waiters = λ x n. refl; timed = refl }
+
+pub closed_waits : (tasks : List TaskRecord) (left : List (Option ℕ)) → Closed (Within of_waits) tasks left
+closed_waits = closed _ waits_wait
+
+pub wakes_waits : (t : Task) → Wakes (Within of_waits) t
+wakes_waits = wakes _ waits_wait
+
+pub sleeps_waits : (t : Task) (x : Wait) (left : Option ℕ) → Sleeps (Within of_waits) t x left
+sleeps_waits = sleeps _ waits_wait
 
 tick_waits : HasWaits (Within of_tick)
 tick_waits = record { wait = λ n. refl; left = λ n. refl; spot = λ n. refl; ready = λ n. refl; waiters = λ x n. refl; timed = refl }

@@ -1,8 +1,8 @@
 -- Which handlers are due on a processor after each step is what its record says.
-use Rattle.std.proofs.Common.{◌≡◌, ◌≤◌, ◌==◌, ℤ, Bool, true, false, ◌&&◌, List, [], ◌∷◌, ◌++◌, length, map, refl, sym, ap, ◌∙◌, subst, arith, None, ⊎_elim}
-use Rattle.std.specs.Prelude.{is_some, unwrap_or, drop, filter, if◌then◌else◌}
+use Rattle.std.proofs.Common.{◌≡◌, ◌≤◌, ◌==◌, Bool, false, ◌&&◌, List, [], ◌∷◌, ◌++◌, length, map, refl, sym, ap, ◌∙◌, subst, arith, None, ⊎_elim}
+use Rattle.std.specs.Prelude.{drop, filter, if◌then◌else◌}
 use Rattle.std.specs.List.{range_with_len}
-use Rattle.std.proofs.lemmas.Bool.{cond_both, cond-true, cond-false, false≢true, eq-eqb, ne_eqb, cases_eq}
+use Rattle.std.proofs.lemmas.Bool.{cond-true, cond-false, eq-eqb, ne_eqb, cases_eq}
 use Rattle.std.proofs.lemmas.List.{append_assoc}
 use Rattle.fmp_codes.specs.Numbers.{as_object}
 use Rattle.fmp_codes.specs.declared.numbers.Proc.{Proc}
@@ -10,11 +10,6 @@ use Rattle.fmp_codes.specs.declared.numbers.Task.{Task}
 use Rattle.fmp_codes.specs.declared.numbers.Object.{Object}
 use Rattle.fmp_codes.specs.declared.calls.Call.{Call}
 use Rattle.fmp_codes.specs.declared.calls.Call.TheVariants as call
-use Rattle.fmp_codes.specs.declared.calls.TaskCall.TheVariants as tasks
-use Rattle.fmp_codes.specs.declared.calls.SystemCall.{SystemCall}
-use Rattle.fmp_codes.specs.declared.calls.SystemCall.TheVariants as system
-use Rattle.fmp_codes.specs.declared.calls.SpinCall.{SpinCall}
-use Rattle.fmp_codes.specs.declared.calls.SpinCall.TheVariants as spin
 use Rattle.fmp_codes.specs.declared.records.Answer.TheVariants as answer
 use Rattle.fmp_codes.specs.declared.records.Event.{Event}
 use Rattle.fmp_codes.specs.declared.records.Event.TheVariants as event
@@ -24,24 +19,18 @@ use Rattle.fmp_codes.proofs.Same.{processors_same}
 use Rattle.fmp_setup.specs.Setup.{Setup, counts_for}
 use Rattle.fmp_law_words.proofs.Words.{clock_counts}
 use Rattle.fmp_rules.specs.World.{World, item, with_item, rest, runner_of}
-use Rattle.fmp_rules.specs.Effects.{Effect}
-use Rattle.fmp_rules.specs.Objects.{alarm, cyclic, holder}
+use Rattle.fmp_rules.specs.Objects.{alarm, cyclic}
 use Rattle.fmp_rules.specs.Ordering.{Ordering}
-use Rattle.fmp_rules.specs.Arguments.{object_named}
-use Rattle.fmp_rules.specs.Processors.{opened}
-use Rattle.fmp_rules.specs.Rows.{Row, called, refused, plain}
-use Rattle.fmp_rules.specs.Tasks.{finish}
+use Rattle.fmp_rules.specs.Rows.{called, refused, plain}
 use Rattle.fmp_rules.specs.Tick.{tick, ticked, counted_down, released, tasks_expired, with_handlers_due, alarms_due, expired}
-use Rattle.fmp_rules.specs.TaskCalls.{ext_tsk}
-use Rattle.fmp_rules.specs.SystemCalls.{rotation, rotation_in_handler, system_row}
-use Rattle.fmp_rules.specs.SpinCalls.{loc_spn, try_spn, unl_spn, spin_row, ret_hdr}
+use Rattle.fmp_rules.specs.SpinCalls.{ret_hdr}
 use Rattle.fmp_rules.specs.Arrivals.{State, numbered}
 use Rattle.fmp_rules.specs.Step.{row_of, step}
 use Rattle.fmp_law_safety.specs.Safe.{CountsInRange}
 use Rattle.fmp_law_safety.proofs.Items.{item_same, item_other}
 use Rattle.fmp_law_safety.proofs.KeepsDue.{alarms_keep, cyclics_keep, released_keep}
 use Rattle.fmp_law_balance.specs.Accepted.{is_accepted}
-use Rattle.fmp_law_balance.proofs.Called.{by_called, either_way, not_accepted}
+use Rattle.fmp_law_balance.proofs.Called.{by_called, not_accepted}
 use Rattle.fmp_law_balance.proofs.Steps.{report}
 use Rattle.fmp_law_waits.proofs.Events.{by_event}
 use Rattle.fmp_law_counts.specs.Alarms.{is_last}
@@ -49,7 +38,7 @@ use Rattle.fmp_law_counts.specs.Due.{by_number}
 use Rattle.fmp_law_counts.proofs.HandlersRuns.{Clocked}
 use Rattle.fmp_law_counts.proofs.HandlersTick.{same_passed, due_at_tick}
 use Rattle.fmp_law_records.specs.Due.{HandlersReported, is_at_end, made_due, due_after}
-use Rattle.fmp_law_records.proofs.Still.{call_still, still_in_rotate}
+use Rattle.fmp_law_records.proofs.Leaving.{is_return, call_leaves_due}
 
 -- Calls.
 
@@ -57,46 +46,10 @@ rest_is : {X : Type 0} (xs : List X) → rest xs ≡ drop 1 xs
 rest_is [] = refl
 rest_is (x ∷ xs) = refl
 
-abbrev is_return : Call → Bool
-is_return call.RetHdr = true
-is_return other = false
-
 module _ {Q : Type 0} (k : Ordering Q) (w : World Q) (p : Proc) where
-  left : (row : Row Q) → row.effect.0.due ≡ w.due → (called w p row).0.due ≡ w.due
-  left row accepted = either_way w p (λ did. did.0.due ≡ w.due) row (λ c. refl) accepted
-
-  due_system : (c : SystemCall) → (system_row k w p c).effect.0.due ≡ w.due
-  unfolding rotation rotation_in_handler
-  due_system (system.RotRdq n) = (still_in_rotate k w p _).due
-  due_system (system.IrotRdq n) = (still_in_rotate k w p _).due
-  due_system (system.MrotRdq n q) = (still_in_rotate k w p _).due
-  due_system (system.ImrotRdq n q) = (still_in_rotate k w p _).due
-  due_system _ = refl
-
-  due_loc : (id : ℤ) → (loc_spn w p id).effect.0.due ≡ w.due
-  unfolding loc_spn
-  due_loc id = cond_both (is_some (holder w (unwrap_or (object_named w.holders id) (as_object 1)))) _ _ (λ (did : World Q × Effect). did.0.due ≡ w.due) (λ _. refl) (λ _. refl)
-
-  due_spin : (c : SpinCall) → (spin_row w p c).effect.0.due ≡ w.due
-  unfolding try_spn unl_spn
-  due_spin (spin.LocSpn id) = due_loc id
-  due_spin (spin.IlocSpn id) = due_loc id
-  due_spin _ = refl
-
-  due_exit : (ext_tsk k w p).effect.0.due ≡ w.due
-  unfolding ext_tsk finish opened
-  due_exit = refl
-
   -- all but the return of a handler leave those that are due
   due_call : (c : Call) → is_return c ≡ false → (called w p (row_of k w p c)).0.due ≡ w.due
-  due_call (call.Task tasks.ExtTsk) e = left (ext_tsk k w p) due_exit
-  due_call (call.Task c) e = (call_still k w p (call.Task c) refl).due
-  due_call (call.Sync c) e = (call_still k w p (call.Sync c) refl).due
-  due_call (call.Buffer c) e = (call_still k w p (call.Buffer c) refl).due
-  due_call (call.Time c) e = (call_still k w p (call.Time c) refl).due
-  due_call (call.System c) e = left (system_row k w p c) (due_system c)
-  due_call (call.Spin c) e = left (spin_row w p c) (due_spin c)
-  due_call call.RetHdr e = absurd (false≢true (sym e))
+  due_call = call_leaves_due k w p
 
   -- a tick leaves those of other processors
   due_elsewhere : (q : Proc) → (q.number ≡ p.number → ⊥) → item [] (tick k w p).0.due q.number ≡ item [] w.due q.number

@@ -29,7 +29,7 @@ use Rattle.fmp_law_waits.proofs.Named.{by_task, task_known}
 use Rattle.fmp_law_counts.proofs.Tasks.{is_caller_of, named_or_caller_is, changed_here, changed_there}
 use Rattle.fmp_law_records.specs.Accepting.{is_about}
 use Rattle.fmp_law_records.specs.Line.{is_done}
-use Rattle.fmp_law_records.proofs.Beside.{besides, Leaves, leaves_all, leaves_ready, leaves_begin}
+use Rattle.fmp_law_records.proofs.Leaving.{besides, Leaves, leaves_all, leaves_ready, leaves_begin}
 
 pub refusal : (c : TaskCall) (x : Code) → refuses x ≡ true → is_done c (refused x).answer ≡ false
 refusal tasks.ExtTsk x e = refl

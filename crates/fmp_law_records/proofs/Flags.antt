@@ -31,7 +31,7 @@ use Rattle.fmp_law_safety.proofs.KeepsProcessors.{opened_here}
 use Rattle.fmp_law_balance.specs.Accepted.{is_accepted}
 use Rattle.fmp_law_balance.proofs.Called.{refuses, by_called, not_accepted}
 use Rattle.fmp_law_records.specs.Flags.{locks, unlocks, disables, enables, leaves, locked_with, disabled_with}
-use Rattle.fmp_law_records.proofs.Still.{Still, call_still, still_in_rotate}
+use Rattle.fmp_law_records.proofs.Leaving.{Still, call_still}
 
 pub record Flags : Type 0 where
   pub locked : Bool
@@ -80,10 +80,10 @@ module _ {Q : Type 0} (k : Ordering Q) (w : World Q) (p : Proc) (n : p.number �
 
   flags_system : (c : SystemCall) → FlagsReported (call.System c) (called w p (system_row k w p c))
   unfolding rotation rotation_in_handler
-  flags_system (system.RotRdq x) = by_called w p (FlagsReported (call.System (system.RotRdq x))) (system_row k w p (system.RotRdq x)) tt (refused_reported (call.System (system.RotRdq x))) (λ a. record { here = still_here _ (still_in_rotate k w p _) })
-  flags_system (system.IrotRdq x) = by_called w p (FlagsReported (call.System (system.IrotRdq x))) (system_row k w p (system.IrotRdq x)) tt (refused_reported (call.System (system.IrotRdq x))) (λ a. record { here = still_here _ (still_in_rotate k w p _) })
-  flags_system (system.MrotRdq x q) = by_called w p (FlagsReported (call.System (system.MrotRdq x q))) (system_row k w p (system.MrotRdq x q)) tt (refused_reported (call.System (system.MrotRdq x q))) (λ a. record { here = still_here _ (still_in_rotate k w p _) })
-  flags_system (system.ImrotRdq x q) = by_called w p (FlagsReported (call.System (system.ImrotRdq x q))) (system_row k w p (system.ImrotRdq x q)) tt (refused_reported (call.System (system.ImrotRdq x q))) (λ a. record { here = still_here _ (still_in_rotate k w p _) })
+  flags_system (system.RotRdq x) = record { here = still_here _ (call_still k w p (call.System (system.RotRdq x)) refl) }
+  flags_system (system.IrotRdq x) = record { here = still_here _ (call_still k w p (call.System (system.IrotRdq x)) refl) }
+  flags_system (system.MrotRdq x q) = record { here = still_here _ (call_still k w p (call.System (system.MrotRdq x q)) refl) }
+  flags_system (system.ImrotRdq x q) = record { here = still_here _ (call_still k w p (call.System (system.ImrotRdq x q)) refl) }
   flags_system system.LocCpu = by_called w p (FlagsReported (call.System system.LocCpu)) (loc_cpu w p) tt (refused_reported (call.System system.LocCpu)) (λ a. record { here = ap marks (put_here (with_lock w p true) _ refl) })
   flags_system system.IlocCpu = by_called w p (FlagsReported (call.System system.IlocCpu)) (in_handler (loc_cpu w p)) tt (refused_reported (call.System system.IlocCpu)) (λ a. record { here = ap marks (put_here (with_lock w p true) _ refl) })
   flags_system system.UnlCpu = by_called w p (FlagsReported (call.System system.UnlCpu)) (unl_cpu w p) (refl, tt) (refused_reported (call.System system.UnlCpu)) (λ a. record { here = ap marks (put_here (with_lock w p false) _ refl) })

@@ -45,7 +45,7 @@ use Rattle.fmp_law_balance.proofs.Called.{by_called, not_accepted}
 use Rattle.fmp_law_waits.proofs.Events.{by_event}
 use Rattle.std.proofs.lemmas.Option.{none-some, same_Some}
 use Rattle.std.proofs.lemmas.Bool.{both_ways, eqb-true}
-use Rattle.fmp_law_records.proofs.Still.{tick_still}
+use Rattle.fmp_law_records.proofs.Leaving.{tick_still}
 use Rattle.fmp_law_records.proofs.Flags.{Flags, flags, Marks, marks, flags_with, undone, flags_call}
 
 -- The end of an event leaves them.
@@ -89,7 +89,7 @@ module _ (m : State) (s : Safe numbered m) (q : Proc) where
 
   tick_reported : (p : Proc) → Report (settled numbered (before_event numbered m (event.Tick p) p) (tick numbered m p))
   unfolding settled before_event
-  tick_reported p = settled_flags numbered (tops numbered m) (tick numbered m p).0 p q ∙ ap (λ cs. flags (item no_processor cs q.number)) (tick_still numbered p m).0
+  tick_reported p = settled_flags numbered (tops numbered m) (tick numbered m p).0 p q ∙ ap (λ cs. flags (item no_processor cs q.number)) (tick_still numbered m p).0
 
   ipi_reported : (p : Proc) (a : Answer) → Report (settled numbered (before_event numbered m (event.Ipi p) p) (m, plain a))
   unfolding settled before_event

@@ -31,7 +31,7 @@ use Rattle.fmp_law_counts.specs.Naming.{names_task}
 use Rattle.fmp_law_records.specs.Handlers.{taken_to}
 use Rattle.fmp_law_records.specs.Lives.{LifeReported, life_activated, life_ended, life_after, queued_count, queued_for}
 use Rattle.fmp_law_records.proofs.Alarms.{taken_is}
-use Rattle.fmp_law_records.proofs.Beside.{besides}
+use Rattle.fmp_law_records.proofs.Leaving.{besides}
 use Rattle.fmp_law_records.specs.Accepting.{is_about}
 use Rattle.fmp_law_records.specs.Line.{is_done}
 use Rattle.fmp_law_records.proofs.Edits.{activated_as, edited}

@@ -41,7 +41,7 @@ use Rattle.fmp_law_balance.proofs.Called.{refuses, by_called, either_way, not_ac
 use Rattle.fmp_law_balance.proofs.Objects.{IsNamed, object_known, by_object}
 use Rattle.fmp_law_balance.proofs.Steps.{report}
 use Rattle.fmp_law_records.specs.Locks.{asks_for, gives_back, ends_there, is_holder, holder_after, LocksFit}
-use Rattle.fmp_law_records.proofs.Still.{Still, call_still, still_in_rotate}
+use Rattle.fmp_law_records.proofs.Leaving.{Still, call_still}
 
 -- what is not accepted and ends nobody leaves it
 pub unchanged_holder : (l : Object) (r : Record) (h : Option Proc) → is_accepted r.answer ≡ false → ends_there r.event r.answer ≡ false → holder_after l r h ≡ h
@@ -73,10 +73,10 @@ module _ {Q : Type 0} (k : Ordering Q) (w : World Q) (s : Safe k w) (p : Proc) (
 
   held_system : (c : SystemCall) → HolderReported (call.System c) (called w p (system_row k w p c))
   unfolding rotation rotation_in_handler
-  held_system (system.RotRdq x) = either_way w p (HolderReported (call.System (system.RotRdq x))) (system_row k w p (system.RotRdq x)) (λ c. record { here = refl; count = refl }) (still_reported (call.System (system.RotRdq x)) _ (still_in_rotate k w p _) refl)
-  held_system (system.IrotRdq x) = either_way w p (HolderReported (call.System (system.IrotRdq x))) (system_row k w p (system.IrotRdq x)) (λ c. record { here = refl; count = refl }) (still_reported (call.System (system.IrotRdq x)) _ (still_in_rotate k w p _) refl)
-  held_system (system.MrotRdq x q) = either_way w p (HolderReported (call.System (system.MrotRdq x q))) (system_row k w p (system.MrotRdq x q)) (λ c. record { here = refl; count = refl }) (still_reported (call.System (system.MrotRdq x q)) _ (still_in_rotate k w p _) refl)
-  held_system (system.ImrotRdq x q) = either_way w p (HolderReported (call.System (system.ImrotRdq x q))) (system_row k w p (system.ImrotRdq x q)) (λ c. record { here = refl; count = refl }) (still_reported (call.System (system.ImrotRdq x q)) _ (still_in_rotate k w p _) refl)
+  held_system (system.RotRdq x) = still_reported (call.System (system.RotRdq x)) _ (call_still k w p (call.System (system.RotRdq x)) refl) refl
+  held_system (system.IrotRdq x) = still_reported (call.System (system.IrotRdq x)) _ (call_still k w p (call.System (system.IrotRdq x)) refl) refl
+  held_system (system.MrotRdq x q) = still_reported (call.System (system.MrotRdq x q)) _ (call_still k w p (call.System (system.MrotRdq x q)) refl) refl
+  held_system (system.ImrotRdq x q) = still_reported (call.System (system.ImrotRdq x q)) _ (call_still k w p (call.System (system.ImrotRdq x q)) refl) refl
   held_system c = either_way w p (HolderReported (call.System c)) (system_row k w p c) (λ x. record { here = refl; count = refl }) (record { here = refl; count = refl })
 
   -- a lock is taken

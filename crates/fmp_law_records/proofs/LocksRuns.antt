@@ -37,7 +37,7 @@ use Rattle.fmp_law_waits.specs.Waits.{OpenWaits, nobody_waits, after_record}
 use Rattle.fmp_law_waits.proofs.Events.{by_event}
 use Rattle.fmp_law_counts.proofs.Ready.{Ready, ready_next, ready_at_boot, prefix_on}
 use Rattle.fmp_law_records.specs.Locks.{asks_for, gives_back, ends_there, holder_after, holder_by, IsHolderReported, LocksFit}
-use Rattle.fmp_law_records.proofs.Still.{tick_still}
+use Rattle.fmp_law_records.proofs.Leaving.{tick_still}
 use Rattle.fmp_law_records.proofs.Locks.{unchanged_holder, held_call, call_fits}
 
 -- the lock l is held as the record says, and there are as many as before
@@ -56,7 +56,7 @@ held_step m s l few e =
     by_event numbered m (λ v r. HeldAs l m v r) (λ v cs r y ps h. record { here = h.here; count = h.count })
     (λ p c. let h = held_call numbered m s p l few c in record { here = h.here; count = h.count })
     (λ p c. record { here = sym (unchanged_holder l (report (event.Call p c) (runner_of m p) (plain answer.Idle)) (holder m l) refl (idle_ends_nobody p c)); count = refl })
-    (λ p. record { here = ap (λ hs. item None hs l.number) (tick_still numbered p m).1; count = ap length (tick_still numbered p m).1 })
+    (λ p. record { here = ap (λ hs. item None hs l.number) (tick_still numbered m p).1; count = ap length (tick_still numbered m p).1 })
     (λ p. record { here = refl; count = refl }) (λ p. record { here = refl; count = refl }) (λ p a h. record { here = refl; count = refl }) e
 
 -- At boot nobody holds one.

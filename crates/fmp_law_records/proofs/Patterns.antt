@@ -40,7 +40,7 @@ use Rattle.fmp_law_balance.proofs.Called.{refuses, by_called, not_accepted}
 use Rattle.fmp_law_balance.proofs.Objects.{IsNamed, object_known, by_object}
 use Rattle.fmp_law_balance.proofs.Steps.{report}
 use Rattle.fmp_law_records.specs.Patterns.{Asked, is_there, handed_on, after_releases, set_by, sets_bits, keeps_bits, asks_bits, pattern_after, values_from, PatternFits}
-use Rattle.fmp_law_records.proofs.Calm.{call_calm}
+use Rattle.fmp_law_records.proofs.Leaving.{call_calm}
 use Rattle.fmp_law_records.proofs.Report.{either}
 
 pub unchanged_pattern : (clears : Bool) (f : Object) (r : Record) (x : ℕ) → is_accepted r.answer ≡ false → pattern_after clears f r x ≡ x
@@ -149,11 +149,11 @@ module _ {Q : Type 0} (k : Ordering Q) (w : World Q) (p : Proc) (f : Object) (fe
   flags_sync (sync.WaiFlg id bits m) = by_called w p (FlagReported (call.Sync (sync.WaiFlg id bits m))) (twai_flg k w p id bits m forever) (refl, tt) (refused_reported (call.Sync (sync.WaiFlg id bits m))) (λ a. wait_reported (call.Sync (sync.WaiFlg id bits m)) id forever bits m a.known refl refl refl)
   flags_sync (sync.TwaiFlg id bits m timeout) = by_called w p (FlagReported (call.Sync (sync.TwaiFlg id bits m timeout))) (twai_flg k w p id bits m timeout) (refl, tt) (refused_reported (call.Sync (sync.TwaiFlg id bits m timeout))) (λ a. wait_reported (call.Sync (sync.TwaiFlg id bits m timeout)) id timeout bits m a.known refl refl refl)
   flags_sync (sync.PolFlg id bits m) = by_called w p (FlagReported (call.Sync (sync.PolFlg id bits m))) (pol_flg k w id bits m) (refl, (refl, tt)) (refused_reported (call.Sync (sync.PolFlg id bits m))) (λ a. got_reported (call.Sync (sync.PolFlg id bits m)) id (record { bits = bits; mode = m }) a.known refl refl refl)
-  flags_sync c = record { here = ap (λ xs. item blank_eventflag xs f.number) (call_calm k w p (call.Sync c) refl).flags }
+  flags_sync c = record { here = ap (λ xs. item blank_eventflag xs f.number) (call_calm k w p (call.Sync c) refl) }
 
   pub pattern_call : (c : Call) → FlagReported c (called w p (row_of k w p c))
   pattern_call (call.Sync c) = flags_sync c
-  pattern_call c = record { here = ap (λ xs. item blank_eventflag xs f.number) (call_calm k w p c refl).flags }
+  pattern_call c = record { here = ap (λ xs. item blank_eventflag xs f.number) (call_calm k w p c refl) }
 
 -- What each call tells of the pattern.
 

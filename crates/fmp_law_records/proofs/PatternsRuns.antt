@@ -32,7 +32,7 @@ use Rattle.fmp_law_waits.specs.Waits.{OpenWaits, nobody_waits, after_record}
 use Rattle.fmp_law_waits.proofs.Events.{by_event}
 use Rattle.fmp_law_counts.proofs.Ready.{Ready, ready_next, ready_at_boot, ready_after, prefix_on}
 use Rattle.fmp_law_records.specs.Patterns.{asks_bits, sets_bits, pattern_after, pattern_by, report_pattern, IsPatternReported, PatternFits}
-use Rattle.fmp_law_records.proofs.Calm.{tick_calm}
+use Rattle.fmp_law_records.proofs.Leaving.{tick_calm}
 use Rattle.fmp_law_records.proofs.Patterns.{unchanged_pattern, pattern_call, pattern_fits}
 
 abbrev pub now_of : State → Object → Record → Eventflag
@@ -42,7 +42,7 @@ pattern_step : (m : State) (f : Object) → length m.eventflags ≤ 32 → (e : 
 pattern_step m f few e =
     by_event numbered m (λ v r. eventflag v f ≡ now_of m f r) (λ v cs r y ps h. h) (λ p c. (pattern_call numbered m p f few c).here)
     (λ p c. ap (λ y. record (eventflag m f) { pattern = y }) (sym (unchanged_pattern (eventflag m f).setup.clears f (report (event.Call p c) (runner_of m p) (plain answer.Idle)) (eventflag m f).pattern refl)))
-    (λ p. ap (λ xs. item blank_eventflag xs f.number) (tick_calm numbered p m).flags) (λ p. refl) (λ p. refl) (λ p a h. refl) e
+    (λ p. ap (λ xs. item blank_eventflag xs f.number) (tick_calm numbered m p)) (λ p. refl) (λ p. refl) (λ p a h. refl) e
 
 if_all : {X : Type 0} (o : Option X) (P : X → Type 0) → ((x : X) → P x) → IfSome o P
 if_all None P h = tt

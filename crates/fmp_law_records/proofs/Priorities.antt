@@ -37,7 +37,7 @@ use Rattle.fmp_law_balance.proofs.Steps.{report}
 use Rattle.fmp_law_waits.specs.Waits.{is_number_of}
 use Rattle.fmp_law_counts.specs.Naming.{names_task}
 use Rattle.fmp_law_records.specs.Priorities.{given_by, given_or, asks_priority, priority_after, TellsPriority}
-use Rattle.fmp_law_records.proofs.Beside.{besides}
+use Rattle.fmp_law_records.proofs.Leaving.{besides}
 use Rattle.fmp_law_records.specs.Accepting.{is_about}
 use Rattle.fmp_law_records.specs.Line.{is_done}
 use Rattle.fmp_law_records.proofs.Edits.{activated_as, edited}

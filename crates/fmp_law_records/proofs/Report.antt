@@ -20,7 +20,7 @@ use Rattle.fmp_rules.specs.Tick.{tick}
 use Rattle.fmp_rules.specs.Step.{row_of, step}
 use Rattle.fmp_law_balance.proofs.Steps.{report}
 use Rattle.fmp_law_waits.proofs.Events.{by_event}
-use Rattle.fmp_law_records.proofs.Beside.{besides, Leaves, is_on_tasks, call_leaves, tick_leaves}
+use Rattle.fmp_law_records.proofs.Leaving.{besides, Leaves, is_on_tasks, call_leaves, tick_leaves}
 use Rattle.std.proofs.lemmas.Bool.{and_parts, both_ways}
 use Rattle.fmp_law_records.specs.Accepting.{is_about}
 use Rattle.fmp_law_records.specs.Line.{is_done}
@@ -80,7 +80,7 @@ module _ {X : Type 0} (R : X → TaskRecord → Type 0) (after : Record → X �
     report_step e =
         by_event k w (λ v r. R (after r x) (task v t)) (λ v cs r y ps h. subst (λ z. R z (task v t)) (deaf r y ps x) h)
         called_reported idle_reported
-        (λ p. unasked (tick k w p).0 (report (event.Tick p) (runner_of w p) (tick k w p).1) refl (tick_leaves k p t w))
+        (λ p. unasked (tick k w p).0 (report (event.Tick p) (runner_of w p) (tick k w p).1) refl (tick_leaves k w p t))
         (λ p. unasked w (report (event.Tick p) (runner_of w p) (plain answer.Held)) refl (record { rest = refl }))
         (λ p. unasked w (report (event.Tick p) (runner_of w p) (plain answer.Nothing)) refl (record { rest = refl }))
         (λ p a h. unasked w (report (event.Ipi p) (runner_of w p) (plain a)) refl (record { rest = refl })) e

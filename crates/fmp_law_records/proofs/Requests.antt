@@ -30,7 +30,7 @@ use Rattle.fmp_law_safety.proofs.Listed.{numbered_lists}
 use Rattle.fmp_law_safety.proofs.Settling.{is_number, requested, with_latches, length_each, latches_at, settle_is}
 use Rattle.fmp_law_safety.proofs.Stepping.{keeps_call}
 use Rattle.fmp_law_records.specs.Requests.{is_held_back, came_to_end, pending_after}
-use Rattle.fmp_law_records.proofs.Still.{tick_still}
+use Rattle.fmp_law_records.proofs.Leaving.{tick_still}
 use Rattle.fmp_law_records.proofs.Flags.{Flags, flags, Marks, flags_call}
 use Rattle.fmp_law_records.proofs.FlagsRuns.{latched_flags, settled_flags}
 
@@ -151,7 +151,7 @@ module _ (m : State) (p : Proc) (n : p.number ≤ length m.processors) where
         (λ _.
         cond_both ((processor m q).locked || is_some (handler m q)) _ _ PendingReported (λ _. stays_reported (event.Tick q) q answer.Held refl)
         (λ _.
-        end_reported (event.Tick q) (tick numbered m q) (ap length (tick_still numbered q m).0) (ap (λ cs. (item no_processor cs p.number).latch) (tick_still numbered q m).0) q refl refl))
+        end_reported (event.Tick q) (tick numbered m q) (ap length (tick_still numbered m q).0) (ap (λ cs. (item no_processor cs p.number).latch) (tick_still numbered m q).0) q refl refl))
         (λ _. stays_reported (event.Tick q) q answer.Nothing refl)
     pending_step (event.Ipi q) within =
         cond_both (is_held m q) _ _ PendingReported (λ _. stays_reported (event.Ipi q) q answer.Held refl)
