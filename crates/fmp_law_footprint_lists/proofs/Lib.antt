@@ -7,4 +7,5 @@ mod AlikeTasks  -- Calls on tasks that are made in states which agree.
 mod AlikeOthers  -- Calls on data queues, pools, handlers, processors and spin locks that are made in states which agree.
 mod AlikeSteps  -- The end of an event in states that agree.
 mod AlikeTicks  -- Ticks in states that agree.
+mod Commuting  -- Events commute for which cells are enough that have none in common.
 mod Abouts  -- The cells of what an event is about are enough.

@@ -1,5 +1,5 @@
 -- What an event of a processor is about, and the cells of that.
-use Rattle.std.specs.Prelude.{ℕ, ◌==◌, ◌||◌, ◌&&◌, slice_index_or, Bool, true, false, Option, None, Some, List, [], ◌∷◌, is_some}
+use Rattle.std.specs.Prelude.{ℕ, ◌==◌, ◌||◌, ◌&&◌, slice_index_or, Bool, false, Option, None, Some, List, [], ◌∷◌, is_some}
 use Rattle.std.specs.List.{list_any}
 use Rattle.fmp_codes.specs.declared.numbers.Proc.{Proc}
 use Rattle.fmp_codes.specs.declared.numbers.Task.{Task}
@@ -97,7 +97,7 @@ module _ {Q : Type 0} (w : World Q) (p : Proc) (a : About) where
   is_about (WaitersOf kind.Receive n) = waits_there kind.Receive n || has a.data_queues n
   is_about (WaitersOf kind.Pool n) = waits_there kind.Pool n || has a.pools n
   is_about TimedWaits = list_any (λ t. is_some (item None w.waits_left t.number)) a.tasks || a.timed
-  is_about Arriving = true
+  is_about Arriving = false
   is_about (OfProcessor n) = on p == n
   is_about (DueOn n) = on p == n
   is_about (OfSemaphore n) = waits_there kind.Semaphore n || has a.semaphores n

@@ -20,6 +20,7 @@ ghost use Rattle.fmp_law_footprint_lists.specs.About.{About, is_about};
 ghost use Rattle.fmp_law_footprint_lists.specs.AboutCalls.{about_call, about_tick};
 ghost use Rattle.fmp_law_footprint_lists.specs.Lists.{Lists, lists};
 ghost use Rattle.fmp_law_footprint_lists.specs.Alike.{AgreeOn, AreAlike, ChangesOnly, GoodFor};
+ghost use Rattle.fmp_law_footprint_lists.specs.Apart.{after, Apart, AreEnough, Commute};
 
 /// An event changes only cells of any set that covers it.
 pub fn events_change_what_covers_them()
@@ -44,6 +45,12 @@ pub fn events_do_what_they_read()
         → StepsAlike Lists lists (Within f) (step listed v (event.Tick p)) (step listed w (event.Tick p)) }
     ensures interrupts { (f : Cell → Bool) (v w : World Queues) (p : Proc) → AreAlike f v w p
         → StepsAlike Lists lists (Within f) (step listed v (event.Ipi p)) (step listed w (event.Ipi p)) }
+{}
+
+/// Two events commute where cells are enough for one and others for the other, before it and after the other.
+pub fn events_commute()
+    ensures { (f g : Cell → Bool) (w : World Queues) (d e : Event) → Apart f g → AreEnough f w d → AreEnough g w e
+        → AreEnough f (after w e) d → AreEnough g (after w d) e → Commute w d e }
 {}
 
 /// The cells of what an event is about are closed, cover it, and are all that it reads.

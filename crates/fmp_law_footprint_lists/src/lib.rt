@@ -8,5 +8,5 @@ mod laws;
 
 pub use laws::{
     calls_do_what_they_read, cells_of_events_are_enough, events_change_what_covers_them,
-    events_do_what_they_read, standing_lists_are_good,
+    events_commute, events_do_what_they_read, standing_lists_are_good,
 };
