@@ -9,6 +9,8 @@ use Rattle.fmp_cli_questions.specs.declared.answers.Answer.TheVariants.{Never, S
 use Rattle.fmp_cli_questions.specs.declared.answers.Judgement.{Judgement}
 use Rattle.fmp_cli_questions.specs.declared.answers.Judgement.TheVariants.{Right, Wrong, Unknown}
 use Rattle.fmp_cli_questions.specs.declared.answers.Reply.{Reply}
+use Rattle.fmp_cli_questions.specs.declared.junit.TheConstants.{MESSAGE, CASE, FAILURES, ERRORS, END}
+use Rattle.fmp_cli_questions.specs.declared.lines.TheConstants.{TAP}
 use Rattle.fmp_cli_questions.specs.declared.reading.RowKind.{RowKind}
 use Rattle.fmp_cli_questions.specs.declared.reading.RowKind.TheVariants.{Form, Twice, TooMany}
 
@@ -55,10 +57,14 @@ judgement_of replies =
 
 -- ---- a line
 
+-- words, and a number after them
+unfoldable pub counted : List ℕ → ℕ → List ℕ
+counted words number = words ++ decimal number
+
 abbrev pub words_of : Answer → List ℕ
 words_of Never = codes "never"
-words_of (Shown lines) = codes "shown in " ++ decimal lines ++ codes " lines"
-words_of (NotWithin lines) = codes "not within " ++ decimal lines
+words_of (Shown lines) = counted (codes "shown in ") lines ++ codes " lines"
+words_of (NotWithin lines) = counted (codes "not within ") lines
 
 -- a name, and the answer
 abbrev pub report : Reply → List ℕ
@@ -74,7 +80,7 @@ plain_line reply = grade (judgement reply) ++ report reply ++ codes "\n"
 
 -- the same in the form of TAP, where what is not known is not ok, with a comment
 abbrev pub tap_head : ℕ → List ℕ
-tap_head count = codes "TAP version 13\n1.." ++ decimal count ++ codes "\n"
+tap_head count = counted TAP.now count ++ codes "\n"
 
 abbrev pub tap_grade : Judgement → List ℕ
 tap_grade Right = codes "ok "
@@ -87,7 +93,7 @@ tap_end Wrong = codes "\n"
 tap_end Unknown = codes " # not known\n"
 
 abbrev pub tap_line : ℕ → Reply → List ℕ
-tap_line number reply = tap_grade (judgement reply) ++ decimal number ++ codes " - " ++ report reply ++ tap_end (judgement reply)
+tap_line number reply = counted (tap_grade (judgement reply)) number ++ codes " - " ++ report reply ++ tap_end (judgement reply)
 
 -- ---- all in an XML text, as JUnit has it
 
@@ -114,7 +120,7 @@ escaped (b ∷ bytes) = escaped_byte b ++ escaped bytes
 
 -- why a case is not passed: the answer, and the question, in an element of this name
 abbrev pub why : Reply → List ℕ
-why reply = codes " message=\"" ++ words_of reply.answer ++ codes "\">" ++ escaped reply.row.question
+why reply = MESSAGE.now ++ words_of reply.answer ++ codes "\">" ++ escaped reply.row.question
 
 abbrev pub reason : List ℕ → Reply → List ℕ
 reason tag reply = codes "\"><" ++ tag ++ why reply ++ codes "</" ++ tag ++ codes "></testcase>\n"
@@ -128,26 +134,20 @@ unfoldable pub named : List ℕ → List ℕ → List ℕ
 named words name = words ++ escaped name
 
 unfoldable pub case_of : Reply → List ℕ
-case_of reply = named (codes "<testcase classname=\"fmpsim explore\" name=\"") reply.row.name ++ case_end (judgement reply) reply
+case_of reply = named CASE.now reply.row.name ++ case_end (judgement reply) reply
 
 abbrev pub cases_of : List Reply → List ℕ
 cases_of [] = []
 cases_of (reply ∷ replies) = case_of reply ++ cases_of replies
 
 -- how many cases there are, and how many of them are wrong and not known, between the quotation marks around the first and the last of these
-unfoldable pub counted : List ℕ → ℕ → List ℕ
-counted words number = words ++ decimal number
+unfoldable pub counts : List Reply → List ℕ
+counts replies =
+    decimal (length replies) ++ counted FAILURES.now (count_of Wrong replies) ++ counted ERRORS.now (count_of Unknown replies)
 
-unfoldable pub faults : ℕ → ℕ → List ℕ
-faults wrong unknown = counted (codes "\" failures=\"") wrong ++ counted (codes "\" errors=\"") unknown
-
-unfoldable pub numbers : ℕ → ℕ → ℕ → List ℕ
-numbers all wrong unknown = decimal all ++ faults wrong unknown
-
-abbrev pub counts : List Reply → List ℕ
-counts replies = numbers (length replies) (count_of Wrong replies) (count_of Unknown replies)
+-- all cases with their counts, after words
+unfoldable pub suite : List ℕ → List Reply → List ℕ
+suite words replies = words ++ counts replies ++ codes "\">\n" ++ cases_of replies ++ END.now
 
 abbrev pub junit_text : List Reply → List ℕ
-junit_text replies =
-    codes "<?xml version=\"1.0\" encoding=\"UTF-8\"?>\n<testsuite name=\"fmpsim explore\" tests=\"" ++ counts replies ++ codes "\">\n" ++ cases_of replies
-    ++ codes "</testsuite>\n"
+junit_text replies = suite (codes "<?xml version=\"1.0\" encoding=\"UTF-8\"?>\n<testsuite name=\"fmpsim explore\" tests=\"") replies

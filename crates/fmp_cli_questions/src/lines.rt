@@ -1,44 +1,42 @@
 //! A line of each answer.
-ghost use Rattle.std.specs.Prelude.{◌≡◌, ◌++◌, IfOk, OnOk, decimal};
+ghost use Rattle.std.specs.Prelude.{◌≡◌, IfOk};
+ghost use Rattle.fmp_out.specs.Putting.{Adds};
 ghost use Rattle.fmp_cli_questions.specs.Answers as spec;
 
 use crate::answers::{Answer, Judgement, Reply};
-use itoa::Buffer;
+use fmp_out::Text;
 use std::alloc::{AllocError, Global};
 
-/// Adds a number.
-pub(crate) fn put_number(out: &mut Vec<u8>, number: usize) -> Result<(), AllocError>
-    ensures { OnOk result (out.new.items ≡ out.old.items ++ decimal number) }
+/// Adds words, and a number after them.
+#[tactic(auto, unfolding(crate::specs::Answers::counted))]
+pub(crate) fn put_counted(out: &mut Text, words: &[u8], number: usize)
+    ensures { Adds (spec.counted words.now number) out.old out.new }
 {
-    let mut buffer = Buffer::new();
-    out.extend_from_slice(buffer.format(number).as_bytes())
+    out.put(words);
+    out.put_number(number as u64);
 }
 
 /// Adds an answer in words.
-pub(crate) fn put_words(out: &mut Vec<u8>, answer: Answer) -> Result<(), AllocError>
-    ensures { OnOk result (out.new.items ≡ out.old.items ++ spec.words_of answer) }
+pub(crate) fn put_words(out: &mut Text, answer: Answer)
+    ensures { Adds (spec.words_of answer) out.old out.new }
 {
     match answer {
-        Answer::Never => out.extend_from_slice(b"never"),
+        Answer::Never => out.put(b"never"),
         Answer::Shown(lines) => {
-            out.extend_from_slice(b"shown in ")?;
-            put_number(out, lines)?;
-            out.extend_from_slice(b" lines")
+            put_counted(out, b"shown in ", lines);
+            out.put(b" lines");
         }
-        Answer::NotWithin(lines) => {
-            out.extend_from_slice(b"not within ")?;
-            put_number(out, lines as usize)
-        }
+        Answer::NotWithin(lines) => put_counted(out, b"not within ", lines as usize),
     }
 }
 
 /// Adds the name of a question, and its answer.
-fn put_reported(out: &mut Vec<u8>, reply: &Reply) -> Result<(), AllocError>
-    ensures { OnOk result (out.new.items ≡ out.old.items ++ spec.report reply.now) }
+fn put_reported(out: &mut Text, reply: &Reply)
+    ensures { Adds (spec.report reply.now) out.old out.new }
 {
-    out.extend_from_slice(reply.row.name())?;
-    out.extend_from_slice(b": ")?;
-    put_words(out, reply.answer)
+    out.put(reply.row.name());
+    out.put(b": ");
+    put_words(out, reply.answer);
 }
 
 /// How a line begins.
@@ -56,20 +54,24 @@ fn grade(judgement: Judgement) -> &'static [u8]
 pub fn plain_line(alloc: Global, reply: &Reply) -> Result<Vec<u8>, AllocError>
     ensures { IfOk result (λ line. line.items ≡ spec.plain_line reply.now) }
 {
-    let mut line = Vec::from_slice(alloc, grade(reply.judgement()))?;
-    put_reported(&mut line, reply)?;
-    line.push(b'\n')?;
-    Ok(line)
+    let mut line = Text::new(alloc);
+    line.put(grade(reply.judgement()));
+    put_reported(&mut line, reply);
+    line.put_byte(b'\n');
+    line.finish()
 }
+
+/// What stands before the number of answers in a text in the form of TAP.
+pub const TAP: &[u8] = b"TAP version 13\n1..";
 
 /// The first lines of a text in the form of TAP, for so many answers. The error is want of memory.
 pub fn tap_head(alloc: Global, count: usize) -> Result<Vec<u8>, AllocError>
     ensures { IfOk result (λ head. head.items ≡ spec.tap_head count) }
 {
-    let mut head = Vec::from_slice(alloc, b"TAP version 13\n1..")?;
-    put_number(&mut head, count)?;
-    head.push(b'\n')?;
-    Ok(head)
+    let mut head = Text::new(alloc);
+    put_counted(&mut head, TAP, count);
+    head.put_byte(b'\n');
+    head.finish()
 }
 
 /// How a line in the form of TAP begins.
@@ -96,10 +98,10 @@ fn tap_end(judgement: Judgement) -> &'static [u8]
 pub fn tap_line(alloc: Global, number: usize, reply: &Reply) -> Result<Vec<u8>, AllocError>
     ensures { IfOk result (λ line. line.items ≡ spec.tap_line number reply.now) }
 {
-    let mut line = Vec::from_slice(alloc, tap_grade(reply.judgement()))?;
-    put_number(&mut line, number)?;
-    line.extend_from_slice(b" - ")?;
-    put_reported(&mut line, reply)?;
-    line.extend_from_slice(tap_end(reply.judgement()))?;
-    Ok(line)
+    let mut line = Text::new(alloc);
+    put_counted(&mut line, tap_grade(reply.judgement()), number);
+    line.put(b" - ");
+    put_reported(&mut line, reply);
+    line.put(tap_end(reply.judgement()));
+    line.finish()
 }
