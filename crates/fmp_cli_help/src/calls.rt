@@ -5,7 +5,7 @@ use fmp_calls::{BUFFER_CALLS, SPIN_CALLS, SYNC_CALLS, SYSTEM_CALLS, TASK_CALLS, 
 use fmp_codes::{
     ArgumentKind, BufferCall, Call, ObjectKind, SpinCall, SyncCall, SystemCall, TaskCall, TimeCall,
 };
-use std::alloc::AllocError;
+use fmp_out::Text;
 
 /// What an argument of a kind is called.
 fn word_of(kind: ArgumentKind) -> &'static [u8] {
@@ -51,107 +51,99 @@ fn written(kind: ArgumentKind) -> &'static [u8] {
 }
 
 /// Adds the kinds of a call's arguments, with commas between them.
-fn put_kinds(out: &mut Vec<u8>, kinds: &[ArgumentKind]) -> Result<(), AllocError> {
+fn put_kinds(out: &mut Text, kinds: &[ArgumentKind]) {
     for (index, kind) in kinds.iter().enumerate() {
         if index > 0 {
-            out.extend_from_slice(b", ")?;
+            out.put(b", ");
         }
-        out.extend_from_slice(word_of(*kind))?;
+        out.put(word_of(*kind));
     }
-    Ok(())
 }
 
 /// Adds a call as it is written, with the kinds of its arguments.
-pub fn put_call(out: &mut Vec<u8>, call: Call) -> Result<(), AllocError> {
+pub fn put_call(out: &mut Text, call: Call) {
     let form = form(call);
-    out.extend_from_slice(form.text)?;
+    out.put(form.text);
     if !form.bare {
-        out.push(b'(')?;
-        put_kinds(out, form.kinds)?;
-        out.push(b')')?;
+        out.put_byte(b'(');
+        put_kinds(out, form.kinds);
+        out.put_byte(b')');
     }
-    out.extend_from_slice(b"\n")
+    out.put(b"\n");
 }
 
 /// Adds what may be written for an argument of a kind.
-pub fn put_argument(out: &mut Vec<u8>, kind: ArgumentKind) -> Result<(), AllocError> {
-    out.extend_from_slice(b"  ")?;
-    out.extend_from_slice(word_of(kind))?;
-    out.extend_from_slice(b": ")?;
-    out.extend_from_slice(written(kind))?;
-    out.extend_from_slice(b"\n")
+pub fn put_argument(out: &mut Text, kind: ArgumentKind) {
+    out.put(b"  ");
+    out.put(word_of(kind));
+    out.put(b": ");
+    out.put(written(kind));
+    out.put(b"\n");
 }
 
 /// Adds for each of these kinds of arguments what may be written.
-fn put_arguments(out: &mut Vec<u8>, kinds: &[ArgumentKind]) -> Result<(), AllocError> {
+fn put_arguments(out: &mut Text, kinds: &[ArgumentKind]) {
     for kind in kinds {
-        put_argument(out, *kind)?;
+        put_argument(out, *kind);
     }
-    Ok(())
 }
 
 /// Adds a call, and for each of its arguments what may be written.
-pub(crate) fn put_about(out: &mut Vec<u8>, call: Call) -> Result<(), AllocError> {
-    put_call(out, call)?;
-    put_arguments(out, form(call).kinds)?;
-    out.extend_from_slice(deed(call))
+pub(crate) fn put_about(out: &mut Text, call: Call) {
+    put_call(out, call);
+    put_arguments(out, form(call).kinds);
+    out.put(deed(call));
 }
 
 /// Adds a line for each of these calls on tasks.
-fn put_task_lines(out: &mut Vec<u8>, calls: &[TaskCall]) -> Result<(), AllocError> {
+fn put_task_lines(out: &mut Text, calls: &[TaskCall]) {
     for call in calls {
-        put_call(out, Call::Task(*call))?;
+        put_call(out, Call::Task(*call));
     }
-    Ok(())
 }
 
 /// Adds a line for each of these calls on semaphores and eventflags.
-fn put_sync_lines(out: &mut Vec<u8>, calls: &[SyncCall]) -> Result<(), AllocError> {
+fn put_sync_lines(out: &mut Text, calls: &[SyncCall]) {
     for call in calls {
-        put_call(out, Call::Sync(*call))?;
+        put_call(out, Call::Sync(*call));
     }
-    Ok(())
 }
 
 /// Adds a line for each of these calls on data queues and pools.
-fn put_buffer_lines(out: &mut Vec<u8>, calls: &[BufferCall]) -> Result<(), AllocError> {
+fn put_buffer_lines(out: &mut Text, calls: &[BufferCall]) {
     for call in calls {
-        put_call(out, Call::Buffer(*call))?;
+        put_call(out, Call::Buffer(*call));
     }
-    Ok(())
 }
 
 /// Adds a line for each of these calls on cyclic handlers and alarms.
-fn put_time_lines(out: &mut Vec<u8>, calls: &[TimeCall]) -> Result<(), AllocError> {
+fn put_time_lines(out: &mut Text, calls: &[TimeCall]) {
     for call in calls {
-        put_call(out, Call::Time(*call))?;
+        put_call(out, Call::Time(*call));
     }
-    Ok(())
 }
 
 /// Adds a line for each of these calls on the processors and the state of dispatching.
-fn put_system_lines(out: &mut Vec<u8>, calls: &[SystemCall]) -> Result<(), AllocError> {
+fn put_system_lines(out: &mut Text, calls: &[SystemCall]) {
     for call in calls {
-        put_call(out, Call::System(*call))?;
+        put_call(out, Call::System(*call));
     }
-    Ok(())
 }
 
 /// Adds a line for each of these calls on spin locks.
-fn put_spin_lines(out: &mut Vec<u8>, calls: &[SpinCall]) -> Result<(), AllocError> {
+fn put_spin_lines(out: &mut Text, calls: &[SpinCall]) {
     for call in calls {
-        put_call(out, Call::Spin(*call))?;
+        put_call(out, Call::Spin(*call));
     }
-    Ok(())
 }
 
 /// Adds a line for each call.
-pub fn put_calls(out: &mut Vec<u8>) -> Result<(), AllocError> {
-    put_task_lines(out, TASK_CALLS)?;
-    put_sync_lines(out, SYNC_CALLS)?;
-    put_buffer_lines(out, BUFFER_CALLS)?;
-    put_time_lines(out, TIME_CALLS)?;
-    put_system_lines(out, SYSTEM_CALLS)?;
-    put_spin_lines(out, SPIN_CALLS)?;
-    put_call(out, Call::RetHdr)
+pub fn put_calls(out: &mut Text) {
+    put_task_lines(out, TASK_CALLS);
+    put_sync_lines(out, SYNC_CALLS);
+    put_buffer_lines(out, BUFFER_CALLS);
+    put_time_lines(out, TIME_CALLS);
+    put_system_lines(out, SYSTEM_CALLS);
+    put_spin_lines(out, SPIN_CALLS);
+    put_call(out, Call::RetHdr);
 }

@@ -12,9 +12,8 @@ macro_rules! rows {
     };
 }
 
-/// The calls by families, each with its name, and with what it does and what it answers, two lines.
-pub const DEEDS: [(&[u8], &[u8]); 78] = rows![
-    // Tasks.
+/// The calls on tasks, each with its name, and with what it does and what it answers, two lines.
+pub const TASK_DEEDS: [(&[u8], &[u8]); 20] = rows![
     b"act_tsk" | b"iact_tsk" => b"  does: A dormant task starts where it is assigned; of an active one the activation is queued.\n  answers: E_OK; E_QOVR where an activation is queued already.\n",
     b"mact_tsk" | b"imact_tsk" => b"  does: A dormant task starts on the processor; of an active one the activation is queued, and the processor kept.\n  answers: E_OK; E_QOVR where an activation is queued already.\n",
     b"can_act" => b"  does: Queued activations are taken back, with the kept processor.\n  answers: E_OK and the number of them.\n",
@@ -30,6 +29,10 @@ pub const DEEDS: [(&[u8], &[u8]); 78] = rows![
     b"sus_tsk" => b"  does: The task is suspended.\n  answers: E_OK; E_OBJ where it is dormant; E_QOVR where it is suspended already.\n",
     b"rsm_tsk" => b"  does: The task is no longer suspended.\n  answers: E_OK; E_OBJ where it is not suspended.\n",
     b"dly_tsk" => b"  does: The caller waits for so many ticks and one more.\n  answers: wait; then E_OK at the end, or E_RLWAI.\n",
+];
+
+/// The calls on semaphores and eventflags, data queues and pools, cyclic handlers and alarms, likewise.
+pub const OBJECT_DEEDS: [(&[u8], &[u8]); 33] = rows![
     // Semaphores and eventflags.
     b"sig_sem" | b"isig_sem" => b"  does: The first waiter is released, or else the count rises by one.\n  answers: E_OK; E_QOVR where the count is the greatest.\n",
     b"wai_sem" | b"twai_sem" => b"  does: The count falls by one, or else the caller waits.\n  answers: E_OK or wait; then E_OK, E_TMOUT or E_RLWAI ends the wait.\n",
@@ -54,6 +57,10 @@ pub const DEEDS: [(&[u8], &[u8]); 78] = rows![
     b"sta_alm" | b"ista_alm" => b"  does: The alarm is started with the time, also where it was started.\n  answers: E_OK.\n",
     b"msta_alm" | b"imsta_alm" => b"  does: The alarm is assigned to the processor, and started with the time.\n  answers: E_OK.\n",
     b"stp_alm" | b"istp_alm" => b"  does: The alarm is stopped, also where it was.\n  answers: E_OK.\n",
+];
+
+/// The calls on processors and spin locks, and the return of a handler, likewise.
+pub const SYSTEM_DEEDS: [(&[u8], &[u8]); 25] = rows![
     // Processors.
     b"rot_rdq" | b"irot_rdq" => b"  does: The first runnable task of the priority on the caller's processor comes last of it; 0 is the caller's own.\n  answers: E_OK; E_PAR for 0 in irot_rdq.\n",
     b"mrot_rdq" | b"imrot_rdq" => b"  does: The first runnable task of the priority on the processor comes last of it; 0 is the caller's own.\n  answers: E_OK; E_PAR for 0 in imrot_rdq.\n",
@@ -86,10 +93,39 @@ fn report_in<'a>(rows: &[(&[u8], &'a [u8])], name: &[u8]) -> &'a [u8]
     }
 }
 
+/// What is told of a call on tasks of this name. Each table has a function of its own: one that names a table costs a check by all its bytes.
+#[tactic(auto, unfolding(crate::specs::Deeds::task_rows))]
+fn task_deed(name: &[u8]) -> &'static [u8]
+    ensures { result.now ≡ spec.report_in spec.task_rows name.now }
+{
+    report_in(&TASK_DEEDS, name)
+}
+
+/// What is told of a call on objects and handlers of this name.
+#[tactic(auto, unfolding(crate::specs::Deeds::object_rows))]
+fn object_deed(name: &[u8]) -> &'static [u8]
+    ensures { result.now ≡ spec.report_in spec.object_rows name.now }
+{
+    report_in(&OBJECT_DEEDS, name)
+}
+
+/// What is told of a call on processors and spin locks, or of the return of a handler, of this name.
+#[tactic(auto, unfolding(crate::specs::Deeds::system_rows))]
+fn system_deed(name: &[u8]) -> &'static [u8]
+    ensures { result.now ≡ spec.report_in spec.system_rows name.now }
+{
+    report_in(&SYSTEM_DEEDS, name)
+}
+
 /// What the call does and what it answers, two lines.
-#[tactic(auto, unfolding(crate::specs::Deeds::deed, crate::specs::Deeds::rows))]
+#[tactic(auto, unfolding(crate::specs::Deeds::deed))]
 pub(crate) fn deed(call: Call) -> &'static [u8]
     ensures { result.now ≡ spec.deed call }
 {
-    report_in(&DEEDS, form(call).text)
+    let name = form(call).text;
+    match call {
+        Call::Task(_) => task_deed(name),
+        Call::Sync(_) | Call::Buffer(_) | Call::Time(_) => object_deed(name),
+        Call::System(_) | Call::Spin(_) | Call::RetHdr => system_deed(name),
+    }
 }

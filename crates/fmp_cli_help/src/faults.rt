@@ -5,8 +5,8 @@ ghost use Rattle.fmp_config_statements.specs.Faults as config;
 ghost use Rattle.fmp_text.specs.Faults as text;
 
 use fmp_config_statements::ConfigKind;
+use fmp_out::Text;
 use fmp_text::TextKind;
-use std::alloc::AllocError;
 
 /// The faults of a configuration.
 pub(crate) const CONFIG_KINDS: [ConfigKind; 13] = [
@@ -86,93 +86,101 @@ fn text_advice(kind: TextKind) -> &'static [u8] {
     }
 }
 
-/// Adds the line of a fault of a configuration: its number and its words.
-fn put_config_line(out: &mut Vec<u8>, kind: ConfigKind) -> Result<(), AllocError> {
-    out.extend_from_slice(kind.code().as_bytes())?;
-    out.push(b' ')?;
-    out.extend_from_slice(kind.words().as_bytes())?;
-    out.extend_from_slice(b"\n")
-}
-
-/// Adds the line of a fault of events, scripts or a trace: its number and its words.
-fn put_text_line(out: &mut Vec<u8>, kind: TextKind) -> Result<(), AllocError> {
-    out.extend_from_slice(kind.code().as_bytes())?;
-    out.push(b' ')?;
-    out.extend_from_slice(kind.words().as_bytes())?;
-    out.extend_from_slice(b"\n")
+/// Adds the line of a fault: its number and its words.
+fn put_line(out: &mut Text, number: &str, words: &str) {
+    out.put(number.as_bytes());
+    out.put_byte(b' ');
+    out.put(words.as_bytes());
+    out.put(b"\n");
 }
 
 /// Adds the line of what to do about a fault.
-fn put_advice(out: &mut Vec<u8>, advice: &[u8]) -> Result<(), AllocError> {
-    out.extend_from_slice(b"  ")?;
-    out.extend_from_slice(advice)?;
-    out.extend_from_slice(b"\n")
+fn put_advice(out: &mut Text, advice: &[u8]) {
+    out.put(b"  ");
+    out.put(advice);
+    out.put(b"\n");
 }
 
 /// Adds what to do about a fault of a configuration.
-pub fn put_config_advice(out: &mut Vec<u8>, kind: ConfigKind) -> Result<(), AllocError> {
-    put_advice(out, config_advice(kind))
+pub fn put_config_advice(out: &mut Text, kind: ConfigKind) {
+    put_advice(out, config_advice(kind));
 }
 
 /// Adds a fault of a configuration, and what to do about it.
-pub(crate) fn put_about_config(out: &mut Vec<u8>, kind: ConfigKind) -> Result<(), AllocError> {
-    put_config_line(out, kind)?;
-    put_advice(out, config_advice(kind))
+pub(crate) fn put_about_config(out: &mut Text, kind: ConfigKind) {
+    put_line(out, kind.code(), kind.words());
+    put_config_advice(out, kind);
 }
 
 /// Adds what to do about a fault of events, scripts or a trace.
-pub fn put_text_advice(out: &mut Vec<u8>, kind: TextKind) -> Result<(), AllocError> {
-    put_advice(out, text_advice(kind))
+pub fn put_text_advice(out: &mut Text, kind: TextKind) {
+    put_advice(out, text_advice(kind));
 }
 
 /// Adds a fault of events, scripts or a trace, and what to do about it.
-pub(crate) fn put_about_text(out: &mut Vec<u8>, kind: TextKind) -> Result<(), AllocError> {
-    put_text_line(out, kind)?;
-    put_advice(out, text_advice(kind))
+pub(crate) fn put_about_text(out: &mut Text, kind: TextKind) {
+    put_line(out, kind.code(), kind.words());
+    put_text_advice(out, kind);
 }
 
 /// Adds a line for each of these faults of a configuration.
-fn put_config_lines(out: &mut Vec<u8>, kinds: &[ConfigKind]) -> Result<(), AllocError> {
+fn put_config_lines(out: &mut Text, kinds: &[ConfigKind]) {
     for kind in kinds {
-        put_config_line(out, *kind)?;
+        put_line(out, kind.code(), kind.words());
     }
-    Ok(())
 }
 
 /// Adds a line for each fault of a configuration.
-pub(crate) fn put_config_faults(out: &mut Vec<u8>) -> Result<(), AllocError> {
-    put_config_lines(out, &CONFIG_KINDS)
+pub(crate) fn put_config_faults(out: &mut Text) {
+    put_config_lines(out, &CONFIG_KINDS);
 }
 
 /// Adds a line for each of these faults of events, scripts or a trace.
-fn put_text_lines(out: &mut Vec<u8>, kinds: &[TextKind]) -> Result<(), AllocError> {
+fn put_text_lines(out: &mut Text, kinds: &[TextKind]) {
     for kind in kinds {
-        put_text_line(out, *kind)?;
+        put_line(out, kind.code(), kind.words());
     }
-    Ok(())
 }
 
 /// Adds a line for each fault of events, scripts and traces.
-pub(crate) fn put_text_faults(out: &mut Vec<u8>) -> Result<(), AllocError> {
-    put_text_lines(out, &TEXT_KINDS)
+pub(crate) fn put_text_faults(out: &mut Text) {
+    put_text_lines(out, &TEXT_KINDS);
+}
+
+/// The first of these faults of a configuration that has the number.
+fn config_kind_in(kinds: &[ConfigKind], word: &[u8]) -> Option<ConfigKind>
+    ensures { result ≡ find (λ kind. bytes_eq (config.code_of kind) word.now) kinds.now }
+{
+    for kind in kinds {
+        if kind.code().as_bytes() == word {
+            return Some(*kind);
+        }
+    }
+    None
 }
 
 /// The fault of a configuration with this number, such as `F7`.
 pub(crate) fn find_config_kind(word: &[u8]) -> Option<ConfigKind>
     ensures { result ≡ find (λ kind. bytes_eq (config.code_of kind) word.now) CONFIG_KINDS }
 {
-    CONFIG_KINDS
-        .iter()
-        .copied()
-        .find(|kind| kind.code().as_bytes() == word)
+    config_kind_in(&CONFIG_KINDS, word)
+}
+
+/// The first of these faults of events, scripts and traces that has the number.
+fn text_kind_in(kinds: &[TextKind], word: &[u8]) -> Option<TextKind>
+    ensures { result ≡ find (λ kind. bytes_eq (text.code_of kind) word.now) kinds.now }
+{
+    for kind in kinds {
+        if kind.code().as_bytes() == word {
+            return Some(*kind);
+        }
+    }
+    None
 }
 
 /// The fault of events, scripts and traces with this number, such as `E4`.
 pub(crate) fn find_text_kind(word: &[u8]) -> Option<TextKind>
     ensures { result ≡ find (λ kind. bytes_eq (text.code_of kind) word.now) TEXT_KINDS }
 {
-    TEXT_KINDS
-        .iter()
-        .copied()
-        .find(|kind| kind.code().as_bytes() == word)
+    text_kind_in(&TEXT_KINDS, word)
 }

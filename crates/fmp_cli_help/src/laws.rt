@@ -18,7 +18,7 @@ ghost use Rattle.fmp_config_statements.specs.Faults as configs;
 ghost use Rattle.fmp_config_statements.specs.Table as statements;
 ghost use Rattle.fmp_text.specs.declared.fault.TextKind.{TextKind};
 ghost use Rattle.fmp_text.specs.Faults as texts;
-ghost use Rattle.fmp_cli_help.specs.declared.deeds.TheConstants.{DEEDS};
+ghost use Rattle.fmp_cli_help.specs.Deeds.{rows, rows_of};
 ghost use Rattle.fmp_cli_help.specs.declared.faults.TheConstants.{CONFIG_KINDS, TEXT_KINDS};
 ghost use Rattle.fmp_cli_help.specs.declared.left_out.TheConstants.{BEGINNINGS, ENDINGS, NAMES};
 ghost use Rattle.fmp_cli_help.specs.LeftOut.{beginnings, endings, names, is_left_out};
@@ -47,10 +47,11 @@ pub fn text_faults_are_listed()
     ensures report { (kind : TextKind) → subject_of (texts.code_of kind) ≡ Some (subjects.TextFault kind) }
 {}
 
-/// The table of what the calls do has exactly one row with the name of each call, and no other row.
+/// The tables of what the calls do have exactly one row with the name of each call, in the table of its family, and no other row.
 pub fn deeds_are_listed()
-    ensures once { (call : Call) → count_by (λ row. bytes_eq row.0.now (calls.text_of call)) DEEDS ≡ 1 }
-    ensures no_other { list_all (λ row. is_some (calls.named row.0.now)) DEEDS ≡ true }
+    ensures once { (call : Call) → count_by (λ row. bytes_eq row.call (calls.text_of call)) rows ≡ 1 }
+    ensures place { (call : Call) → count_by (λ row. bytes_eq row.call (calls.text_of call)) (rows_of call) ≡ 1 }
+    ensures no_other { list_all (λ row. is_some (calls.named row.call)) rows ≡ true }
 {}
 
 /// The words that are compared are those of the definition.

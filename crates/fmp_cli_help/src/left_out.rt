@@ -66,23 +66,36 @@ const NAMES: [&[u8]; 46] = [
 pub(crate) fn begins_with_one(beginnings: &[&[u8]], word: &[u8]) -> bool
     ensures { result ≡ list_any (λ beginning. starts_with ◌==◌ word.now beginning.now) beginnings.now }
 {
-    beginnings
-        .iter()
-        .any(|beginning| word.starts_with(beginning))
+    for beginning in beginnings {
+        if word.starts_with(beginning) {
+            return true;
+        }
+    }
+    false
 }
 
 /// Whether a word ends with one of these.
 fn ends_with_one(endings: &[&[u8]], word: &[u8]) -> bool
     ensures { result ≡ list_any (λ ending. ends_with ◌==◌ word.now ending.now) endings.now }
 {
-    endings.iter().any(|ending| word.ends_with(ending))
+    for ending in endings {
+        if word.ends_with(ending) {
+            return true;
+        }
+    }
+    false
 }
 
 /// Whether a word is one of these names.
 pub(crate) fn is_one(names: &[&[u8]], word: &[u8]) -> bool
     ensures { result ≡ list_any (λ name. bytes_eq name.now word.now) names.now }
 {
-    names.iter().any(|name| *name == word)
+    for name in names {
+        if *name == word {
+            return true;
+        }
+    }
+    false
 }
 
 /// Whether the word is the name of a service call or a statement that is left out.

@@ -3,7 +3,7 @@
 //!
 //! [`everything`] tells all of it, and [`about`] what there is to tell of one word: also of an answer, an attribute or another word of
 //! the texts. By contract there is something to tell of just the words that are a subject by `specs/Listing`, which goes by the readers' tables
-//! ([`subject_of`]); what a call does is what its row of the table `DEEDS` says; and a near name is a nearest one (`specs/Near`). Laws say that no
+//! ([`subject_of`]); what a call does is what its row of the tables in `deeds.rt` says; and a near name is a nearest one (`specs/Near`). Laws say that no
 //! fault, no call, no answer and no attribute is forgotten. The texts that are told are only tested, word for word.
 #![tactic(auto)]
 

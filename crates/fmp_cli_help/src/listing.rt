@@ -13,22 +13,23 @@ use crate::words::{is_word, put_word};
 use fmp_calls::find_call;
 use fmp_codes::Call;
 use fmp_config_statements::{ConfigKind, StatementName, find_statement};
+use fmp_out::Text;
 use fmp_text::TextKind;
 use std::alloc::{AllocError, Global};
 
 /// All service calls with their arguments, all statements with their fields, and all faults with their words: a line for each,
 /// under headings.
 pub fn everything(alloc: Global) -> Result<Vec<u8>, AllocError> {
-    let mut out = Vec::new(alloc);
-    out.extend_from_slice(b"Service calls:\n")?;
-    put_calls(&mut out)?;
-    out.extend_from_slice(b"\nStatements of a configuration:\n")?;
-    put_statements(&mut out)?;
-    out.extend_from_slice(b"\nFaults of a configuration:\n")?;
-    put_config_faults(&mut out)?;
-    out.extend_from_slice(b"\nFaults of events, scripts and traces:\n")?;
-    put_text_faults(&mut out)?;
-    Ok(out)
+    let mut out = Text::new(alloc);
+    out.put(b"Service calls:\n");
+    put_calls(&mut out);
+    out.put(b"\nStatements of a configuration:\n");
+    put_statements(&mut out);
+    out.put(b"\nFaults of a configuration:\n");
+    put_config_faults(&mut out);
+    out.put(b"\nFaults of events, scripts and traces:\n");
+    put_text_faults(&mut out);
+    out.finish()
 }
 
 /// What a word is of which there is something to tell.
@@ -84,14 +85,14 @@ pub fn subject_of(word: &[u8]) -> Option<Subject>
 }
 
 /// Adds that a service call or a statement is left out.
-pub fn put_left_out(out: &mut Vec<u8>, word: &[u8]) -> Result<(), AllocError> {
-    out.extend_from_slice(b"fmpsim has no ")?;
-    out.extend_from_slice(word)?;
-    out.extend_from_slice(b"\n")
+pub fn put_left_out(out: &mut Text, word: &[u8]) {
+    out.put(b"fmpsim has no ");
+    out.put(word);
+    out.put(b"\n");
 }
 
 /// Adds what is told of a word that is this.
-fn put_subject(out: &mut Vec<u8>, word: &[u8], subject: Subject) -> Result<(), AllocError> {
+fn put_subject(out: &mut Text, word: &[u8], subject: Subject) {
     match subject {
         Subject::Call(call) => put_about_call(out, call),
         Subject::Statement(name) => put_about_statement(out, name),
@@ -110,7 +111,7 @@ pub fn about(alloc: Global, word: &[u8]) -> Result<Option<Vec<u8>>, AllocError>
     let Some(subject) = subject_of(word) else {
         return Ok(None);
     };
-    let mut out = Vec::new(alloc);
-    put_subject(&mut out, word, subject)?;
-    Ok(Some(out))
+    let mut out = Text::new(alloc);
+    put_subject(&mut out, word, subject);
+    Ok(Some(out.finish()?))
 }

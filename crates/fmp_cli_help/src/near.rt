@@ -220,14 +220,16 @@ pub fn near_statement(alloc: Global, word: &[u8]) -> Result<Option<&'static [u8]
     nearest(alloc, word, None, &STATEMENT_NAMES)
 }
 
-/// The first code whose name begins with a word.
-fn find_code(word: &[u8]) -> Option<Code>
-    ensures { result ≡ find (λ code. starts_with ◌==◌ (codes.name_of code) word.now) codes.all_codes }
+/// The first of these codes whose name begins with a word.
+fn find_code(all: &[Code], word: &[u8]) -> Option<Code>
+    ensures { result ≡ find (λ code. starts_with ◌==◌ (codes.name_of code) word.now) all.now }
 {
-    Code::ALL
-        .iter()
-        .copied()
-        .find(|code| Code::name(*code).as_bytes().starts_with(word))
+    for code in all {
+        if Code::name(*code).as_bytes().starts_with(word) {
+            return Some(*code);
+        }
+    }
+    None
 }
 
 /// The first code whose name begins with a word of three bytes at least.
@@ -238,7 +240,7 @@ fn code_begun(word: &[u8]) -> Option<&'static [u8]>
     if word.len() < 3 {
         return None;
     }
-    match find_code(word) {
+    match find_code(&Code::ALL, word) {
         Some(code) => Some(Code::name(code).as_bytes()),
         None => None,
     }

@@ -1,9 +1,9 @@
 //! The words of traces, states and configurations that are no call, no statement and no fault, and what each means.
-ghost use Rattle.std.specs.Prelude.{◌≡◌};
+ghost use Rattle.std.specs.Prelude.{◌≡◌, is_some};
 ghost use Rattle.std.specs.List.{list_any};
 ghost use Rattle.std.specs.Str.{bytes_eq};
 
-use std::alloc::AllocError;
+use fmp_out::Text;
 
 /// Each word with what it means.
 pub const WORDS: [(&[u8], &[u8]); 56] = [
@@ -189,34 +189,38 @@ pub const WORDS: [(&[u8], &[u8]); 56] = [
     (b"TWF_ORW", b"A mode: one bit of the pattern has to be set."),
 ];
 
-/// Whether one of these rows has the word.
-fn has_row(rows: &[(&[u8], &[u8])], word: &[u8]) -> bool
-    ensures { result ≡ list_any (λ row. bytes_eq row.0.now word.now) rows.now }
+/// What the first of these rows tells that has the word.
+fn meaning_in<'a>(rows: &[(&[u8], &'a [u8])], word: &[u8]) -> Option<&'a [u8]>
+    ensures { is_some result ≡ list_any (λ row. bytes_eq row.0.now word.now) rows.now }
 {
-    rows.iter().any(|row| row.0 == word)
+    for row in rows {
+        if row.0 == word {
+            return Some(row.1);
+        }
+    }
+    None
+}
+
+/// What the word means, if that is known. The table is named here alone: a function that names it costs a check by all its bytes.
+fn meaning_of(word: &[u8]) -> Option<&'static [u8]>
+    ensures { is_some result ≡ list_any (λ row. bytes_eq row.0.now word.now) WORDS }
+{
+    meaning_in(&WORDS, word)
 }
 
 /// Whether it is known what the word means.
 pub(crate) fn is_word(word: &[u8]) -> bool
     ensures { result ≡ list_any (λ row. bytes_eq row.0.now word.now) WORDS }
 {
-    has_row(&WORDS, word)
-}
-
-/// What the first of these rows tells that has the word, or nothing.
-fn meaning_in<'a>(rows: &[(&[u8], &'a [u8])], word: &[u8]) -> &'a [u8] {
-    for row in rows {
-        if row.0 == word {
-            return row.1;
-        }
-    }
-    b""
+    meaning_of(word).is_some()
 }
 
 /// Adds a word and what it means, in two lines.
-pub(crate) fn put_word(out: &mut Vec<u8>, word: &[u8]) -> Result<(), AllocError> {
-    out.extend_from_slice(word)?;
-    out.extend_from_slice(b"\n  ")?;
-    out.extend_from_slice(meaning_in(&WORDS, word))?;
-    out.extend_from_slice(b"\n")
+pub(crate) fn put_word(out: &mut Text, word: &[u8]) {
+    out.put(word);
+    out.put(b"\n  ");
+    if let Some(meaning) = meaning_of(word) {
+        out.put(meaning);
+    }
+    out.put(b"\n");
 }

@@ -3,14 +3,11 @@ ghost use Rattle.std.specs.Prelude.{◌≡◌, ◌≤◌, length};
 ghost use Rattle.fmp_cli_hints.specs.Contexts as contexts;
 ghost use Rattle.fmp_cli_hints.specs.Places as spec;
 
-use crate::excerpt::put_excerpt;
-use crate::hints::put_hint;
 use crate::walk::{Walk, after_name, ending};
-use crate::wanted::{Wanted, put_wanted};
+use crate::wanted::Wanted;
 use fmp_bytes::{Class, all_of, skip, split_prefix};
 use fmp_calls::find_call;
 use fmp_text::{Names, is_skipped, processor_in, without_return};
-use std::alloc::{AllocError, Global};
 
 /// What happens on a processor.
 #[tactic(auto, unfolding(crate::specs::Places::happening))]
@@ -83,22 +80,4 @@ pub(crate) fn column_of(line: &[u8], walk: &Walk<'_>) -> usize
     ensures within { result ≤ length line.now }
 {
     line.len().saturating_sub(walk.rest().len())
-}
-
-/// What stands beside a line: the line, a caret under the place, and what is wanted there, if anything is, with what is told of the word
-/// that stands there.
-pub(crate) fn context_at(
-    alloc: Global,
-    names: &Names,
-    line: &[u8],
-    walk: &Walk<'_>,
-) -> Result<Option<Vec<u8>>, AllocError> {
-    let Some(wanted) = walk.wanted() else {
-        return Ok(None);
-    };
-    let mut out = Vec::new(alloc);
-    put_excerpt(&mut out, line, column_of(line, walk))?;
-    put_wanted(&mut out, names, wanted)?;
-    put_hint(alloc, &mut out, names, wanted, walk.rest())?;
-    Ok(Some(out))
 }

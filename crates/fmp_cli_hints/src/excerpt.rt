@@ -2,7 +2,7 @@
 ghost use Rattle.std.specs.Prelude.{◌≤◌, length};
 
 use fmp_bytes::Class;
-use std::alloc::AllocError;
+use fmp_out::Text;
 
 /// The most bytes of a line that are shown.
 const MOST_SHOWN: usize = 200;
@@ -22,19 +22,17 @@ fn shown_byte(byte: u8) -> u8 {
 }
 
 /// Adds bytes as they are shown.
-fn put_shown(out: &mut Vec<u8>, bytes: &[u8]) -> Result<(), AllocError> {
+fn put_shown(out: &mut Text, bytes: &[u8]) {
     for byte in bytes {
-        out.push(shown_byte(*byte))?;
+        out.put_byte(shown_byte(*byte));
     }
-    Ok(())
 }
 
 /// Adds so many blanks.
-fn put_blanks(out: &mut Vec<u8>, count: usize) -> Result<(), AllocError> {
+fn put_blanks(out: &mut Text, count: usize) {
     for _step in 0..count {
-        out.push(b' ')?;
+        out.put_byte(b' ');
     }
-    Ok(())
 }
 
 /// What stands before a line, whether or not its beginning is cut off.
@@ -74,27 +72,27 @@ fn end_of(length: usize, start: usize) -> usize
 }
 
 /// Adds a line as it is shown from its byte `start` on: at most 200 bytes, with `..` where some are cut off.
-pub fn put_line(out: &mut Vec<u8>, line: &[u8], start: usize) -> Result<(), AllocError>
+pub fn put_line(out: &mut Text, line: &[u8], start: usize)
     requires { start ≤ length line.now }
 {
     let end = end_of(line.len(), start);
-    out.extend_from_slice(margin(0 < start))?;
-    put_shown(out, &line[start..end])?;
-    out.extend_from_slice(tail(end < line.len()))
+    out.put(margin(0 < start));
+    put_shown(out, &line[start..end]);
+    out.put(tail(end < line.len()));
 }
 
 /// Adds the line of a caret, under the shown byte that has so many before it.
-fn put_caret(out: &mut Vec<u8>, count: usize) -> Result<(), AllocError> {
-    out.extend_from_slice(b"  ")?;
-    put_blanks(out, count)?;
-    out.extend_from_slice(b"^\n")
+fn put_caret(out: &mut Text, count: usize) {
+    out.put(b"  ");
+    put_blanks(out, count);
+    out.put(b"^\n");
 }
 
 /// Adds a line as it is shown, and a caret under the byte of this column, which counts from 0.
-pub fn put_excerpt(out: &mut Vec<u8>, line: &[u8], column: usize) -> Result<(), AllocError>
+pub fn put_excerpt(out: &mut Text, line: &[u8], column: usize)
     requires { column ≤ length line.now }
 {
     let start = start_of(line.len(), column);
-    put_line(out, line, start)?;
-    put_caret(out, column - start)
+    put_line(out, line, start);
+    put_caret(out, column - start);
 }

@@ -13,29 +13,28 @@ use fmp_bytes::{Class, spelled_number, split_prefix};
 use fmp_calls::find_call;
 use fmp_cli_help::{is_left_out, near_answer, near_call, nearer, put_left_out};
 use fmp_codes::{ArgumentKind, NameKind, ObjectKind};
+use fmp_out::Text;
 use fmp_text::{Names, is_name, value_at};
 use itoa::Buffer;
 use std::alloc::{AllocError, Global};
 
 /// Adds the name that may be meant, if there is one.
-pub fn put_near(out: &mut Vec<u8>, name: Option<&[u8]>) -> Result<(), AllocError> {
-    let Some(name) = name else {
-        return Ok(());
-    };
-    out.extend_from_slice(b"  near: ")?;
-    out.extend_from_slice(name)?;
-    out.extend_from_slice(b"\n")
+pub fn put_near(out: &mut Text, name: Option<&[u8]>) {
+    if let Some(name) = name {
+        out.put(b"  near: ");
+        out.put(name);
+        out.put(b"\n");
+    }
 }
 
 /// Adds that a call is left out, or the nearest one to a word that is none.
-fn put_call_hint(alloc: Global, out: &mut Vec<u8>, word: &[u8]) -> Result<(), AllocError> {
+fn put_call_hint(alloc: Global, out: &mut Text, word: &[u8]) -> Result<(), AllocError> {
     if is_left_out(word) {
-        out.extend_from_slice(b"  ")?;
-        return put_left_out(out, word);
-    }
-    if is_name(word) && find_call(word).is_none() {
-        out.extend_from_slice(report_of(&CALL_ROWS, word))?;
-        return put_near(out, near_call(alloc, word)?);
+        out.put(b"  ");
+        put_left_out(out, word);
+    } else if is_name(word) && find_call(word).is_none() {
+        out.put(report_of(&CALL_ROWS, word));
+        put_near(out, near_call(alloc, word)?);
     }
     Ok(())
 }
@@ -123,51 +122,42 @@ fn near_argument<'a>(
 }
 
 /// Adds that a number has no leading zero, where the word is one that has.
-fn put_zero_hint(out: &mut Vec<u8>, word: &[u8]) -> Result<(), AllocError> {
+fn put_zero_hint(out: &mut Text, word: &[u8]) {
     match spelled_number(word) {
         Some(number) if number.zero_led => {
-            out.extend_from_slice(b"  a number has no leading zero\n")
+            out.put(b"  a number has no leading zero\n");
         }
-        _ => Ok(()),
+        _ => {}
     }
 }
 
 /// What is told of a name that the configuration defines, after it.
-fn defined_words() -> &'static [u8] {
-    b" is a `#define` of the configuration, which is read there alone"
-}
+const DEFINED: &[u8] = b" is a `#define` of the configuration, which is read there alone";
 
 /// Adds the number to write in place of a name that stands for it, where that may stand there, and the end of the line.
-fn put_number_to_write(out: &mut Vec<u8>, fits: bool, digits: &[u8]) -> Result<(), AllocError> {
-    if !fits {
-        return out.extend_from_slice(b"\n");
+fn put_number_to_write(out: &mut Text, fits: bool, digits: &[u8]) {
+    if fits {
+        out.put(b": write ");
+        out.put(digits);
     }
-    out.extend_from_slice(b": write ")?;
-    out.extend_from_slice(digits)?;
-    out.extend_from_slice(b"\n")
+    out.put(b"\n");
 }
 
 /// Adds that a name in the place of an argument of this kind is one that the configuration defines to stand for a number.
-fn put_defined_hint(
-    out: &mut Vec<u8>,
-    names: &Names,
-    kind: ArgumentKind,
-    word: &[u8],
-    number: u32,
-) -> Result<(), AllocError> {
+fn put_defined_hint(out: &mut Text, names: &Names, kind: ArgumentKind, word: &[u8], number: u32) {
     let mut buffer = Buffer::new();
     let digits = buffer.format(number).as_bytes();
-    out.extend_from_slice(b"  ")?;
-    out.extend_from_slice(word)?;
-    out.extend_from_slice(defined_words())?;
-    put_number_to_write(out, value_at(names, kind, digits).is_ok(), digits)
+    out.put(b"  ");
+    out.put(word);
+    out.put(DEFINED);
+    put_number_to_write(out, value_at(names, kind, digits).is_ok(), digits);
 }
 
 /// Adds what is told of a name in the place of an argument of this kind: that the configuration defines it, or the nearest that may be
 /// meant.
 fn put_name_hint(
     alloc: Global,
-    out: &mut Vec<u8>,
+    out: &mut Text,
     names: &Names,
     kind: ArgumentKind,
     word: &[u8],
@@ -176,64 +166,65 @@ fn put_name_hint(
         Some(number) => put_defined_hint(out, names, kind, word, number),
         None => put_near(out, near_argument(alloc, names, kind, word)?),
     }
+    Ok(())
 }
 
 /// Adds what is told of a word in the place of an argument of this kind.
 fn put_argument_hint(
     alloc: Global,
-    out: &mut Vec<u8>,
+    out: &mut Text,
     names: &Names,
     kind: ArgumentKind,
     word: &[u8],
 ) -> Result<(), AllocError> {
     if is_name(word) {
-        put_name_hint(alloc, out, names, kind, word)
-    } else {
-        put_zero_hint(out, word)
+        return put_name_hint(alloc, out, names, kind, word);
     }
+    put_zero_hint(out, word);
+    Ok(())
 }
 
 /// What is told of an object in the place of a function, after its name.
-fn object_words() -> &'static [u8] {
-    b" is an object. A script is named by the function that stands in the object's statement.\n"
-}
+const OBJECT: &[u8] =
+    b" is an object. A script is named by the function that stands in the object's statement.\n";
 
 /// Adds that an object stands in the place of a function.
-fn put_function_hint(out: &mut Vec<u8>, names: &Names, word: &[u8]) -> Result<(), AllocError> {
-    if !names.contains_object(word) {
-        return Ok(());
+fn put_function_hint(out: &mut Text, names: &Names, word: &[u8]) {
+    if names.contains_object(word) {
+        out.put(b"  ");
+        out.put(word);
+        out.put(OBJECT);
     }
-    out.extend_from_slice(b"  ")?;
-    out.extend_from_slice(word)?;
-    out.extend_from_slice(object_words())
 }
 
 /// Adds the code that may be meant by a word, if one is near.
-fn put_code_hint(alloc: Global, out: &mut Vec<u8>, word: &[u8]) -> Result<(), AllocError> {
+fn put_code_hint(alloc: Global, out: &mut Text, word: &[u8]) -> Result<(), AllocError> {
     match near_answer(alloc, word)? {
         Some(name) if is_code(name) => put_near(out, Some(name)),
-        _ => Ok(()),
+        _ => {}
     }
+    Ok(())
 }
 
 /// Adds what is told of the word that begins the text at a place, where this is wanted.
 pub(crate) fn put_hint(
     alloc: Global,
-    out: &mut Vec<u8>,
+    out: &mut Text,
     names: &Names,
     wanted: Wanted,
     text: &[u8],
 ) -> Result<(), AllocError> {
     let (word, _rest) = split_prefix(Class::Word, text);
     match wanted {
-        Wanted::Happening | Wanted::Step => put_call_hint(alloc, out, word),
+        Wanted::Happening | Wanted::Step => put_call_hint(alloc, out, word)?,
         Wanted::Argument(_, kind) => {
             let (word, _rest) = split_prefix(Class::Argument, text);
-            put_argument_hint(alloc, out, names, kind, word)
+            put_argument_hint(alloc, out, names, kind, word)?;
         }
         Wanted::Function => put_function_hint(out, names, word),
-        Wanted::Answered => put_code_hint(alloc, out, word),
-        Wanted::LineByte | Wanted::PrintedByte => out.extend_from_slice(foreign_words(text)),
-        _ => Ok(()),
+        Wanted::Answered => put_code_hint(alloc, out, word)?,
+        Wanted::LineByte | Wanted::PrintedByte => out.put(foreign_words(text)),
+        _ => {}
     }
+    Ok(())
 }

@@ -7,7 +7,7 @@ use crate::hints::put_near;
 use crate::wanted::Wanted;
 use fmp_bytes::{Class, cut, following, skip, split_prefix};
 use fmp_cli_help::nearer;
-use itoa::Buffer;
+use fmp_out::Text;
 use std::alloc::{AllocError, Global};
 use std::marker::Model;
 
@@ -92,7 +92,12 @@ fn is_head(line: &[u8]) -> bool {
 
 /// Whether one of these labels has this name.
 fn has_label(labels: &[Name<'_>], name: &Name<'_>) -> bool {
-    labels.iter().any(|label| label.is_same(name))
+    for label in labels {
+        if label.is_same(name) {
+            return true;
+        }
+    }
+    false
 }
 
 /// The first of these jumps whose name no label has.
@@ -180,49 +185,32 @@ fn marks_before<'t>(alloc: Global, line: u32, text: &'t [u8]) -> Result<Marks<'t
     Ok(marks)
 }
 
-/// What stands after the number of a line that jumps.
-fn jumping_words() -> &'static [u8] {
-    b" jumps to `"
-}
-
 /// What stands after the name of a label that is not there.
-fn missing_words() -> &'static [u8] {
-    b"`, and the script has no such label\n"
-}
-
-/// Adds which line jumps.
-fn put_line_jumping(out: &mut Vec<u8>, line: u32) -> Result<(), AllocError> {
-    let mut buffer = Buffer::new();
-    out.extend_from_slice(b"  line ")?;
-    out.extend_from_slice(buffer.format(line).as_bytes())?;
-    out.extend_from_slice(jumping_words())
-}
+const MISSING: &[u8] = b"`, and the script has no such label\n";
 
 /// Adds that the line of this number jumps to a label that is not there.
-fn put_jump(out: &mut Vec<u8>, line: u32, name: &[u8]) -> Result<(), AllocError> {
-    put_line_jumping(out, line)?;
-    out.extend_from_slice(name)?;
-    out.extend_from_slice(missing_words())
+fn put_jump(out: &mut Text, line: u32, name: &[u8]) {
+    out.put(b"  line ");
+    out.put_number(u64::from(line));
+    out.put(b" jumps to `");
+    out.put(name);
+    out.put(MISSING);
 }
 
 /// Adds which of the jumps has no label, if one has none, and the label that may be meant.
-fn put_without_label(
-    alloc: Global,
-    out: &mut Vec<u8>,
-    marks: &Marks<'_>,
-) -> Result<(), AllocError> {
-    let Some(jump) = first_without(&marks.labels, &marks.jumps) else {
-        return Ok(());
-    };
-    let name = jump.name.text();
-    put_jump(out, jump.line, name)?;
-    put_near(out, near_label(alloc, name, &marks.labels)?)
+fn put_without_label(alloc: Global, out: &mut Text, marks: &Marks<'_>) -> Result<(), AllocError> {
+    if let Some(jump) = first_without(&marks.labels, &marks.jumps) {
+        let name = jump.name.text();
+        put_jump(out, jump.line, name);
+        put_near(out, near_label(alloc, name, &marks.labels)?);
+    }
+    Ok(())
 }
 
 /// Adds, where a label for each jump is wanted before the line of this number, which jump before it has none.
 pub(crate) fn put_label_hint(
     alloc: Global,
-    out: &mut Vec<u8>,
+    out: &mut Text,
     line: u32,
     text: &[u8],
     wanted: Option<Wanted>,

@@ -33,4 +33,4 @@ pub use rows::{foreign_words, report_of};
 pub use text::{TextForm, function_at, task_at, text_advice, text_context, text_spot};
 pub use things::near_thing;
 pub use walk::Walk;
-pub use wanted::{Wanted, label, put_mark, put_processors};
+pub use wanted::{LABEL, Wanted, put_mark, put_processors};

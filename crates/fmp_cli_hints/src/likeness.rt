@@ -8,8 +8,8 @@ use crate::text::TextForm;
 use fmp_bytes::{Class, are_digits, following, skip, split_prefix};
 use fmp_config_statements::{ConfigKind, find_statement};
 use fmp_names::is_processor_word;
+use fmp_out::Text;
 use fmp_text::TextKind;
-use std::alloc::AllocError;
 
 /// What a line looks like.
 #[derive(Clone, Copy)]
@@ -106,18 +106,13 @@ fn may_be_foreign(kind: TextKind) -> bool {
 }
 
 /// Adds what a line of a text with such a fault looks like, where it looks like one of another text.
-pub(crate) fn put_text_likeness(
-    out: &mut Vec<u8>,
-    form: TextForm,
-    kind: TextKind,
-    line: &[u8],
-) -> Result<(), AllocError> {
+pub(crate) fn put_text_likeness(out: &mut Text, form: TextForm, kind: TextKind, line: &[u8]) {
     if !may_be_foreign(kind) {
-        return Ok(());
+        return;
     }
     match looks_like(line) {
-        Some(found) if !is_own(form, found) => out.extend_from_slice(report(found)),
-        _ => Ok(()),
+        Some(found) if !is_own(form, found) => out.put(report(found)),
+        _ => {}
     }
 }
 
@@ -127,18 +122,12 @@ fn may_be_no_statement(kind: ConfigKind) -> bool {
 }
 
 /// Adds what a line of a configuration with such a fault looks like, where it looks like one of another text.
-pub fn put_config_likeness(
-    out: &mut Vec<u8>,
-    kind: ConfigKind,
-    line: &[u8],
-) -> Result<(), AllocError> {
+pub fn put_config_likeness(out: &mut Text, kind: ConfigKind, line: &[u8]) {
     if !may_be_no_statement(kind) {
-        return Ok(());
+        return;
     }
     match looks_like(line) {
-        Some(found) if !matches!(found, Likeness::Configuration) => {
-            out.extend_from_slice(report(found))
-        }
-        _ => Ok(()),
+        Some(found) if !matches!(found, Likeness::Configuration) => out.put(report(found)),
+        _ => {}
     }
 }

@@ -4,20 +4,22 @@ ghost use Rattle.std.specs.Option.{option_copied};
 ghost use Rattle.fmp_cli_hints.specs.declared.text.TextForm.TheVariants.{Events};
 ghost use Rattle.fmp_cli_hints.specs.Texts as spec;
 
-use crate::event::{column_of, context_at, event_place};
+use crate::event::{column_of, event_place};
 use crate::excerpt::put_excerpt;
+use crate::hints::put_hint;
 use crate::labels::put_label_hint;
 use crate::likeness::{put_text_likeness, without_mark};
 use crate::line::line_after;
 use crate::trace::{partial_place, trace_place};
 use crate::walk::{Walk, after_name, ending};
-use crate::wanted::Wanted;
+use crate::wanted::{Wanted, put_wanted};
 use crate::way::{barred_place, line_place, word_place};
 use fmp_bytes::{Class, all_of, is_identifier, skip, split_prefix};
 use fmp_calls::find_call;
 use fmp_cli_diagnostics::Spot;
 use fmp_cli_help::put_text_advice;
 use fmp_codes::{ArgumentKind, ObjectKind};
+use fmp_out::Text;
 use fmp_text::{Names, TextFault, TextKind, without_return};
 use std::alloc::{AllocError, Global};
 
@@ -107,31 +109,22 @@ fn place<'a>(
     }
 }
 
-/// The line with a caret, and what to do about such a fault.
-fn advised(
+/// Adds what is wanted at a place, with what is told of the word that stands there, or else what to do about such a fault.
+fn put_report(
     alloc: Global,
-    line: &[u8],
-    walk: &Walk<'_>,
-    kind: TextKind,
-) -> Result<Vec<u8>, AllocError> {
-    let mut out = Vec::new(alloc);
-    put_excerpt(&mut out, line, column_of(line, walk))?;
-    put_text_advice(&mut out, kind)?;
-    Ok(out)
-}
-
-/// The line with a caret, and what is wanted there, or else what to do about such a fault.
-fn report(
-    alloc: Global,
+    out: &mut Text,
     names: &Names,
-    line: &[u8],
     walk: &Walk<'_>,
     kind: TextKind,
-) -> Result<Vec<u8>, AllocError> {
-    match context_at(alloc, names, line, walk)? {
-        Some(text) => Ok(text),
-        None => advised(alloc, line, walk, kind),
+) -> Result<(), AllocError> {
+    match walk.wanted() {
+        Some(wanted) => {
+            put_wanted(alloc, out, names, wanted)?;
+            put_hint(alloc, out, names, wanted, walk.rest())?;
+        }
+        None => put_text_advice(out, kind),
     }
+    Ok(())
 }
 
 /// What is told of a line of a text with this fault, with what follows its line feed, if it has one.
@@ -145,18 +138,21 @@ fn report_line(
     after: Option<&[u8]>,
 ) -> Result<Vec<u8>, AllocError> {
     let whole = without_return(line);
+    let shown = without_mark(whole);
     let walk = place(alloc, names, form, whole, after, fault)?;
-    let mut out = report(alloc, names, without_mark(whole), &walk, fault.kind)?;
+    let mut out = Text::new(alloc);
+    put_excerpt(&mut out, shown, column_of(shown, &walk));
+    put_report(alloc, &mut out, names, &walk, fault.kind)?;
     put_label_hint(alloc, &mut out, fault.line, text, walk.wanted())?;
-    put_text_likeness(&mut out, form, fault.kind, line)?;
-    Ok(out)
+    put_text_likeness(&mut out, form, fault.kind, line);
+    out.finish()
 }
 
 /// What to do about a fault of events, scripts or a trace: what stands beside a fault whose line cannot be shown.
 pub fn text_advice(alloc: Global, kind: TextKind) -> Result<Vec<u8>, AllocError> {
-    let mut out = Vec::new(alloc);
-    put_text_advice(&mut out, kind)?;
-    Ok(out)
+    let mut out = Text::new(alloc);
+    put_text_advice(&mut out, kind);
+    out.finish()
 }
 
 /// What stands beside a fault of this text: the line, a caret under the first byte at fault, and what is wanted there or what to do

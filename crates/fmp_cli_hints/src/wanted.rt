@@ -2,10 +2,10 @@
 
 use fmp_cli_help::{put_argument, put_call};
 use fmp_codes::{ArgumentKind, Call, Event, Proc};
+use fmp_out::Text;
 use fmp_text::Names;
 use fmp_trace::put_event;
-use itoa::Buffer;
-use std::alloc::AllocError;
+use std::alloc::{AllocError, Global};
 
 /// What is wanted at a place of a line.
 #[derive(Clone, Copy)]
@@ -73,9 +73,7 @@ pub enum Wanted {
 }
 
 /// What stands before what is wanted.
-pub fn label() -> &'static [u8] {
-    b"  expected: "
-}
+pub const LABEL: &[u8] = b"  expected: ";
 
 /// What is wanted in a script where no call is.
 fn script_words(wanted: Wanted) -> &'static [u8] {
@@ -135,63 +133,76 @@ fn words(wanted: Wanted) -> &'static [u8] {
 }
 
 /// Adds that a processor of the machine is wanted.
-pub fn put_processors(out: &mut Vec<u8>, processors: u8) -> Result<(), AllocError> {
-    let mut buffer = Buffer::new();
-    out.extend_from_slice(b"a processor, P1 to P")?;
-    out.extend_from_slice(buffer.format(processors).as_bytes())?;
-    out.extend_from_slice(b"\n")
+pub fn put_processors(out: &mut Text, processors: u8) {
+    out.put(b"a processor, P1 to P");
+    out.put_number(u64::from(processors));
+    out.put(b"\n");
 }
 
 /// Adds that this number of the line is wanted.
-fn put_line_number(out: &mut Vec<u8>, number: u32) -> Result<(), AllocError> {
-    let mut buffer = Buffer::new();
-    out.extend_from_slice(b"the line's number, ")?;
-    out.extend_from_slice(buffer.format(number).as_bytes())?;
-    out.extend_from_slice(b"\n")
-}
-
-/// Adds that this call is wanted as it is printed.
-fn put_printed(out: &mut Vec<u8>, names: &Names, call: Call) -> Result<(), AllocError> {
-    put_event(out, names, Event::Call(Proc::new(1), call))?;
-    out.extend_from_slice(b"\n")
+fn put_line_number(out: &mut Text, number: u32) {
+    out.put(b"the line's number, ");
+    out.put_number(u64::from(number));
+    out.put(b"\n");
 }
 
 /// Adds that this byte is wanted at the place.
-pub fn put_mark(out: &mut Vec<u8>, byte: u8) -> Result<(), AllocError> {
-    out.extend_from_slice(b"  here: `")?;
-    out.push(byte)?;
-    out.extend_from_slice(b"`\n")
+pub fn put_mark(out: &mut Text, byte: u8) {
+    out.put(b"  here: `");
+    out.put_byte(byte);
+    out.put(b"`\n");
 }
 
 /// Adds that the end of the line is wanted at the place.
-fn put_end(out: &mut Vec<u8>) -> Result<(), AllocError> {
-    out.extend_from_slice(b"  here: the end of the line\n")
+fn put_end(out: &mut Text) {
+    out.put(b"  here: the end of the line\n");
 }
 
-/// Adds what is wanted, after its label.
-fn put_reported(out: &mut Vec<u8>, names: &Names, wanted: Wanted) -> Result<(), AllocError> {
+/// Adds what is wanted, but for a call as it is printed.
+fn put_reported(out: &mut Text, names: &Names, wanted: Wanted) {
     match wanted {
         Wanted::Processor => put_processors(out, names.processors()),
         Wanted::LineNumber(number) => put_line_number(out, number),
-        Wanted::Printed(call) => put_printed(out, names, call),
         Wanted::Mark(call, byte) => {
-            put_call(out, call)?;
-            put_mark(out, byte)
+            put_call(out, call);
+            put_mark(out, byte);
         }
         Wanted::Argument(call, kind) => {
-            put_call(out, call)?;
-            put_argument(out, kind)
+            put_call(out, call);
+            put_argument(out, kind);
         }
         Wanted::CallEnd(call) => {
-            put_call(out, call)?;
-            put_end(out)
+            put_call(out, call);
+            put_end(out);
         }
-        _ => out.extend_from_slice(words(wanted)),
+        _ => out.put(words(wanted)),
     }
 }
 
+/// Adds the call that is wanted as it is printed, if one is.
+fn put_printed(
+    alloc: Global,
+    out: &mut Text,
+    names: &Names,
+    wanted: Wanted,
+) -> Result<(), AllocError> {
+    if let Wanted::Printed(call) = wanted {
+        let mut printed = Vec::new(alloc);
+        put_event(&mut printed, names, Event::Call(Proc::new(1), call))?;
+        out.put(printed.as_slice());
+        out.put(b"\n");
+    }
+    Ok(())
+}
+
 /// Adds what is wanted, on the machine of these names.
-pub fn put_wanted(out: &mut Vec<u8>, names: &Names, wanted: Wanted) -> Result<(), AllocError> {
-    out.extend_from_slice(label())?;
-    put_reported(out, names, wanted)
+pub(crate) fn put_wanted(
+    alloc: Global,
+    out: &mut Text,
+    names: &Names,
+    wanted: Wanted,
+) -> Result<(), AllocError> {
+    out.put(LABEL);
+    put_reported(out, names, wanted);
+    put_printed(alloc, out, names, wanted)
 }

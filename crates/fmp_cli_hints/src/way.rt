@@ -32,7 +32,12 @@ fn is_taken(word: &[u8]) -> bool {
 
 /// Whether a word is the name of a code.
 pub(crate) fn is_code(word: &[u8]) -> bool {
-    Code::ALL.iter().any(|code| code.name().as_bytes() == word)
+    for code in &Code::ALL {
+        if code.name().as_bytes() == word {
+            return true;
+        }
+    }
+    false
 }
 
 /// From a byte on that stands in no line of a script text: one of those with which C programs set variables and put statements together, or another.

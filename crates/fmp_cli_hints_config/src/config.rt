@@ -10,9 +10,10 @@ use crate::statements::statement_at;
 use fmp_bytes::cut;
 use fmp_cli_diagnostics::Spot;
 use fmp_cli_help::{put_config_advice, put_statement};
-use fmp_cli_hints::{label, line_after, put_config_likeness, put_excerpt, put_mark};
+use fmp_cli_hints::{LABEL, line_after, put_config_likeness, put_excerpt, put_mark};
 use fmp_config::{ConfigFault, ConfigKind};
 use fmp_config_statements::StatementName;
+use fmp_out::Text;
 use std::alloc::{AllocError, Global};
 
 /// How many bytes follow the last line feed.
@@ -31,12 +32,12 @@ fn column_after(bytes: &[u8]) -> usize
 }
 
 /// Adds the line of a place, and a caret under it.
-fn put_placed(out: &mut Vec<u8>, text: &[u8], place: usize) -> Result<(), AllocError>
+fn put_placed(out: &mut Text, text: &[u8], place: usize)
     requires { place ≤ length text.now }
 {
     let column = column_after(&text[..place]);
     let (line, _after) = cut(b'\n', &text[place - column..]);
-    put_excerpt(out, line, column.min(line.len()))
+    put_excerpt(out, line, column.min(line.len()));
 }
 
 /// The place from which on so many bytes are left.
@@ -62,13 +63,10 @@ fn wants_form(kind: ConfigKind) -> bool {
 }
 
 /// Adds the form of a statement, after its label, if there is one.
-fn put_form(out: &mut Vec<u8>, name: Option<StatementName>) -> Result<(), AllocError> {
-    match name {
-        None => Ok(()),
-        Some(name) => {
-            out.extend_from_slice(label())?;
-            put_statement(out, name)
-        }
+fn put_form(out: &mut Text, name: Option<StatementName>) {
+    if let Some(name) = name {
+        out.put(LABEL);
+        put_statement(out, name);
     }
 }
 
@@ -81,52 +79,35 @@ fn is_formed(text: &[u8], place: usize, word: &[u8]) -> bool
 }
 
 /// Adds the form of the statement at the place of a fault, if the fault is told with it.
-fn put_form_at(
-    out: &mut Vec<u8>,
-    text: &[u8],
-    place: usize,
-    fault: &ConfigFault,
-) -> Result<(), AllocError>
+fn put_form_at(out: &mut Text, text: &[u8], place: usize, fault: &ConfigFault)
     requires within { place ≤ length text.now }
     requires few { length text.now ≤ most_bytes }
 {
     if wants_form(fault.kind) && !is_formed(text, place, fault.word.as_bytes()) {
-        put_form(out, statement_at(text, place, fault.word.as_bytes()))
-    } else {
-        Ok(())
+        put_form(out, statement_at(text, place, fault.word.as_bytes()));
     }
 }
 
 /// Adds the line in which a byte is missing after what stands before a place, a caret there, and the form of its statement.
-fn put_missed(
-    out: &mut Vec<u8>,
-    text: &[u8],
-    place: usize,
-    missing: (StatementName, u8),
-) -> Result<(), AllocError>
+fn put_missed(out: &mut Text, text: &[u8], place: usize, missing: (StatementName, u8))
     requires { place ≤ length text.now }
 {
     let (name, _byte) = missing;
-    put_placed(out, text, end_of_text(&text[..place]))?;
-    put_form(out, Some(name))
+    put_placed(out, text, end_of_text(&text[..place]));
+    put_form(out, Some(name));
 }
 
 /// Adds the line of the token at a place, a caret under it, and the form of its statement.
-fn put_refused(
-    out: &mut Vec<u8>,
-    text: &[u8],
-    place: usize,
-    fault: &ConfigFault,
-) -> Result<(), AllocError>
+fn put_refused(out: &mut Text, text: &[u8], place: usize, fault: &ConfigFault)
     requires within { place ≤ length text.now }
     requires few { length text.now ≤ most_bytes }
 {
-    put_placed(out, text, place)?;
-    put_form_at(out, text, place, fault)
+    put_placed(out, text, place);
+    put_form_at(out, text, place, fault);
 }
 
 /// Adds the line of a fault, with a caret where a token is at fault, or where one is missing.
-fn put_fault(out: &mut Vec<u8>, text: &[u8], fault: &ConfigFault) -> Result<(), AllocError>
+fn put_fault(out: &mut Text, text: &[u8], fault: &ConfigFault)
     requires { length text.now ≤ most_bytes }
 {
     let Some(place) = place_of(text, fault.left) else {
@@ -141,56 +122,48 @@ fn put_fault(out: &mut Vec<u8>, text: &[u8], fault: &ConfigFault) -> Result<(), 
 /// Adds what is told of the token at fault, of what is missing there, or of a character that no token has.
 fn put_reported(
     alloc: Global,
-    out: &mut Vec<u8>,
+    out: &mut Text,
     text: &[u8],
     fault: &ConfigFault,
 ) -> Result<(), AllocError>
     requires { length text.now ≤ most_bytes }
 {
     let Some(place) = place_of(text, fault.left) else {
-        return out.extend_from_slice(words_at(text, fault.line));
+        out.put(words_at(text, fault.line));
+        return Ok(());
     };
     match missing_at(text, place, fault.kind) {
         Some((_name, byte)) => put_mark(out, byte),
-        None => put_word_hint(alloc, out, text, place, fault),
+        None => put_word_hint(alloc, out, text, place, fault)?,
     }
+    Ok(())
 }
 
 /// What is told of the token at fault.
 fn report(alloc: Global, text: &[u8], fault: &ConfigFault) -> Result<Vec<u8>, AllocError>
     requires { length text.now ≤ most_bytes }
 {
-    let mut out = Vec::new(alloc);
+    let mut out = Text::new(alloc);
     put_reported(alloc, &mut out, text, fault)?;
-    Ok(out)
+    out.finish()
 }
 
 /// Adds what is told of the token at fault, or else what to do about such a fault.
-fn put_reported_or_advice(
-    out: &mut Vec<u8>,
-    report: &[u8],
-    kind: ConfigKind,
-) -> Result<(), AllocError> {
+fn put_reported_or_advice(out: &mut Text, report: &[u8], kind: ConfigKind) {
     if report.is_empty() {
-        put_config_advice(out, kind)
+        put_config_advice(out, kind);
     } else {
-        out.extend_from_slice(report)
+        out.put(report);
     }
 }
 
 /// Adds what the line of this number looks like, where it has such a fault.
-fn put_likeness_at(
-    out: &mut Vec<u8>,
-    text: &[u8],
-    line: u32,
-    kind: ConfigKind,
-) -> Result<(), AllocError> {
+fn put_likeness_at(out: &mut Text, text: &[u8], line: u32, kind: ConfigKind) {
     if line == 0 {
-        return Ok(());
+        return;
     }
-    match line_after(line - 1, text) {
-        Some((line, _after)) => put_config_likeness(out, kind, line),
-        None => Ok(()),
+    if let Some((line, _after)) = line_after(line - 1, text) {
+        put_config_likeness(out, kind, line);
     }
 }
 
@@ -204,13 +177,13 @@ pub fn config_context(
 ) -> Result<Vec<u8>, AllocError>
     requires { length text.now ≤ most_bytes }
 {
-    let mut out = Vec::new(alloc);
-    put_fault(&mut out, text, fault)?;
     let report = report(alloc, text, fault)?;
-    put_reported_or_advice(&mut out, report.as_slice(), fault.kind)?;
-    put_likeness_at(&mut out, text, fault.line, fault.kind)?;
-    put_project_line(&mut out, text, fault)?;
-    Ok(out)
+    let mut out = Text::new(alloc);
+    put_fault(&mut out, text, fault);
+    put_reported_or_advice(&mut out, report.as_slice(), fault.kind);
+    put_likeness_at(&mut out, text, fault.line, fault.kind);
+    put_project_line(&mut out, text, fault);
+    out.finish()
 }
 
 /// How many line feeds there are.

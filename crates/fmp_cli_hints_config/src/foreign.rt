@@ -4,7 +4,7 @@ ghost use Rattle.std.specs.Prelude.{◌<◌, length, IfSome};
 use fmp_bytes::Class;
 use fmp_cli_diagnostics::Spot;
 use fmp_cli_hints::{foreign_words, line_after, put_excerpt, put_line, without_mark};
-use std::alloc::AllocError;
+use fmp_out::Text;
 
 /// Whether a byte is printed ASCII or a tab, and neither a quotation mark nor a slash, after which a string or a comment may begin.
 fn is_plain(byte: u8) -> bool {
@@ -15,7 +15,12 @@ fn is_plain(byte: u8) -> bool {
 fn unplain(line: &[u8]) -> Option<usize>
     ensures { IfSome result (λ i. i < length line.now) }
 {
-    line.iter().position(|byte| !is_plain(*byte))
+    for (index, byte) in line.iter().enumerate() {
+        if !is_plain(*byte) {
+            return Some(index);
+        }
+    }
+    None
 }
 
 /// The column of the first byte of a line that is not ASCII, where no string and no comment can have begun before it.
@@ -39,7 +44,7 @@ fn line_at(text: &[u8], line: u32) -> Option<&[u8]> {
 }
 
 /// Adds a line, with a caret under the first byte that is not ASCII, if it has one.
-fn put_shown(out: &mut Vec<u8>, line: &[u8]) -> Result<(), AllocError> {
+fn put_shown(out: &mut Text, line: &[u8]) {
     match foreign_column(line) {
         Some(column) => put_excerpt(out, line, column),
         None => put_line(out, line, 0),
@@ -47,10 +52,9 @@ fn put_shown(out: &mut Vec<u8>, line: &[u8]) -> Result<(), AllocError> {
 }
 
 /// Adds the line of this number from 1, if there is one, with a caret under the first byte that is not ASCII, if it has one.
-pub(crate) fn put_numbered(out: &mut Vec<u8>, text: &[u8], line: u32) -> Result<(), AllocError> {
-    match line_at(text, line) {
-        Some(line) => put_shown(out, line),
-        None => Ok(()),
+pub(crate) fn put_numbered(out: &mut Text, text: &[u8], line: u32) {
+    if let Some(line) = line_at(text, line) {
+        put_shown(out, line);
     }
 }
 

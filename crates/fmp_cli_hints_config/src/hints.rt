@@ -12,34 +12,41 @@ use fmp_cli_help::{is_left_out, near_attribute, near_statement, put_left_out, st
 use fmp_cli_hints::put_near;
 use fmp_config::{ConfigFault, ConfigKind};
 use fmp_config_statements::{Item, StatementName};
+use fmp_out::Text;
 use std::alloc::{AllocError, Global};
 
 /// Adds the nearest attribute of a statement to a name that is none of its attributes.
 fn put_attribute_hint(
     alloc: Global,
-    out: &mut Vec<u8>,
+    out: &mut Text,
     statement: Option<StatementName>,
     word: &[u8],
 ) -> Result<(), AllocError> {
-    match statement {
-        Some(StatementName::Create(kind)) => put_near(out, near_attribute(alloc, kind, word)?),
-        _ => Ok(()),
+    if let Some(StatementName::Create(kind)) = statement {
+        put_near(out, near_attribute(alloc, kind, word)?);
     }
+    Ok(())
 }
 
+/// What is told of a directive.
+const DIRECTIVE: &[u8] =
+    b"  Let the C preprocessor do its part before: `cpp -P`, or `tools/from-toppers`.\n";
+
+/// What is to be done about a statement that is left out.
+const LEFT_OUT: &[u8] = b"  Leave the statement out, as `tools/from-toppers` does.\n";
+
 /// Adds that a name is left out, or the nearest statement to it, or what is to be done about a directive.
-fn put_statement_hint(alloc: Global, out: &mut Vec<u8>, word: &[u8]) -> Result<(), AllocError> {
+fn put_statement_hint(alloc: Global, out: &mut Text, word: &[u8]) -> Result<(), AllocError> {
     if following(b'#', word).is_some() {
-        return out.extend_from_slice(
-            b"  Let the C preprocessor do its part before: `cpp -P`, or `tools/from-toppers`.\n",
-        );
+        out.put(DIRECTIVE);
+    } else if is_left_out(word) {
+        out.put(b"  ");
+        put_left_out(out, word);
+        out.put(LEFT_OUT);
+    } else {
+        put_near(out, near_statement(alloc, word)?);
     }
-    if is_left_out(word) {
-        out.extend_from_slice(b"  ")?;
-        put_left_out(out, word)?;
-        return out.extend_from_slice(b"  Leave the statement out, as `tools/from-toppers` does.\n");
-    }
-    put_near(out, near_statement(alloc, word)?)
+    Ok(())
 }
 
 /// What may be written for a word of a statement.
@@ -53,46 +60,41 @@ fn written(item: Item) -> &'static [u8] {
 }
 
 /// Adds which word has to stand in the place of a token that does not fit, where it has to be a word.
-fn put_item(out: &mut Vec<u8>, item: Option<(StatementName, Item)>) -> Result<(), AllocError> {
-    let Some((name, item)) = item else {
-        return Ok(());
-    };
-    out.extend_from_slice(b"  here: ")?;
-    out.extend_from_slice(statement_word(name, item))?;
-    out.extend_from_slice(written(item))
+fn put_item(out: &mut Text, item: Option<(StatementName, Item)>) {
+    if let Some((name, item)) = item {
+        out.put(b"  here: ");
+        out.put(statement_word(name, item));
+        out.put(written(item));
+    }
 }
 
+/// What is told of a `;` or a `}` where nothing is open.
+const STRAY: &[u8] =
+    b"  No `;` and no `}` stands here: a class ends with one `}`, and each statement with one `;`.\n";
+
 /// What is told of a statement that may not stand where it does.
-fn place_words() -> &'static [u8] {
-    b"  Not here: `TIMER` and `LIMITS` stand before the first class, `DEF_CLASS` and `CLASS` outside of classes. A `}` ends a class.\n"
-}
+const MISPLACED: &[u8] =
+    b"  Not here: `TIMER` and `LIMITS` stand before the first class, `DEF_CLASS` and `CLASS` outside of classes. A `}` ends a class.\n";
 
 /// Adds what is told of a token that does not fit: that a `;` or a `}` stands where nothing is open, that a statement stands at the
 /// wrong place, or which word has to stand there.
-fn put_syntax_hint(
-    out: &mut Vec<u8>,
-    text: &[u8],
-    place: usize,
-    word: &[u8],
-) -> Result<(), AllocError>
+fn put_syntax_hint(out: &mut Text, text: &[u8], place: usize, word: &[u8])
     requires within { place ≤ length text.now }
     requires few { length text.now ≤ most_bytes }
 {
     if is_stray(text, place) {
-        return out.extend_from_slice(
-            b"  No `;` and no `}` stands here: a class ends with one `}`, and each statement with one `;`.\n",
-        );
+        out.put(STRAY);
+    } else if is_misplaced(text, place, word) {
+        out.put(MISPLACED);
+    } else {
+        put_item(out, item_in(&text[..place]));
     }
-    if is_misplaced(text, place, word) {
-        return out.extend_from_slice(place_words());
-    }
-    put_item(out, item_in(&text[..place]))
 }
 
 /// Adds what is told of the word at a place, with this fault.
 pub(crate) fn put_word_hint(
     alloc: Global,
-    out: &mut Vec<u8>,
+    out: &mut Text,
     text: &[u8],
     place: usize,
     fault: &ConfigFault,
@@ -105,11 +107,12 @@ pub(crate) fn put_word_hint(
         ConfigKind::Syntax => put_syntax_hint(out, text, place, word),
         ConfigKind::NameTaken => put_taken_hint(out, &text[..place], word),
         ConfigKind::BadAttribute => {
-            put_attribute_hint(alloc, out, statement_at(text, place, word), word)
+            put_attribute_hint(alloc, out, statement_at(text, place, word), word)?;
         }
-        ConfigKind::Unsupported => put_statement_hint(alloc, out, word),
+        ConfigKind::Unsupported => put_statement_hint(alloc, out, word)?,
         ConfigKind::UnknownClass => put_near(out, near_class(alloc, &text[..place], word)?),
         ConfigKind::OutOfRange => put_number_hint(out, text, place),
-        _ => Ok(()),
+        _ => {}
     }
+    Ok(())
 }

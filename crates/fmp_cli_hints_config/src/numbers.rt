@@ -5,8 +5,7 @@ ghost use Rattle.fmp_config.specs.Limits.{most_bytes};
 use fmp_bytes::{Class, is_identifier, split_prefix};
 use fmp_config_statements::numeral;
 use fmp_config_tokens::{Lexer, Token, TokenKind};
-use itoa::Buffer;
-use std::alloc::AllocError;
+use fmp_out::Text;
 
 /// How much of `#define` stands right before a token.
 #[derive(Clone, Copy)]
@@ -58,53 +57,45 @@ pub(crate) fn defined_line(text: &[u8], word: &[u8]) -> Option<u32>
 }
 
 /// What is told of a name that has a `#define`, after the number of its line.
-fn defined_words() -> &'static [u8] {
-    b": the name stands for a number where that is all that follows it, in digits or after 0x: no sign, parentheses, suffix or sum.\n"
-}
+const DEFINED: &[u8] =
+    b": the name stands for a number where that is all that follows it, in digits or after 0x: no sign, parentheses, suffix or sum.\n";
+
+/// What is told of a name that has none.
+const UNDEFINED: &[u8] =
+    b"  No `#define` of this text gives the name a number. Files that `#include` and `INCLUDE` name are not read.\n";
+
+/// What is told of digits that are no number.
+const DIGITS: &[u8] =
+    b"  A number is written in digits, without a leading zero, or after 0x, and has no suffix.\n";
 
 /// Adds what is told of a name, with the line of its `#define` if it has one.
-fn put_name(out: &mut Vec<u8>, line: Option<u32>) -> Result<(), AllocError> {
-    let Some(line) = line else {
-        return out.extend_from_slice(
-            b"  No `#define` of this text gives the name a number. Files that `#include` and `INCLUDE` name are not read.\n",
-        );
-    };
-    let mut buffer = Buffer::new();
-    out.extend_from_slice(b"  `#define` in line ")?;
-    out.extend_from_slice(buffer.format(line).as_bytes())?;
-    out.extend_from_slice(defined_words())
-}
-
-/// Adds what is told of digits, where they are no number.
-fn put_digits(out: &mut Vec<u8>, is_number: bool) -> Result<(), AllocError> {
-    if is_number {
-        return Ok(());
+fn put_name(out: &mut Text, line: Option<u32>) {
+    match line {
+        None => out.put(UNDEFINED),
+        Some(line) => {
+            out.put(b"  `#define` in line ");
+            out.put_number(u64::from(line));
+            out.put(DEFINED);
+        }
     }
-    out.extend_from_slice(
-        b"  A number is written in digits, without a leading zero, or after 0x, and has no suffix.\n",
-    )
 }
 
 /// Adds what is told of a word where a number has to stand.
-fn put_word(out: &mut Vec<u8>, text: &[u8], word: &[u8]) -> Result<(), AllocError>
+fn put_word(out: &mut Text, text: &[u8], word: &[u8])
     requires { length text.now + 1 < 2 ^ 32 }
 {
     if is_identifier(word) {
-        put_name(out, defined_line(text, word))
-    } else {
-        put_digits(out, numeral(word).is_some())
+        put_name(out, defined_line(text, word));
+    } else if numeral(word).is_none() {
+        out.put(DIGITS);
     }
 }
 
 /// Adds what is told of the word at a place of a configuration, where it is no number that may stand there.
-pub(crate) fn put_number_hint(
-    out: &mut Vec<u8>,
-    text: &[u8],
-    place: usize,
-) -> Result<(), AllocError>
+pub(crate) fn put_number_hint(out: &mut Text, text: &[u8], place: usize)
     requires within { place ≤ length text.now }
     requires few { length text.now ≤ most_bytes }
 {
     let (word, _rest) = split_prefix(Class::Word, &text[place..]);
-    put_word(out, text, word)
+    put_word(out, text, word);
 }

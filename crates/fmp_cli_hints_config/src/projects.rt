@@ -6,7 +6,7 @@ use fmp_bytes::following;
 use fmp_cli_help::{is_class_word, is_project_word};
 use fmp_config::{ConfigFault, ConfigKind};
 use fmp_config_tokens::Lexer;
-use std::alloc::AllocError;
+use fmp_out::Text;
 
 /// Where a text is from, as far as its words say.
 #[derive(Clone, Copy)]
@@ -57,21 +57,18 @@ fn may_be_of_project(kind: ConfigKind) -> bool {
     )
 }
 
+/// What is told of a text that looks like a file of a project.
+const PROJECT: &[u8] =
+    b"  This looks like a file of a TOPPERS project: `tools/from-toppers` makes a configuration of it.\n";
+
 /// Adds that a text with this fault looks like a file of a project, where it does, unless the fault is a directive, of which that is told.
-pub(crate) fn put_project_line(
-    out: &mut Vec<u8>,
-    text: &[u8],
-    fault: &ConfigFault,
-) -> Result<(), AllocError>
+pub(crate) fn put_project_line(out: &mut Text, text: &[u8], fault: &ConfigFault)
     requires { length text.now ≤ most_bytes }
 {
     if !may_be_of_project(fault.kind) || following(b'#', fault.word.as_bytes()).is_some() {
-        return Ok(());
+        return;
     }
-    match origin_of(text) {
-        Origin::Classes | Origin::Project => out.extend_from_slice(
-            b"  This looks like a file of a TOPPERS project: `tools/from-toppers` makes a configuration of it.\n",
-        ),
-        Origin::Unknown | Origin::Own => Ok(()),
+    if matches!(origin_of(text), Origin::Classes | Origin::Project) {
+        out.put(PROJECT);
     }
 }

@@ -8,6 +8,7 @@ use crate::rows::QUESTION_ROWS;
 use fmp_cli_help::{near_answer, nearer};
 use fmp_cli_hints::{near_thing, put_near, put_processors, report_of};
 use fmp_names::is_processor_word;
+use fmp_out::Text;
 use fmp_search_words::{TRACE_WORDS, begins_with_digit, cut_run, has_star};
 use fmp_text::{Names, processor_in};
 use std::alloc::{AllocError, Global};
@@ -51,67 +52,66 @@ fn is_settled(names: &Names, run: &[u8]) -> bool {
 }
 
 /// What is told of a function, after its name.
-fn function_words() -> &'static [u8] {
-    b" is a function. In a line stands the name of the task or the handler.\n"
-}
+const FUNCTION: &[u8] = b" is a function. In a line stands the name of the task or the handler.\n";
 
 /// Adds the name that is near to a run, unless it is the run itself.
-fn put_other(out: &mut Vec<u8>, run: &[u8], found: Option<&[u8]>) -> Result<(), AllocError> {
+fn put_other(out: &mut Text, run: &[u8], found: Option<&[u8]>) {
     match found {
         Some(name) if name != run => put_near(out, found),
-        _ => Ok(()),
+        _ => {}
     }
 }
 
 /// Adds what is told of a name that stands in no line.
 fn put_name_hint(
     alloc: Global,
-    out: &mut Vec<u8>,
+    out: &mut Text,
     names: &Names,
     run: &[u8],
 ) -> Result<(), AllocError> {
     if names.contains_function(run) {
-        out.extend_from_slice(b"  ")?;
-        out.extend_from_slice(run)?;
-        return out.extend_from_slice(function_words());
+        out.put(b"  ");
+        out.put(run);
+        out.put(FUNCTION);
+    } else {
+        put_other(out, run, near_known(alloc, names, run)?);
     }
-    put_other(out, run, near_known(alloc, names, run)?)
+    Ok(())
 }
 
 /// Adds which processors there are, where a run is none of them.
-fn put_processor_hint(out: &mut Vec<u8>, names: &Names, run: &[u8]) -> Result<(), AllocError> {
-    if processor_in(names, run).is_ok() {
-        return Ok(());
+fn put_processor_hint(out: &mut Text, names: &Names, run: &[u8]) {
+    if processor_in(names, run).is_err() {
+        out.put(b"  here: ");
+        put_processors(out, names.processors());
     }
-    out.extend_from_slice(b"  here: ")?;
-    put_processors(out, names.processors())
 }
 
 /// Adds what is told of letters, digits, `_` and stars in a row.
 fn put_run_hint(
     alloc: Global,
-    out: &mut Vec<u8>,
+    out: &mut Text,
     names: &Names,
     run: &[u8],
 ) -> Result<(), AllocError> {
     if is_settled(names, run) {
         return Ok(());
     }
-    if is_processor_word(run) {
-        return put_processor_hint(out, names, run);
-    }
     let row = report_of(&QUESTION_ROWS, run);
-    if row.is_empty() {
-        put_name_hint(alloc, out, names, run)
+    if is_processor_word(run) {
+        put_processor_hint(out, names, run);
+    } else if row.is_empty() {
+        put_name_hint(alloc, out, names, run)?;
     } else {
-        out.extend_from_slice(row)
+        out.put(row);
     }
+    Ok(())
 }
 
 /// Adds what is told of each run of letters, digits, `_` and stars of a word.
 pub(crate) fn put_run_hints(
     alloc: Global,
-    out: &mut Vec<u8>,
+    out: &mut Text,
     names: &Names,
     word: &[u8],
 ) -> Result<(), AllocError> {

@@ -5,34 +5,27 @@ use fmp_bytes::{cut, following};
 use fmp_calls::{find_call, form};
 use fmp_cli_hints::report_of;
 use fmp_codes::ArgumentKind;
-use std::alloc::AllocError;
+use fmp_out::Text;
 
 /// Adds what is told of the name of a call without its arguments.
-fn put_call_words(out: &mut Vec<u8>, word: &[u8]) -> Result<(), AllocError> {
-    out.extend_from_slice(b"  A call has its arguments after it: write `")?;
-    out.extend_from_slice(word)?;
-    out.extend_from_slice(b"(*)`.\n")
+fn put_call_words(out: &mut Text, word: &[u8]) {
+    out.put(b"  A call has its arguments after it: write `");
+    out.put(word);
+    out.put(b"(*)`.\n");
 }
 
 /// What is told of a word with a comma before other bytes.
-fn comma_words() -> &'static [u8] {
-    b"  A blank stands after each comma, as in `snd_dtq(D1, 1)`.\n"
-}
+const COMMA: &[u8] = b"  A blank stands after each comma, as in `snd_dtq(D1, 1)`.\n";
 
 /// What is told of any word.
-fn star_words() -> &'static [u8] {
-    b"  `*` stands for the words between, as in `P1 * tick taken`.\n"
-}
+const STAR: &[u8] = b"  `*` stands for the words between, as in `P1 * tick taken`.\n";
 
 /// What is told of a word that begins with a bracket.
-fn bracket_words() -> &'static [u8] {
-    b"  A question has no brackets: `&` binds closer than `or`.\n"
-}
+const BRACKET: &[u8] = b"  A question has no brackets: `&` binds closer than `or`.\n";
 
 /// What is told of a release without its code.
-fn release_words() -> &'static [u8] {
-    b"  The code stands after the task: write `rel=T1:E_OK`, or `rel=T1:*` for any.\n"
-}
+const RELEASE: &[u8] =
+    b"  The code stands after the task: write `rel=T1:E_OK`, or `rel=T1:*` for any.\n";
 
 /// Whether a word is a release without its code.
 fn is_bare_release(word: &[u8]) -> bool {
@@ -40,9 +33,8 @@ fn is_bare_release(word: &[u8]) -> bool {
 }
 
 /// What is told of a call that has a number for an object.
-fn number_words() -> &'static [u8] {
-    b"  A line has the name of an object in place of its number, and `TSK_SELF` for the caller.\n"
-}
+const NUMBER: &[u8] =
+    b"  A line has the name of an object in place of its number, and `TSK_SELF` for the caller.\n";
 
 /// Whether the first argument of a call is an object.
 fn takes_object(kinds: &[ArgumentKind]) -> bool {
@@ -72,13 +64,13 @@ fn is_numbered(word: &[u8]) -> bool {
 /// What is told of a word that is no call and has no comma.
 fn other_hint(word: &[u8]) -> &'static [u8] {
     if following(b'(', word).is_some() {
-        bracket_words()
+        BRACKET
     } else if is_bare_release(word) {
-        release_words()
+        RELEASE
     } else if is_numbered(word) {
-        number_words()
+        NUMBER
     } else {
-        star_words()
+        STAR
     }
 }
 
@@ -91,25 +83,25 @@ fn is_joined(word: &[u8]) -> bool {
 }
 
 /// Adds what the form of a word tells.
-fn put_form_hint(out: &mut Vec<u8>, word: &[u8]) -> Result<(), AllocError> {
+fn put_form_hint(out: &mut Text, word: &[u8]) {
     if find_call(word).is_some() {
-        put_call_words(out, word)
+        put_call_words(out, word);
     } else if is_joined(word) {
-        out.extend_from_slice(comma_words())
+        out.put(COMMA);
     } else {
-        out.extend_from_slice(other_hint(word))
+        out.put(other_hint(word));
     }
 }
 
 /// Adds a row of the table, or without one what the form of the word tells.
-fn put_row_or_form(out: &mut Vec<u8>, word: &[u8], row: &[u8]) -> Result<(), AllocError> {
+fn put_row_or_form(out: &mut Text, word: &[u8], row: &[u8]) {
     match row {
         [] => put_form_hint(out, word),
-        [_, ..] => out.extend_from_slice(row),
+        [_, ..] => out.put(row),
     }
 }
 
 /// Adds what is told of a word that no line has after the words before it.
-pub(crate) fn put_line_hint(out: &mut Vec<u8>, word: &[u8]) -> Result<(), AllocError> {
-    put_row_or_form(out, word, report_of(&LINE_ROWS, word))
+pub(crate) fn put_line_hint(out: &mut Text, word: &[u8]) {
+    put_row_or_form(out, word, report_of(&LINE_ROWS, word));
 }

@@ -3,7 +3,8 @@
 use crate::known::put_run_hints;
 use crate::lines::put_line_hint;
 use fmp_bytes::cut;
-use fmp_cli_hints::{label, put_excerpt};
+use fmp_cli_hints::{LABEL, put_excerpt};
+use fmp_out::Text;
 use fmp_search_question::QuestionFault;
 use fmp_text::Names;
 use std::alloc::{AllocError, Global};
@@ -52,46 +53,53 @@ pub const SIGNS: [u8; 11] = *b".[]^$+?\\|{}";
 
 /// Whether a byte means something in a regular expression.
 fn is_sign(byte: u8) -> bool {
-    SIGNS.iter().any(|sign| *sign == byte)
+    for sign in &SIGNS {
+        if *sign == byte {
+            return true;
+        }
+    }
+    false
 }
 
 /// Whether a word has a byte that means something in a regular expression.
 fn has_sign(word: &[u8]) -> bool {
-    word.iter().any(|byte| is_sign(*byte))
+    for byte in word {
+        if is_sign(*byte) {
+            return true;
+        }
+    }
+    false
 }
 
 /// What is told of a word with a byte that means something in a regular expression.
-fn sign_words() -> &'static [u8] {
-    b"  A pattern is no regular expression: `*` alone stands for any bytes.\n"
-}
+const SIGN: &[u8] = b"  A pattern is no regular expression: `*` alone stands for any bytes.\n";
 
 /// Adds what is told of the word at fault.
 fn put_word_hint(
     alloc: Global,
-    out: &mut Vec<u8>,
+    out: &mut Text,
     names: &Names,
     word: &[u8],
 ) -> Result<(), AllocError> {
     if has_sign(word) {
-        out.extend_from_slice(sign_words())
-    } else {
-        put_run_hints(alloc, out, names, word)
+        out.put(SIGN);
+        return Ok(());
     }
+    put_run_hints(alloc, out, names, word)
 }
 
 /// Adds what is told of a word that stands there in no line.
-fn put_order_hint(out: &mut Vec<u8>, word: &[u8]) -> Result<(), AllocError> {
+fn put_order_hint(out: &mut Text, word: &[u8]) {
     if has_sign(word) {
-        out.extend_from_slice(sign_words())
+        out.put(SIGN);
     } else {
-        put_line_hint(out, word)
+        put_line_hint(out, word);
     }
 }
 
 /// What is told of `refused` beside a word.
-fn refused_words() -> &'static [u8] {
-    b"  `refused` is a pattern by itself: `&` comes between it and another, as in `refused & act_tsk(*)`.\n"
-}
+const REFUSED: &[u8] =
+    b"  `refused` is a pattern by itself: `&` comes between it and another, as in `refused & act_tsk(*)`.\n";
 
 /// Whether the last word of a text that ends with a blank is `refused`.
 fn has_refused(text: &[u8]) -> bool {
@@ -99,23 +107,22 @@ fn has_refused(text: &[u8]) -> bool {
 }
 
 /// Adds what is told of a word that no line has after the words before it.
-fn put_line_or_refused(out: &mut Vec<u8>, before: &[u8], word: &[u8]) -> Result<(), AllocError> {
+fn put_line_or_refused(out: &mut Text, before: &[u8], word: &[u8]) {
     if has_refused(before) {
-        out.extend_from_slice(refused_words())
+        out.put(REFUSED);
     } else {
-        put_order_hint(out, word)
+        put_order_hint(out, word);
     }
 }
 
 /// What is told of a question that begins with `deadlock`.
-fn deadlock_words() -> &'static [u8] {
-    b"  After `deadlock` stands nothing, or `but` and names of tasks with commas and no blanks between: `deadlock but T1,T2`.\n"
-}
+const DEADLOCK: &[u8] =
+    b"  After `deadlock` stands nothing, or `but` and names of tasks with commas and no blanks between: `deadlock but T1,T2`.\n";
 
 /// What is told in a question that begins so.
 fn deadlock_hint(before: &[u8]) -> &'static [u8] {
     if before.starts_with(b"deadlock ") {
-        deadlock_words()
+        DEADLOCK
     } else {
         b""
     }
@@ -124,7 +131,7 @@ fn deadlock_hint(before: &[u8]) -> &'static [u8] {
 /// What is told of a word that has no place there.
 fn form_or_refused(word: &[u8]) -> &'static [u8] {
     if word == b"refused".as_slice() {
-        refused_words()
+        REFUSED
     } else {
         b""
     }
@@ -133,7 +140,7 @@ fn form_or_refused(word: &[u8]) -> &'static [u8] {
 /// Adds what is told of a question with this fault, whose text goes on so after the words before the one at fault.
 fn put_hint(
     alloc: Global,
-    out: &mut Vec<u8>,
+    out: &mut Text,
     names: &Names,
     fault: QuestionFault,
     before: &[u8],
@@ -141,18 +148,19 @@ fn put_hint(
 ) -> Result<(), AllocError> {
     let (word, _rest) = cut(b' ', text);
     match fault {
-        QuestionFault::BadWord => put_word_hint(alloc, out, names, word),
+        QuestionFault::BadWord => put_word_hint(alloc, out, names, word)?,
         QuestionFault::UnknownName => {
             put_word_hint(alloc, out, names, word)?;
-            out.extend_from_slice(deadlock_hint(before))
+            out.put(deadlock_hint(before));
         }
         QuestionFault::NoLine => put_line_or_refused(out, before, word),
         QuestionFault::BadForm => {
-            out.extend_from_slice(form_or_refused(word))?;
-            out.extend_from_slice(deadlock_hint(before))
+            out.put(form_or_refused(word));
+            out.put(deadlock_hint(before));
         }
-        QuestionFault::TooLong => Ok(()),
+        QuestionFault::TooLong => {}
     }
+    Ok(())
 }
 
 /// What is told of a question without a byte.
@@ -173,13 +181,13 @@ pub fn question_context(
     fault: QuestionFault,
     place: usize,
 ) -> Result<Vec<u8>, AllocError> {
-    let mut out = Vec::new(alloc);
     let column = place.min(text.len());
-    put_excerpt(&mut out, text, column)?;
-    out.extend_from_slice(label())?;
-    out.extend_from_slice(wanted_at(fault))?;
-    out.extend_from_slice(empty_words(text))?;
     let (before, rest) = text.split_at(column);
+    let mut out = Text::new(alloc);
+    put_excerpt(&mut out, text, column);
+    out.put(LABEL);
+    out.put(wanted_at(fault));
+    out.put(empty_words(text));
     put_hint(alloc, &mut out, names, fault, before, rest)?;
-    Ok(out)
+    out.finish()
 }
