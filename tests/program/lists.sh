@@ -204,7 +204,7 @@ listed_texts() {
 listed_words() {
     local word each=yes
     for word in E_OK E_PAR E_ID E_CTX E_ILUSE E_OBJ E_QOVR E_RLWAI E_TMOUT wait spin gone idle held taken none rel lost run ipi tick latch \
-        ready locked disabled due suspended waits left pri act wup count pattern values free stopped end refused E9 TA_NULL TA_ACT TA_STA TA_TFIFO TA_TPRI TA_WSGL TA_WMUL TA_CLR TSK_SELF TPRI_SELF TPRI_INI TPRC_INI TMO_POL TMO_FEVR TWF_ANDW TWF_ORW; do
+        ready running dormant empty locked disabled due suspended waits left pri act wup count pattern values free stopped end refused E9 TA_NULL TA_ACT TA_STA TA_TFIFO TA_TPRI TA_WSGL TA_WMUL TA_CLR TSK_SELF TPRI_SELF TPRI_INI TPRC_INI TMO_POL TMO_FEVR TWF_ANDW TWF_ORW; do
         play list "$word" && [ "$(head -n 1 output)" = "$word" ] && [ "$(grep -cE '^  .*\.$' output)" = 1 ] && [ "$(wc -l < output)" = 2 ] ||
             { each=no && echo "list $word"; }
     done

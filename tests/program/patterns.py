@@ -2,11 +2,13 @@
 
     python3 patterns.py PROGRAM TOP
 
-Of each line of a trace or of a state each row of its words is a pattern, and each with a star in place of those between its first word and its
-last one. Those of one configuration are asked for together. The last line says how many patterns there were, and the status is 0 where none was refused.
+Of each line of a trace each row of its words is a pattern, and each with a star in place of those between its first word and its last one. Of each line of a
+state each fact is one, with the thing that has it and without, and the thing with all facts from the first to each other. Those of one configuration are asked for
+together. The last line says how many patterns there were, and the status is 0 where none was refused.
 """
 import importlib.machinery
 import importlib.util
+import re
 import subprocess
 import sys
 import tempfile
@@ -27,8 +29,15 @@ def all_cases(top):
         yield from (parts for _, parts in play.cases_of(path))
 
 
-def patterns_of(line):
-    """The patterns that a line gives."""
+# What stands after `waits`, and says nothing by itself.
+WAITS = {"slp", "dly", "sem", "flg", "sdtq", "rdtq", "mpf"}
+
+# The words of facts. Where an object has such a name, a pattern with it behind another word has two meanings, and is a fault.
+FACTS = WAITS | {"locked", "disabled", "latch", "dormant", "running", "ready", "suspended", "waits", "empty", "stopped", "due", "free", "end"}
+
+
+def rows_of(line):
+    """The patterns that a line of a trace gives."""
     words = line.split(" ")
     for first in range(len(words)):
         for last in range(first, len(words)):
@@ -37,11 +46,31 @@ def patterns_of(line):
                 yield f"{words[first]} * {words[last]}"
 
 
-def lines_of(program, config, events):
-    """What the machine answers, with the states: lines without their numbers and the blanks before them."""
+def facts_of(line):
+    """The patterns that a line of a state gives: each value after a `=` is a fact of its own."""
+    thing, *words = line.split(" ")
+    if not words:
+        yield thing
+    facts = [f"{key}={one}" if equals else key for key, equals, values in (word.partition("=") for word in words) for one in values.split(",")]
+    for last, fact in enumerate(facts):
+        yield f"{thing} {' '.join(facts[:last + 1])}"
+        if last == 0 or facts[last - 1] not in WAITS:
+            yield from (fact, f"{thing} {fact}", f"{thing} * {fact}")
+
+
+def patterns_of(program, config, events):
+    """What the machine answers, with the states, as patterns. A line of a state has blanks before it, and one of a trace a number."""
     told = subprocess.run([program, "calls", "--state", config, "-"], input=events, capture_output=True, check=False)
     for line in told.stdout.decode(errors="replace").splitlines():
-        yield line.lstrip(" ") if line.startswith(" ") else line.partition(" ")[2]
+        if line.startswith(" "):
+            yield from facts_of(line.lstrip(" "))
+        else:
+            yield from rows_of(line.partition(" ")[2])
+
+
+def is_doubtful(pattern, names):
+    """Whether a word of a pattern behind the first one is a name and a word of facts."""
+    return any(word in FACTS and word in names for word in pattern.split(" ")[1:])
 
 
 def questions_of(patterns):
@@ -74,7 +103,9 @@ def main():
         config = str(Path(room) / "machine.cfg")
         for text in sorted(texts):
             Path(config).write_bytes(text)
-            patterns = {pattern for events in texts[text] for line in lines_of(program, config, events) for pattern in patterns_of(line) if len(pattern) <= LONGEST}
+            names = set(re.findall(r"\bCRE_[A-Z]{3}\s*\(\s*(\w+)", text.decode(errors="replace")))
+            patterns = {pattern for events in texts[text] for pattern in patterns_of(program, config, events) if len(pattern) <= LONGEST}
+            patterns = {pattern for pattern in patterns if not is_doubtful(pattern, names)}
             count += len(patterns)
             for question in questions_of(sorted(patterns)):
                 fault = refused(program, config, question)

@@ -1,13 +1,20 @@
 """random_events.py PROGRAM SEED PROCESSORS MASTER: random events on a machine with so many processors, whose time is that of the processor
 MASTER, or of each where this is 0. `calls` plays them on the kernel and `check` on the plain machine: these answer alike. After every
 fifth event `check --show` tells of the plain machine the state that `calls --state` tells of the kernel. Who keeps what `calls --changes` tells has each of these states.
+A question for facts of one state after the other is shown by all of the first events, and by no fewer.
 Prints how many calls were accepted."""
 import subprocess
 import sys
 
+sys.dont_write_bytecode = True
+import facts
+
 program, *numbers = sys.argv[1:]
 seed, processors, master = map(int, numbers)
 EVENTS, BETWEEN_STATES = 1000, 5
+
+# Of so many events facts are asked for, so many of each.
+ASKED, FACTS = 200, 12
 
 # Of each class its processors, if there are so many, and its tasks. The first processor of a class is the initial one.
 CLASSES = ((1, 2, 3, 4, 5, 6, 7, 8), (2, 1, 3), (3, 1, 2, 4), (4, 2), (5, 1, 6), (6, 1), (7, 1), (8, 7))
@@ -144,6 +151,22 @@ def checked(*words):
     return subprocess.run([program, "check", *words[:-1], "machine.cfg", "trace.txt"], stdout=subprocess.PIPE, text=True, check=False).stdout
 
 
+def chosen(told):
+    """Some of the facts of a state, other ones each time."""
+    return [told[below(len(told))] for _ in range(FACTS)]
+
+
+def asked(events, states):
+    """What is left of the first events where the question asks for facts of the state behind each."""
+    with open("events.txt", "w", encoding="utf-8") as file:
+        file.writelines(events[:ASKED])
+    with open("machine.cfg", encoding="utf-8") as file:
+        objects = facts.configured(file.read())
+    question = facts.question_of(objects, [[line for line in state if line != "  end\n"] for state in states[1:ASKED + 1]], chosen)
+    left = subprocess.run([program, "shrink", "machine.cfg", "events.txt", f"--find={question}"], capture_output=True, text=True, check=False)
+    return left.returncode, left.stdout.splitlines(), left.stderr, question
+
+
 with open("machine.cfg", "w", encoding="utf-8") as file:
     file.write(machine())
 events, trace, states = played()
@@ -157,4 +180,7 @@ for count in range(0, EVENTS, BETWEEN_STATES):
     shown = f"no {count + 1}\n" + "".join(states[count])
     if not report.startswith(shown):
         sys.exit(f"check --show tells another state:\n{report}in place of\n{shown}")
+status, left, said, question = asked(events, states)
+if status or len(left) != ASKED:
+    sys.exit(f"shrink: status {status}, {len(left)} of {ASKED} events: {said}{question}")
 print(sum(" E_OK" in line for line in trace))

@@ -316,7 +316,8 @@ named() {
     for name in A B C T T1 T2 COMM LOGGER SERVER WORKER; do
         echo "CRE_TSK($name, {TA_NULL, 0, main, 10, 4096, NULL});"
     done
-    printf '%s\n' "$1" 'CRE_SEM(BUS, {TA_NULL, 1, 1});' 'CRE_ALM(ALARM, {TA_NULL, 0, alarm});' 'CRE_SPN(L1, {TA_NULL});' '}'
+    printf '%s\n' "$1" 'CRE_SEM(BUS, {TA_NULL, 1, 1});' 'CRE_ALM(ALARM, {TA_NULL, 0, alarm});' 'CRE_SPN(L1, {TA_NULL});' \
+        'CRE_SEM(S1, {TA_NULL, 0, 1});' 'CRE_DTQ(D1, {TA_NULL, 2, NULL});' 'CRE_MPF(MPF1, {TA_NULL, 2, 16, NULL, NULL});' '}'
 }
 
 # questions_of_the_pages: each question that the help, README and GUIDE show is one, on a machine that has the names in it, where LOG is a task or a data

@@ -37,7 +37,7 @@ of these is gone through, the shortest first, until one shows what QUESTION asks
   can a task wait for ever (deadlock)     no --find, or --find deadlock
   can one but SERVER and LOGGER           --find 'deadlock but SERVER,LOGGER'
   can T wait for ever at a semaphore      --find 'T waits sem * for ever'
-  can T be kept from running for good     --find 'not run=T for ever'
+  can T be kept from running for good     --find 'T ready * for ever'
   can a value be lost                     --find 'lost=*'
   can a call answer an error              --find 'LOGGER snd_dtq(LOG, *) E_CTX'
   can any be refused, but for a timeout   --find 'refused & not E_TMOUT'
@@ -45,11 +45,13 @@ of these is gone through, the shortest first, until one shows what QUESTION asks
   can B come after A with no C between    --find 'A then B without C'
   can it take three ticks                 --find 'A then 3 times P1 * tick taken without B'
 
-A pattern is words that follow one another in one line of an event: its line of the trace
-without the number, the lines that `fmpsim calls --state` writes below it, and `end` where nothing
-can change any more. In a word * is any number of bytes. `&` stands between patterns that have to
-be there at one event, `or` between those of which one has to be, and `not` before one that must not
-be. `refused` stands in the place of a pattern: a code is there that is not E_OK.
+A pattern is of the event or of the state after it. Words that follow one another in the line of
+the trace without its number are of the event: `LOGGER * gone`; in a word * is any number of bytes.
+Facts are of the state, whatever is so at boot: `T waits sem BUS`, `T ready P1`, `T dormant`,
+`P1 run=T`, `P1 latch`, `BUS count=1`, `D empty`, `held=*`. `end` is that nothing can change any more.
+`&` stands between patterns that have to be there at one event, `or` between those of which one has
+to be, and `not` before one that must not be. `refused` stands in the place of a pattern: a code is
+there that is not E_OK.
 
 `M for ever` asks for an event that has M from which on, in every order that goes on, every event has
 M; `or` stands between several, and `not` before a pattern. `deadlock` asks it of `waits` of each

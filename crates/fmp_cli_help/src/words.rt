@@ -6,7 +6,7 @@ ghost use Rattle.std.specs.Str.{bytes_eq};
 use fmp_out::Text;
 
 /// Each word with what it means.
-pub const WORDS: [(&[u8], &[u8]); 56] = [
+pub const WORDS: [(&[u8], &[u8]); 59] = [
     // Answers.
     (
         b"E_OK",
@@ -85,7 +85,19 @@ pub const WORDS: [(&[u8], &[u8]); 56] = [
     // Of states and questions.
     (
         b"ready",
-        b"`ready=T2,T3` in a state: the other ready tasks of the processor, the next one first.",
+        b"`ready=T2,T3` in a state: the other ready tasks of the processor, the next one first. In a question `T2 ready` is so of a task that could run and does not.",
+    ),
+    (
+        b"running",
+        b"`T1 running` in a question: the processor of the task runs it.",
+    ),
+    (
+        b"dormant",
+        b"`T1 dormant` in a question: the task has ended or was never activated.",
+    ),
+    (
+        b"empty",
+        b"`D1 empty` in a question: there is no value in the data queue.",
     ),
     (b"locked", b"In a state: the processor is CPU-locked."),
     (
@@ -94,7 +106,7 @@ pub const WORDS: [(&[u8], &[u8]); 56] = [
     ),
     (
         b"due",
-        b"`due=A1,C1` in a state: the handlers that are due on the processor, the running one first.",
+        b"`due=A1,C1` in a state: the handlers that are due on the processor, the running one first. In a question `A1 due` is so of the handler.",
     ),
     (b"suspended", b"In a state: the task is suspended."),
     (
@@ -131,7 +143,7 @@ pub const WORDS: [(&[u8], &[u8]); 56] = [
     ),
     (
         b"free",
-        b"`free=1` in a state: so many blocks of the pool are free, where not all are.",
+        b"`free=1` in a state: so many blocks of the pool are free, where not all are. In a question `L1 free` is so of a spin lock that nobody holds.",
     ),
     (
         b"stopped",

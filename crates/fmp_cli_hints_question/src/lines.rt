@@ -1,11 +1,12 @@
-//! What is told of a word of a question that no line has after the words before it.
+//! What is told of a word of a question that can stand after those before it in no record, nor be a fact of what they are about.
 
-use crate::rows::LINE_ROWS;
+use crate::rows::{KEY_ROWS, LINE_ROWS};
 use fmp_bytes::{cut, following};
 use fmp_calls::{find_call, form};
 use fmp_cli_hints::report_of;
 use fmp_codes::ArgumentKind;
 use fmp_out::Text;
+use fmp_search_words::has_star;
 
 /// Adds what is told of the name of a call without its arguments.
 fn put_call_words(out: &mut Text, word: &[u8]) {
@@ -82,6 +83,54 @@ fn is_joined(word: &[u8]) -> bool {
     }
 }
 
+/// What is told of a fact with a star.
+fn open_words() -> &'static [u8] {
+    b"  In a word of a fact a star stands alone after the `=`, as in `held=*`: write each name or number, with `or` between.\n"
+}
+
+/// What is told of a list of facts.
+fn list_words() -> &'static [u8] {
+    b"  Each one is a fact: write `P1 ready=T1 ready=T2` for two tasks.\n"
+}
+
+/// What is told of a number with a zero in front.
+fn zero_words() -> &'static [u8] {
+    b"  A number has no zero in front.\n"
+}
+
+/// Whether a value is more than one digit, and the first is a zero.
+fn is_zero_led(value: &[u8]) -> bool {
+    match value {
+        [b'0', _, ..] => true,
+        _ => false,
+    }
+}
+
+/// What is told of a fact with this value, where the row says of what it is so.
+fn value_hint(row: &'static [u8], value: &[u8]) -> &'static [u8] {
+    if row.is_empty() {
+        row
+    } else if cut(b',', value).1.is_some() {
+        list_words()
+    } else if has_star(value) && value != b"*".as_slice() {
+        open_words()
+    } else if is_zero_led(value) {
+        zero_words()
+    } else {
+        row
+    }
+}
+
+/// What is told of a word that may be a fact, by its form.
+fn fact_hint(word: &[u8]) -> &'static [u8] {
+    match cut(b'=', word) {
+        (key, Some(_)) if has_star(key) => open_words(),
+        (key, Some(value)) => value_hint(report_of(&KEY_ROWS, key), value),
+        (_, None) if has_star(word) => open_words(),
+        (_, None) => b"",
+    }
+}
+
 /// Adds what the form of a word tells.
 fn put_form_hint(out: &mut Text, word: &[u8]) {
     if find_call(word).is_some() {
@@ -89,7 +138,10 @@ fn put_form_hint(out: &mut Text, word: &[u8]) {
     } else if is_joined(word) {
         out.put(COMMA);
     } else {
-        out.put(other_hint(word));
+        match fact_hint(word) {
+            [] => out.put(other_hint(word)),
+            hint => out.put(hint),
+        }
     }
 }
 

@@ -2,9 +2,13 @@
 
 use crate::known::put_run_hints;
 use crate::lines::put_line_hint;
+use crate::rows::{EVENT_WORDS, LINE_ROWS};
 use fmp_bytes::cut;
-use fmp_cli_hints::{LABEL, put_excerpt};
+use fmp_cli_hints::{LABEL, put_excerpt, report_of};
+use fmp_codes::{NameKind, ObjectKind};
+use fmp_fact_words::is_of_state;
 use fmp_out::Text;
+use fmp_search_pattern::is_code;
 use fmp_search_question::QuestionFault;
 use fmp_text::Names;
 use std::alloc::{AllocError, Global};
@@ -17,11 +21,11 @@ fn wanted_at(fault: QuestionFault) -> &'static [u8] {
             b"a pattern, before and after each `then`, `without`, `or` and `&`, and after `not`; a number from 1 to 255 at the front of a step before `times`\n"
         }
         QuestionFault::UnknownName => {
-            b"a name of the configuration, a processor, a call, a code, a word of a trace or of a state, or a `*` in the word\n"
+            b"a name of the configuration, a processor, a call, a code, a word of a trace or of a fact, or a `*` in the word\n"
         }
         QuestionFault::TooLong => b"at most 255 steps, and at most 1024 bytes in a pattern\n",
         QuestionFault::NoLine => {
-            b"a word that comes after those before it in some line of a trace or of a state, or a `*` for the words between\n"
+            b"a word that comes after those before it in some line of a trace, or a fact of what they are about\n"
         }
     }
 }
@@ -97,6 +101,47 @@ fn put_order_hint(out: &mut Text, word: &[u8]) {
     }
 }
 
+/// What is told of a fact beside a word of an event.
+fn apart_words() -> &'static [u8] {
+    b"  A fact and a word of an event are two patterns: `&` comes between them, as in `S1 count=0 & sig_sem(S1) E_OK`.\n"
+}
+
+/// The last word of a text that ends with a blank.
+fn last_word(text: &[u8]) -> &[u8] {
+    let words = text.trim_ascii_end();
+    match words.iter().rposition(|byte| *byte == b' ') {
+        Some(at) => &words[at + 1..],
+        None => words,
+    }
+}
+
+/// Whether a word stands in a line of an event alone.
+fn is_of_event(word: &[u8]) -> bool {
+    word.ends_with(b")")
+        || is_code(word)
+        || word.starts_with(b"E_OK:")
+        || EVENT_WORDS.iter().any(|other| *other == word)
+}
+
+/// Whether a fact and a word of an event stand one after the other.
+fn are_apart(last: &[u8], word: &[u8]) -> bool {
+    let is_fact = is_of_state(word) && !word.starts_with(b"run=");
+    (is_of_state(last) && is_of_event(word)) || (is_of_event(last) && is_fact)
+}
+
+/// What is told of a word that stands behind a word of a fact, or behind one of an event.
+fn behind_hint(names: &Names, last: &[u8], word: &[u8]) -> &'static [u8] {
+    if last == b"end".as_slice() {
+        report_of(&LINE_ROWS, last)
+    } else if are_apart(last, word) {
+        apart_words()
+    } else if is_of_state(last) && names.contains_object(word) {
+        b"  What a fact is so of comes first, as in `S1 count=1`.\n"
+    } else {
+        b""
+    }
+}
+
 /// What is told of `refused` beside a word.
 const REFUSED: &[u8] =
     b"  `refused` is a pattern by itself: `&` comes between it and another, as in `refused & act_tsk(*)`.\n";
@@ -107,11 +152,13 @@ fn has_refused(text: &[u8]) -> bool {
 }
 
 /// Adds what is told of a word that no line has after the words before it.
-fn put_line_or_refused(out: &mut Text, before: &[u8], word: &[u8]) {
+fn put_line_or_refused(out: &mut Text, names: &Names, before: &[u8], word: &[u8]) {
     if has_refused(before) {
-        out.put(REFUSED);
-    } else {
-        put_order_hint(out, word);
+        return out.put(REFUSED);
+    }
+    match behind_hint(names, last_word(before), word) {
+        [] => put_order_hint(out, word),
+        hint => out.put(hint),
     }
 }
 
@@ -128,10 +175,27 @@ fn deadlock_hint(before: &[u8]) -> &'static [u8] {
     }
 }
 
-/// What is told of a word that has no place there.
-fn form_or_refused(word: &[u8]) -> &'static [u8] {
+/// The last word of a text that is not of stars alone.
+fn last_named(text: &[u8]) -> &[u8] {
+    match text.iter().rposition(|byte| *byte != b' ' && *byte != b'*') {
+        Some(at) => last_word(&text[..at + 1]),
+        None => text,
+    }
+}
+
+/// Whether an object has this name that is no task and no handler.
+fn is_no_runner(names: &Names, name: &[u8]) -> bool {
+    let runners = [ObjectKind::Task, ObjectKind::Cyclic, ObjectKind::Alarm];
+    let runs = runners.iter().any(|kind| names.number(NameKind::Object(*kind), name).is_some());
+    names.contains_object(name) && !runs
+}
+
+/// What is told of a word that has no place there, or of what ends before it.
+fn form_hint(names: &Names, before: &[u8], word: &[u8]) -> &'static [u8] {
     if word == b"refused".as_slice() {
         REFUSED
+    } else if is_no_runner(names, last_named(before)) {
+        b"  A pattern does not end with an object that is no task and no handler: say what is so of it, as in `S1 count=1`.\n"
     } else {
         b""
     }
@@ -153,9 +217,9 @@ fn put_hint(
             put_word_hint(alloc, out, names, word)?;
             out.put(deadlock_hint(before));
         }
-        QuestionFault::NoLine => put_line_or_refused(out, before, word),
+        QuestionFault::NoLine => put_line_or_refused(out, names, before, word),
         QuestionFault::BadForm => {
-            out.put(form_or_refused(word));
+            out.put(form_hint(names, before, word));
             out.put(deadlock_hint(before));
         }
         QuestionFault::TooLong => {}

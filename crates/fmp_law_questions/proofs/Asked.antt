@@ -1,5 +1,5 @@
 -- What is asked is read.
-use Rattle.std.proofs.Common.{◌≡◌, ℕ, ◌≤◌, Bool, true, false, not, List, [], ◌∷◌, ◌++◌, length, Option, Some, None, Ok, refl, sym, ap, subst, ◌∙◌, arith, append_assoc}
+use Rattle.std.proofs.Common.{◌≡◌, ℕ, ◌≤◌, Bool, true, false, List, [], ◌∷◌, ◌++◌, length, Option, Some, None, Ok, refl, sym, ap, subst, ◌∙◌, arith, append_assoc}
 use Rattle.std.specs.Prelude.{codes, unwrap_or}
 use Rattle.std.specs.List.{list_all}
 use Rattle.std.specs.Option.{option_map_or}
@@ -7,10 +7,12 @@ use Rattle.std.proofs.lemmas.Bool.{and_parts}
 use Rattle.fmp_bytes.specs.Bytes.{is_of, space}
 use Rattle.fmp_names.specs.Names.{NameLists}
 use Rattle.fmp_search_words.specs.declared.spot.Spot.{Spot}
+use Rattle.fmp_search_pattern.specs.declared.items.Wanted.{Wanted}
+use Rattle.fmp_search_pattern.specs.declared.items.Wanted.TheVariants as wanted
 use Rattle.fmp_search_pattern.specs.declared.question.Step.{Step}
 use Rattle.fmp_search_pattern.specs.Items.{Item}
 use Rattle.fmp_search_question.specs.Reading.{Draft, after_word, nothing_read, with_part, with_pattern, with_refused, wanted_by}
-use Rattle.fmp_search_words.specs.Spots.{is_number}
+use Rattle.fmp_search_words.specs.Spots.{may_end}
 use Rattle.fmp_law_questions.specs.Rows.{SpellsRow}
 use Rattle.fmp_law_questions.specs.Grammar.{Negated, SpellsItem, SpellsMoment, SpellsPart, SpellsPattern, SpellsWanted, is_pattern_word, placed, spaced}
 use Rattle.fmp_law_questions.proofs.Led.{led_first, led_on}
@@ -20,12 +22,9 @@ use Rattle.fmp_law_questions.proofs.Patterns.{longer_by-first, one_parts, other_
 -- ---- an item
 
 -- where the words of a pattern end
-end_of : (o : Option Spot) → option_map_or (λ place. not (is_number place)) o false ≡ true → (place : Spot) × (o ≡ Some place) × (is_number place ≡ false)
+end_of : (o : Option Spot) → option_map_or may_end o false ≡ true → (place : Spot) × (o ≡ Some place) × (may_end place ≡ true)
 end_of None is = absurd cc
-end_of (Some place) is = (place, refl, no_number (is_number place) is) where
-  no_number : (b : Bool) → not b ≡ true → b ≡ false
-  no_number false e = refl
-  no_number true e = absurd cc
+end_of (Some place) is = (place, refl, is)
 
 module _ (names : NameLists) (steps : List Step) (times : Option ℕ) (moment : Option (List (List Item))) (parts : List (List Item)) (items : List Item) where
   -- `not` was read, or nothing
@@ -35,55 +34,57 @@ module _ (names : NameLists) (steps : List Step) (times : Option ℕ) (moment : 
   abbrev with_item : Item → Draft
   with_item item = fresh steps times moment parts (items ++ item ∷ [])
 
-  abbrev read_item : Bool → Option (List (List ℕ)) → Draft
-  read_item negated wanted = with_item (record { negated = negated; pattern = wanted })
+  abbrev read_item : Bool → Wanted → Draft
+  read_item negated asked = with_item (record { negated = negated; wanted = asked })
 
-  refused_led : (negated : Bool) → Leads names (begun negated) (codes "refused" ∷ []) with_pattern (read_item negated None)
+  refused_led : (negated : Bool) → Leads names (begun negated) (codes "refused" ∷ []) with_pattern (read_item negated wanted.Refused)
   unfolding after_word is_of with_pattern
   refused_led negated = (unwrap_or (with_refused (begun negated)) nothing_read, refl, refl)
 
   pattern_ends : (negated : Bool) (word : List ℕ) (words : List (List ℕ)) (pattern : List (List ℕ)) (place : Spot)
-      → wanted_by (spaced (word ∷ words)) ≡ Some pattern → is_number place ≡ false
-      → with_pattern (record (begun negated) { pattern = spaced (word ∷ words); spot = place }) ≡ Some (read_item negated (Some pattern))
+      → wanted_by (spaced (word ∷ words)) ≡ wanted.Line pattern → may_end place ≡ true
+      → with_pattern (record (begun negated) { pattern = spaced (word ∷ words); spot = place }) ≡ Some (read_item negated (wanted.Line pattern))
   unfolding with_pattern
-  pattern_ends negated word words pattern place wanted no_number =
+  pattern_ends negated word words pattern place asked ends =
       let some = some_length space (word ++ spaced words) in
-      rw (some, no_number, wanted) refl
+      rw (some, ends, asked) refl
 
   pattern_led : (negated : Bool) (words : List (List ℕ)) (pattern : List (List ℕ)) → SpellsPattern names words pattern
-      → Leads names (begun negated) words with_pattern (read_item negated (Some pattern))
+      → Leads names (begun negated) words with_pattern (read_item negated (wanted.Line pattern))
   pattern_led negated [] pattern s = absurd (omega (arith, s.some))
   pattern_led negated (word ∷ words) pattern s =
-      let end = end_of (placed names nothing_read.spot (word ∷ words)) s.stand in
+      let end = end_of (placed names [] nothing_read.spot (word ∷ words)) s.stand in
       let whole = longer_by-first word words in
-      let read = words_taken names (begun negated) (word ∷ words) end.0 s.each (subst (λ (p : List ℕ). length p ≤ 1024) (sym whole) s.short) end.1 in
+      let read = words_taken names (begun negated) [] (word ∷ words) end.0 refl s.each (subst (λ (p : List ℕ). length p ≤ 1024) (sym whole) s.short) end.1 in
       let first = one_parts names word (and_parts (is_pattern_word names word) (list_all (is_pattern_word names) words) s.each).0 in
-      let wanted = other_wanted word words first.is_foreign.no_refused ∙ ap (λ (p : List (List ℕ)). Some p) (sym s.pieces) in (
+      let asked = other_wanted word words first.is_foreign.no_refused ∙ ap (λ (p : List (List ℕ)). wanted.Line p) (sym s.pieces) in (
         record (begun negated) { pattern = spaced (word ∷ words); spot = end.0 },
         read ∙ ap (λ (p : List ℕ). Some (record (begun negated) { pattern = p; spot = end.0 })) whole,
-        pattern_ends negated word words pattern end.0 wanted end.2,
+        pattern_ends negated word words pattern end.0 asked end.2,
       )
 
-  wanted_led : (negated : Bool) (words : List (List ℕ)) (wanted : Option (List (List ℕ))) → SpellsWanted names words wanted
-      → Leads names (begun negated) words with_pattern (read_item negated wanted)
-  wanted_led negated words None is =
-      subst (λ (ws : List (List ℕ)). Leads names (begun negated) ws with_pattern (read_item negated None)) (sym is) (refused_led negated)
-  wanted_led negated words (Some pattern) s = pattern_led negated words pattern s
+  wanted_led : (negated : Bool) (words : List (List ℕ)) (asked : Wanted) → SpellsWanted names words asked
+      → Leads names (begun negated) words with_pattern (read_item negated asked)
+  wanted_led negated words wanted.Refused is =
+      subst (λ (ws : List (List ℕ)). Leads names (begun negated) ws with_pattern (read_item negated wanted.Refused)) (sym is) (refused_led negated)
+  wanted_led negated words (wanted.Line pattern) s = pattern_led negated words pattern s
+  wanted_led negated words wanted.End s = absurd s
+  wanted_led negated words (wanted.State pattern choice) s = absurd s
 
   not_taken : after_word names (begun false) (codes "not") ≡ Ok (begun true)
   unfolding after_word is_of
   not_taken = refl
 
-  negated_led : (negated : Bool) (words : List (List ℕ)) (wanted : Option (List (List ℕ))) → Negated (λ rest. SpellsWanted names rest wanted) negated words
-      → Leads names (begun false) words with_pattern (read_item negated wanted)
-  negated_led false words wanted s = wanted_led false words wanted s
-  negated_led true words wanted s =
-      let read = wanted_led true s.0 wanted s.2 in
+  negated_led : (negated : Bool) (words : List (List ℕ)) (asked : Wanted) → Negated (λ rest. SpellsWanted names rest asked) negated words
+      → Leads names (begun false) words with_pattern (read_item negated asked)
+  negated_led false words asked s = wanted_led false words asked s
+  negated_led true words asked s =
+      let read = wanted_led true s.0 asked s.2 in
       (read.0, ap (led names (begun false)) s.1 ∙ led_first (after_word names) (begun false) (begun true) (codes "not") s.0 not_taken ∙ read.1, read.2)
 
   pub item_led : (words : List (List ℕ)) (item : Item) → SpellsItem names words item
       → Leads names (fresh steps times moment parts items) words with_pattern (with_item item)
-  item_led words item s = negated_led item.negated words item.pattern s
+  item_led words item s = negated_led item.negated words item.wanted s
 
 -- ---- rows
 

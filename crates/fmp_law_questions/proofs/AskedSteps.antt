@@ -9,9 +9,11 @@ use Rattle.fmp_names.specs.Names.{NameLists}
 use Rattle.fmp_search_question.specs.declared.fault.QuestionFault.{QuestionFault}
 use Rattle.fmp_search_pattern.specs.declared.question.Step.{Step}
 use Rattle.fmp_search_pattern.specs.Items.{Item}
-use Rattle.fmp_search_question.specs.Reading.{Draft, after_word, ended, nothing_read, question_in, step_of, with_moment, with_part, with_pattern, with_step}
+use Rattle.fmp_search_question.specs.Reading.{Draft, after_word, ended, nothing_read, question_in, step_of, with_moment, with_part, with_pattern, with_step, written_in}
+use Rattle.fmp_search_question.specs.Resolved.{resolved}
+use Rattle.fmp_search_question.specs.WordByWord.{result_then}
 use Rattle.fmp_law_questions.specs.Rows.{SpellsRow}
-use Rattle.fmp_law_questions.specs.Grammar.{Asks, SpellsMoment, SpellsStep, SpellsTimes, SpellsWithout, repeated}
+use Rattle.fmp_law_questions.specs.Grammar.{Asks, SpellsMoment, SpellsStep, SpellsTimes, SpellsWithout, Writes, repeated}
 use Rattle.fmp_law_questions.proofs.Led.{led_first, led_on, words_led}
 use Rattle.fmp_law_questions.proofs.Steps.{Leads, fresh, led}
 use Rattle.fmp_law_questions.proofs.Counts.{count_led}
@@ -112,9 +114,9 @@ some_words names (word ∷ words) f s = omega arith
 ended_so : (bytes : ℕ) (e f : Draft) → with_step e ≡ Some f → length f.steps ≤ 255 → ended bytes e ≡ Ok f.steps
 ended_so bytes e f is few = let room = le-leb (length f.steps) 255 few in rw (is, room) refl
 
-pub asked_is_read : (names : NameLists) (text : List ℕ) (question : List Step) → Asks names text question → question_in names text ≡ Ok question
-unfolding question_in
-asked_is_read names text question s =
+written_is_read : (names : NameLists) (text : List ℕ) (question : List Step) → Writes names text question → written_in names text ≡ Ok question
+unfolding written_in
+written_is_read names text question s =
     let row = s.asked in
     let few : length (repeated row.0) ≤ 255 = subst (λ (q : List Step). length q ≤ 255) row.2 s.few in
     let read = steps_led names [] s.words row.0 row.1 few in
@@ -123,6 +125,12 @@ asked_is_read names text question s =
     let ends = ended_so (length text) read.0 _ read.2 few in
     let same = row.2 in
     rw (pieces, all, ends, same) refl
+
+pub asked_is_read : (names : NameLists) (text : List ℕ) (question : List Step) → Asks names text question → question_in names text ≡ Ok question
+unfolding question_in
+asked_is_read names text question s =
+    ap (λ (r : Result (List Step) (QuestionFault × ℕ)). result_then (λ steps. Ok (resolved names steps)) r) (written_is_read names text s.0 s.1)
+    ∙ ap (λ (q : List Step). Ok q) (sym s.2)
 
 pub one_question : (names : NameLists) (text : List ℕ) (a b : List Step) → Asks names text a → Asks names text b → a ≡ b
 one_question names text a b asked also = same_value (sym (asked_is_read names text a asked) ∙ asked_is_read names text b also) where

@@ -1,6 +1,6 @@
 -- The number of times that a step stands.
-use Rattle.std.proofs.Common.{◌≡◌, ℕ, ◌-◌, ◌≤◌, inl, inr, true, false, eqb, List, [], ◌∷◌, ◌++◌, length}
-use Rattle.std.proofs.Common.{get_or, take, Some, None, Ok, refl, sym, ap, ◌∙◌, arith, length-append}
+use Rattle.std.proofs.Common.{◌≡◌, ℕ, ◌-◌, ◌≤◌, inl, inr, Bool, true, false, not, ◌&&◌, ◌||◌, eqb, List, [], ◌∷◌, ◌++◌, length}
+use Rattle.std.proofs.Common.{get_or, take, Option, Some, None, Ok, refl, sym, ap, ◌∙◌, arith, length-append}
 use Rattle.std.specs.Prelude.{codes, unwrap_or}
 use Rattle.std.specs.Char.{digit_value, is_digit, is_ascii_digit}
 use Rattle.std.specs.List.{list_all, list_any}
@@ -11,10 +11,11 @@ use Rattle.std.proofs.lemmas.List.{take_at}
 use Rattle.std.proofs.lemmas.List.Splits.{slice_split_none}
 use Rattle.std.proofs.lemmas.Str.Parse.{digit_from_value}
 use Rattle.fmp_bytes.specs.declared.classes.Class.TheVariants.{Printed}
-use Rattle.fmp_bytes.specs.Bytes.{is_of, space}
+use Rattle.fmp_bytes.specs.Bytes.{cut_at, equals_sign, is_of, space}
+use Rattle.fmp_bytes.proofs.Cutting.{cut_at-parts, no_cut, pieces_of-join}
 use Rattle.fmp_bytes.specs.Numerals.{are_digits, magnitude_of}
 use Rattle.fmp_bytes.proofs.Included.{word-digit}
-use Rattle.fmp_bytes.proofs.Prefixes.{list_all-weaker}
+use Rattle.fmp_bytes.proofs.Prefixes.{list_all-parts, list_all-weaker}
 use Rattle.fmp_bytes.proofs.Spelled.{magnitude_of-small}
 use Rattle.fmp_bytes.proofs.Words.{is_word}
 use Rattle.fmp_names.specs.Names.{NameLists}
@@ -22,13 +23,17 @@ use Rattle.fmp_names.proofs.Listed.{list_all-at}
 use Rattle.fmp_search_words.specs.declared.spot.Spot.{Spot}
 use Rattle.fmp_search_pattern.specs.declared.question.Step.{Step}
 use Rattle.fmp_search_words.specs.Forms.{spot_of}
+use Rattle.fmp_fact_words.specs.Asking.{is_star}
+use Rattle.fmp_fact_words.specs.Reading.{row_of, words}
+use Rattle.fmp_fact_words.specs.Speaking.{is_of_state, is_run, is_thing, must_ask}
+use Rattle.fmp_search_question.specs.Places.{filled, last_spot, longer, next_spot, words_of}
 use Rattle.fmp_search_question.specs.Reading.{Draft, after_word, nothing_read, number_in, times_within, with_times}
 use Rattle.fmp_search_words.specs.Spots.{may_follow}
 use Rattle.fmp_search_words.specs.Words.{is_fine, is_outside, runs_of}
 use Rattle.fmp_law_questions.specs.Grammar.{SpellsCount, is_pattern_word, own_words, spaced}
 use Rattle.fmp_law_questions.proofs.Led.{led_first}
 use Rattle.fmp_law_questions.proofs.Steps.{fresh, led}
-use Rattle.fmp_law_questions.proofs.Patterns.{next_place, some_length, word_taken}
+use Rattle.fmp_law_questions.proofs.Patterns.{not_parts, some_length, word_taken}
 
 -- ---- digits are a word of a pattern
 
@@ -87,6 +92,10 @@ digits_fine names (b ∷ digits) is =
     let first = digit_ascii b (and_parts (is_digit b 10) (list_all (λ c. is_digit c 10) digits) is).0 in
     rw (none, first) refl
 
+some_digits : (digits : List ℕ) → are_digits 10 digits ≡ true → eqb (length digits) 0 ≡ false
+some_digits [] is = absurd cc
+some_digits (b ∷ digits) is = some_length b digits
+
 pub digits_word : (names : NameLists) (digits : List ℕ) → are_digits 10 digits ≡ true → is_pattern_word names digits ≡ true
 digits_word names digits is =
     let all = all_digits digits is in
@@ -95,17 +104,79 @@ digits_word names digits is =
     let own = no_own_word digits is in
     let runs = one_run digits all in
     let fine = digits_fine names digits is in
-    rw (some, printed, own, runs, fine) refl where
-      some_digits : (ds : List ℕ) → are_digits 10 ds ≡ true → eqb (length ds) 0 ≡ false
-      some_digits [] e = absurd cc
-      some_digits (b ∷ ds) e = some_length b ds
+    rw (some, printed, own, runs, fine) refl
+
+-- nor are they a word of a state
+no_digits : (digits own : List ℕ) → are_digits 10 digits ≡ true → are_digits 10 own ≡ false → bytes_eq own digits ≡ false
+no_digits digits own is other =
+    elim (cases_Bool (bytes_eq own digits)) [
+      | inl t ↦ absurd (false≢true (sym other ∙ ap (are_digits 10) (is_word own digits t) ∙ is))
+      | inr f ↦ f
+    ]
+
+no_row : {A : Type 0} (digits : List ℕ) (rows : List (List ℕ × A)) → are_digits 10 digits ≡ true → list_all (λ row. not (are_digits 10 row.0)) rows ≡ true
+    → row_of rows digits ≡ None
+no_row digits [] is others = refl
+no_row digits (row ∷ rows) is others =
+    let p = and_parts (not (are_digits 10 row.0)) (list_all (λ row. not (are_digits 10 row.0)) rows) others in
+    let first = no_digits digits row.0 is (not_parts (are_digits 10 row.0) p.0) in
+    rw first (no_row digits rows is p.1)
+
+-- there is no `=` in them
+no_equals : (b : ℕ) → is_digit b 10 ≡ true → not (eqb b 61) ≡ true
+no_equals b is = let range = digit_from_value b (ltb-true (digit_value b) 10 is) in grind (arith, nat_tests)
+
+uncut : (digits : List ℕ) → are_digits 10 digits ≡ true → cut_at equals_sign digits ≡ (digits, None)
+uncut digits is = go (cut_at equals_sign digits).1 refl where
+  go : (rest : Option (List ℕ)) → (cut_at equals_sign digits).1 ≡ rest → cut_at equals_sign digits ≡ (digits, None)
+  go None none = ap (λ (front : List ℕ). (front, (cut_at equals_sign digits).1)) (no_cut equals_sign digits none) ∙ ap (λ (o : Option (List ℕ)). (digits, o)) none
+  go (Some rest) some =
+      let apart = list_all-weaker (λ b. is_digit b 10) (λ b. not (eqb b 61)) no_equals digits (all_digits digits is) in
+      let whole = cut_at-parts equals_sign digits rest some in
+      let parts = list_all-parts (λ b. not (eqb b 61)) (cut_at equals_sign digits).0 (61 ∷ rest) (ap (list_all (λ b. not (eqb b 61))) (sym whole) ∙ apart) in
+      absurd (false≢true (and_parts (not (eqb 61 61)) (list_all (λ b. not (eqb b 61)) rest) parts.1).0)
+
+-- alone they are the only word
+no_blank : (b : ℕ) → is_digit b 10 ≡ true → not (eqb b 32) ≡ true
+no_blank b is = let range = digit_from_value b (ltb-true (digit_value b) 10 is) in grind (arith, nat_tests)
+
+digits_alone : (digits : List ℕ) → are_digits 10 digits ≡ true → words_of (longer [] digits) ≡ digits ∷ []
+digits_alone digits is =
+    let apart = list_all-weaker (λ b. is_digit b 10) (λ b. not (eqb b 32)) no_blank digits (all_digits digits is) in
+    let some = some_digits digits is in
+    ap (λ (pieces : List (List ℕ)). filled pieces) (pieces_of-join space ([] ∷ digits ∷ [] ∷ []) (omega arith) (rw apart refl)) ∙ rw some refl
+
+-- digits speak of no state
+no_state : (digits : List ℕ) → are_digits 10 digits ≡ true → is_of_state digits ≡ false
+unfolding is_of_state
+no_state digits is =
+    let whole = uncut digits is in
+    let none = no_row digits words is refl in
+    let no_end = no_own digits (codes "end") is refl in
+    let stars = no_star digits (all_digits digits is) in
+    rw (whole, none, no_end, stars) (and_nothing (not (is_star digits))) where
+      and_nothing : (b : Bool) → (b && false) ≡ false
+      and_nothing true = refl
+      and_nothing false = refl
+
+no_asking : (names : NameLists) (digits : List ℕ) → are_digits 10 digits ≡ true → must_ask names (digits ∷ []) ≡ false
+unfolding must_ask is_run
+no_asking names digits is =
+    let state = no_state digits is in
+    let whole = uncut digits is in
+    rw (state, whole) (nothing_asked (not (is_thing names digits))) where
+      nothing_asked : (b : Bool) → (((b && false) || false) || false) ≡ false
+      nothing_asked true = refl
+      nothing_asked false = refl
 
 -- they may stand at the front
-number_place : (names : NameLists) (digits : List ℕ) → are_digits 10 digits ≡ true → (place : Spot) × (next_place names nothing_read.spot digits ≡ Some place)
-unfolding spot_of may_follow
+number_place : (names : NameLists) (digits : List ℕ) → are_digits 10 digits ≡ true → (place : Spot) × (next_spot names [] nothing_read.spot digits ≡ Some place)
+unfolding last_spot spot_of may_follow
 number_place names digits is =
     let none = no_star digits (all_digits digits is) in
-    (unwrap_or (next_place names nothing_read.spot digits) nothing_read.spot, rw (none, is) refl)
+    let only = digits_alone digits is in
+    let asking = no_asking names digits is in
+    (unwrap_or (next_spot names [] nothing_read.spot digits) nothing_read.spot, rw (only, asking, none, is) refl)
 
 -- ---- the number
 

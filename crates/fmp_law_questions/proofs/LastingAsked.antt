@@ -1,5 +1,5 @@
 -- What is asked of what stays for ever is read.
-use Rattle.std.proofs.Common.{◌≡◌, ℕ, ◌+◌, ◌<◌, ◌≤◌, ◌⊎◌, eqb, inl, inr, Bool, true, false, not, ◌&&◌, ◌||◌, cond, List, [], ◌∷◌, ◌++◌, length, Option, Some, None, Result, Ok, refl, sym, ap, subst, ◌∙◌, arith, append_assoc}
+use Rattle.std.proofs.Common.{◌≡◌, ℕ, ◌+◌, ◌<◌, ◌≤◌, ◌⊎◌, eqb, inl, inr, Bool, true, false, not, ◌&&◌, ◌||◌, cond, List, [], ◌∷◌, ◌++◌, length, Some, None, Result, Ok, refl, sym, ap, subst, ◌∙◌, arith, append_assoc}
 use Rattle.std.specs.Prelude.{codes}
 use Rattle.std.specs.List.{list_all}
 use Rattle.std.specs.Str.{bytes_eq}
@@ -11,16 +11,21 @@ use Rattle.fmp_names.specs.Names.{NameLists}
 use Rattle.fmp_search_pattern.specs.Items.{Item}
 use Rattle.fmp_search_pattern.specs.Lasting.{Lasting}
 use Rattle.fmp_search_words.specs.Words.{is_printed}
-use Rattle.fmp_search_words.specs.Spots.{is_number}
+use Rattle.fmp_search_words.specs.Spots as spots
+use Rattle.fmp_search_pattern.specs.declared.items.Wanted.{Wanted}
+use Rattle.fmp_search_pattern.specs.declared.items.Wanted.TheVariants as wanted
+use Rattle.fmp_search_question.specs.Places.{longer}
 use Rattle.fmp_search_question.specs.declared.fault.QuestionFault.{QuestionFault}
 use Rattle.fmp_search_question.specs.declared.stage.Stage.TheVariants as stage
 use Rattle.fmp_search_question.specs.Reading.{Draft, nothing_read, with_pattern, with_refused}
 use Rattle.fmp_search_question.specs.Reading as reading
-use Rattle.fmp_search_question.specs.Lasting.{Parts, after_word, are_tasks, begins_so, ended, in_part, is_fresh, lasting_in, may_end, no_parts}
+use Rattle.fmp_search_question.specs.Lasting.{Parts, after_word, are_tasks, begins_so, ended, in_part, is_fresh, lasting_in, may_end, no_parts, written_in}
+use Rattle.fmp_search_question.specs.Resolved.{resolved_lasting}
+use Rattle.fmp_search_question.specs.WordByWord.{result_then}
 use Rattle.fmp_search_question.specs.Waiting.{comma, waits_but}
 use Rattle.fmp_law_questions.specs.Rows.{SpellsRow}
 use Rattle.fmp_law_questions.specs.Grammar.{Negated, SpellsItem, SpellsPart, SpellsWanted, is_pattern_word}
-use Rattle.fmp_law_questions.specs.ForEver.{AsksForEver, AsksForEverWords, SpellsLasting, SpellsPlain, is_end}
+use Rattle.fmp_law_questions.specs.ForEver.{AsksForEver, AsksForEverWords, SpellsLasting, SpellsPlain, WritesForEver, is_end}
 use Rattle.fmp_law_questions.proofs.Patterns.{or_parts, one_parts, some_length}
 use Rattle.fmp_law_questions.proofs.Led.{led_first, led_on, led_parts, words_led}
 use Rattle.fmp_law_questions.proofs.Steps.{fresh, led}
@@ -44,8 +49,8 @@ pub record IsInner (word : List ℕ) : Type 0 where
 abbrev pub has_some : Draft → Bool
 has_some d = not (eqb (length d.items) 0 && eqb (length d.pattern) 0)
 
-longer_some : (pattern word : List ℕ) → eqb (length (reading.longer pattern word)) 0 ≡ false
-longer_some pattern word = following (reading.longer pattern word) (cond (eqb (length pattern) 0) (space ∷ []) pattern ++ word) refl
+longer_some : (pattern word : List ℕ) → eqb (length (longer pattern word)) 0 ≡ false
+longer_some pattern word = following (longer pattern word) (cond (eqb (length pattern) 0) (space ∷ []) pattern ++ word) refl
   where
     following : (whole front : List ℕ) → whole ≡ front ++ space ∷ [] → eqb (length whole) 0 ≡ false
     following whole [] is = rw is refl
@@ -73,7 +78,7 @@ some_read names d e word inner is = go (taken names d e word is)
   where
     go : Taken names d word e → has_some e ≡ true
     go (and is_and ends) =
-        let p = when_false (eqb (length d.pattern) 0 || is_number d.spot) _ e ends in
+        let p = when_false (eqb (length d.pattern) 0 || not (spots.may_end d.spot)) _ e ends in
         let items : eqb (length e.items) 0 ≡ false = subst (λ (f : Draft). eqb (length f.items) 0 ≡ false) p.1 (items_some d.items _) in
         one_some (eqb (length e.items) 0) (eqb (length e.pattern) 0) items
     go (refusal is_refusal ends) =
@@ -182,15 +187,17 @@ refused_inner = record { no_for = refl; no_ever = refl; no_not = refl; no_or = r
 and_inner : IsInner (codes "&")
 and_inner = record { no_for = refl; no_ever = refl; no_not = refl; no_or = refl; no_without = refl; no_then = refl; no_times = refl }
 
-wanted_inner : (names : NameLists) (words : List (List ℕ)) (wanted : Option (List (List ℕ))) → SpellsWanted names words wanted → list_all (λ w. not (is_end w)) words ≡ true → AreInner words
-wanted_inner names words None is simple = subst AreInner (sym is) (refused_inner, tt)
-wanted_inner names words (Some pattern) s simple = words_inner names words s.each simple
+wanted_inner : (names : NameLists) (words : List (List ℕ)) (asked : Wanted) → SpellsWanted names words asked → list_all (λ w. not (is_end w)) words ≡ true → AreInner words
+wanted_inner names words wanted.Refused is simple = subst AreInner (sym is) (refused_inner, tt)
+wanted_inner names words (wanted.Line pattern) s simple = words_inner names words s.each simple
+wanted_inner names words wanted.End s simple = absurd s
+wanted_inner names words (wanted.State pattern choice) s simple = absurd s
 
 -- an item without `not` is what it asks for
-wanted_of : (names : NameLists) (words : List (List ℕ)) (item : Item) → SpellsItem names words item → item.negated ≡ false → SpellsWanted names words item.pattern
+wanted_of : (names : NameLists) (words : List (List ℕ)) (item : Item) → SpellsItem names words item → item.negated ≡ false → SpellsWanted names words item.wanted
 wanted_of names words item s is = go item.negated s is
   where
-    go : (b : Bool) → Negated (λ rest. SpellsWanted names rest item.pattern) b words → b ≡ false → SpellsWanted names words item.pattern
+    go : (b : Bool) → Negated (λ rest. SpellsWanted names rest item.wanted) b words → b ≡ false → SpellsWanted names words item.wanted
     go false s is = s
     go true s is = absurd cc
 
@@ -199,14 +206,14 @@ part_inner : (names : NameLists) (words : List (List ℕ)) (part : List Item) �
 part_inner names words [] s there simple = absurd s
 part_inner names words (one ∷ []) s there simple =
     let a = and_parts (not one.negated) true there in
-    wanted_inner names words one.pattern (wanted_of names words one s (not_so one.negated a.0)) simple
+    wanted_inner names words one.wanted (wanted_of names words one s (not_so one.negated a.0)) simple
 part_inner names words (one ∷ second ∷ more) s there simple =
     let a = and_parts (not one.negated) (list_all (λ i. not i.negated) (second ∷ more)) there in
     let whole : list_all (λ w. not (is_end w)) (s.0 ++ (codes "&" ∷ s.1)) ≡ true = subst (λ (ws : List (List ℕ)). list_all (λ w. not (is_end w)) ws ≡ true) s.2 simple in
     let b = and_parts (list_all (λ w. not (is_end w)) s.0) _ (sym (list_all-append (λ w. not (is_end w)) s.0 (codes "&" ∷ s.1)) ∙ whole) in
     let c = and_parts (not (is_end (codes "&"))) (list_all (λ w. not (is_end w)) s.1) b.1 in
     subst AreInner (sym s.2)
-    (inner_both s.0 (codes "&" ∷ s.1) (wanted_inner names s.0 one.pattern (wanted_of names s.0 one s.3 (not_so one.negated a.0)) b.0)
+    (inner_both s.0 (codes "&" ∷ s.1) (wanted_inner names s.0 one.wanted (wanted_of names s.0 one s.3 (not_so one.negated a.0)) b.0)
     (and_inner, part_inner names s.1 (second ∷ more) s.4 a.1 c.1))
 
 -- one item has no `&`
@@ -220,11 +227,13 @@ item_joined : (names : NameLists) (words : List (List ℕ)) (part : List Item) �
 item_joined names words [] s there one = absurd s
 item_joined names words (item ∷ []) s there one =
     let a = and_parts (not item.negated) true there in
-    go item.pattern (wanted_of names words item s (not_so item.negated a.0))
+    go item.wanted (wanted_of names words item s (not_so item.negated a.0))
   where
-    go : (wanted : Option (List (List ℕ))) → SpellsWanted names words wanted → AreJoined true words
-    go None is = subst (AreJoined true) (sym is) (refl, tt)
-    go (Some pattern) s = words_joined names words s.each
+    go : (asked : Wanted) → SpellsWanted names words asked → AreJoined true words
+    go wanted.Refused is = subst (AreJoined true) (sym is) (refl, tt)
+    go (wanted.Line pattern) s = words_joined names words s.each
+    go wanted.End s = absurd s
+    go (wanted.State pattern choice) s = absurd s
 item_joined names words (item ∷ second ∷ more) s there one = let more_than : length more + 2 ≡ 1 = omega (arith, one) in absurd (omega (arith, more_than))
 
 always_joined : (words : List (List ℕ)) → AreJoined false words
@@ -378,15 +387,21 @@ words_lead names words lasting (inr s) =
 ended_so : (bytes : ℕ) (d : Parts) → may_end d.stage ≡ true → length d.lasting ≤ 64 → ended bytes d ≡ Ok d.lasting
 ended_so bytes d may few = let room = le-leb (length d.lasting) 64 few in rw (may, room) refl
 
-pub lasting_is_read : (names : NameLists) (text : List ℕ) (lasting : List Lasting) → AsksForEver names text lasting → lasting_in names text ≡ Ok lasting
-unfolding lasting_in
-lasting_is_read names text lasting s =
+written_is_read : (names : NameLists) (text : List ℕ) (lasting : List Lasting) → WritesForEver names text lasting → written_in names text ≡ Ok lasting
+unfolding written_in
+written_is_read names text lasting s =
     let leads = words_lead names s.words lasting s.asked in
     let pieces : pieces_of space text ≡ s.words = ap (pieces_of space) s.parts ∙ pieces_of-join space s.words leads.some s.cut in
     let all = words_led (after_word names) (length text) no_parts leads.end s.words leads.led_there in
     let ends = ended_so (length text) leads.end leads.may (subst (λ (ls : List Lasting). length ls ≤ 64) (sym leads.is) s.few) in
     let same = leads.is in
     rw (pieces, all, ends, same) refl
+
+pub lasting_is_read : (names : NameLists) (text : List ℕ) (lasting : List Lasting) → AsksForEver names text lasting → lasting_in names text ≡ Ok lasting
+unfolding lasting_in
+lasting_is_read names text lasting s =
+    ap (λ (r : Result (List Lasting) (QuestionFault × ℕ)). result_then (λ parts. Ok (resolved_lasting names parts)) r) (written_is_read names text s.0 s.1)
+    ∙ ap (λ (ls : List Lasting). Ok ls) (sym s.2)
 
 pub one_lasting : (names : NameLists) (text : List ℕ) (a b : List Lasting) → AsksForEver names text a → AsksForEver names text b → a ≡ b
 one_lasting names text a b asked also = same_value (sym (lasting_is_read names text a asked) ∙ lasting_is_read names text b also) where

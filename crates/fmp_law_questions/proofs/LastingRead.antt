@@ -16,11 +16,12 @@ use Rattle.fmp_search_question.specs.declared.stage.Stage.{Stage}
 use Rattle.fmp_search_question.specs.declared.stage.Stage.TheVariants as stage
 use Rattle.fmp_search_question.specs.Reading.{Draft, nothing_read, with_pattern}
 use Rattle.fmp_search_question.specs.Waiting.{comma, waits_but}
-use Rattle.fmp_search_question.specs.Lasting.{Parts, after_word, are_tasks, begins_so, ended, in_stage, is_fresh, lasting_in, may_end, no_parts, with_part}
+use Rattle.fmp_search_question.specs.Lasting.{Parts, after_word, are_tasks, begins_so, ended, in_stage, is_fresh, lasting_in, may_end, no_parts, with_part, written_in}
+use Rattle.fmp_search_question.specs.Resolved.{resolved_lasting}
 use Rattle.fmp_search_question.specs.WordByWord.{after_words, result_then}
 use Rattle.fmp_law_questions.specs.Rows.{SpellsRow}
 use Rattle.fmp_law_questions.specs.Grammar.{Negated, SpellsItem, SpellsPart}
-use Rattle.fmp_law_questions.specs.ForEver.{AsksForEver, AsksForEverWords, SpellsLasting, SpellsPlain}
+use Rattle.fmp_law_questions.specs.ForEver.{AsksForEver, AsksForEverWords, SpellsLasting, SpellsPlain, WritesForEver}
 use Rattle.fmp_law_questions.proofs.Begun.{after_item, empty_begun, item_of, item_spelled, negated_spelled, not_words}
 use Rattle.fmp_law_questions.proofs.Closed.{Closed, closed_more, closed_row}
 use Rattle.fmp_law_questions.proofs.Led.{led_keeps, led_words}
@@ -269,9 +270,9 @@ module _ (bytes : ℕ) (lasting : List Lasting) where
   read_end (Ok d) is = (d, refl, end_parts d (may_end d.stage) refl is)
   read_end (Err fault) is = absurd cc
 
-pub lasting_is_asked : (names : NameLists) (text : List ℕ) (lasting : List Lasting) → lasting_in names text ≡ Ok lasting → AsksForEver names text lasting
-unfolding lasting_in
-lasting_is_asked names text lasting is =
+read_is_written : (names : NameLists) (text : List ℕ) (lasting : List Lasting) → written_in names text ≡ Ok lasting → WritesForEver names text lasting
+unfolding written_in
+read_is_written names text lasting is =
     let p = read_end (length text) lasting (after_words (after_word names) (length text) no_parts (pieces_of space text)) is in
     let end = p.2 in
     let led_so = led_words (after_word names) (length text) no_parts p.0 (pieces_of space text) p.1 in
@@ -283,3 +284,12 @@ lasting_is_asked names text lasting is =
       asked = subst (λ (ls : List Lasting). AsksForEverWords names (pieces_of space text) ls) end.is (words_ask names (pieces_of space text) p.0 all end.may);
       few = end.few;
     }
+
+pub lasting_is_asked : (names : NameLists) (text : List ℕ) (lasting : List Lasting) → lasting_in names text ≡ Ok lasting → AsksForEver names text lasting
+unfolding lasting_in
+lasting_is_asked names text lasting is = go (written_in names text) refl is
+  where
+    go : (r : Result (List Lasting) (QuestionFault × ℕ)) → written_in names text ≡ r → result_then (λ parts. Ok (resolved_lasting names parts)) r ≡ Ok lasting
+        → AsksForEver names text lasting
+    go (Ok written) there on = let same : resolved_lasting names written ≡ lasting = cc in (written, read_is_written names text written there, sym same)
+    go (Err fault) there on = absurd cc

@@ -4,10 +4,10 @@ use Rattle.std.specs.Prelude.{codes, is_none}
 use Rattle.fmp_names.specs.Names.{NameLists}
 use Rattle.fmp_search_words.specs.declared.spot.Spot.{Spot}
 use Rattle.fmp_search_pattern.specs.Items.{Item}
-use Rattle.fmp_search_question.specs.Reading.{Draft, after_word, before_without, longer, part_ended, with_moment, with_not, with_part}
+use Rattle.fmp_search_question.specs.Reading.{Draft, after_word, before_without, part_ended, with_moment, with_not, with_part}
 use Rattle.fmp_search_question.specs.Reading.{with_pattern, with_read, with_refused, with_step, with_times}
 use Rattle.fmp_law_questions.specs.Grammar.{SpellsItem, SpellsPart, is_pattern_word}
-use Rattle.fmp_law_questions.proofs.Patterns.{next_place}
+use Rattle.fmp_search_question.specs.Places.{longer, next_spot}
 use Rattle.fmp_law_questions.proofs.Closed.{Closed, closed_more}
 use Rattle.fmp_law_questions.proofs.Taken.{Taken, and, following_word, count, negation, next, or, plain, refusal, taken, then_parts, when_true, without}
 use Rattle.fmp_law_questions.proofs.Begun.{HasItem, after_item, item_of, item_spelled, no_item, not_taken, not_words, refused_taken, word_taken}
@@ -51,7 +51,7 @@ module _ (names : NameLists) (words : List (List ℕ)) (d e : Draft) (s : IsRead
       let p = refused_taken names s.last d e s.has_item is in
       subst (λ (f : Draft). IsRead names (words ++ codes "refused" ∷ []) f) p.1 (item_goes_on (codes "refused") d.negated e.pattern e.spot p.0)
 
-  plain_moves : (word : List ℕ) (place : Spot) → is_pattern_word names word ≡ true → length (longer d.pattern word) ≤ 1024 → next_place names d.spot word ≡ Some place
+  plain_moves : (word : List ℕ) (place : Spot) → is_pattern_word names word ≡ true → length (longer d.pattern word) ≤ 1024 → next_spot names d.pattern d.spot word ≡ Some place
       → IsRead names (words ++ word ∷ []) (following_word d word place)
   plain_moves word place is short stands =
       item_goes_on word d.negated (longer d.pattern word) place (word_taken names s.last d e s.has_item word place is short stands)

@@ -4,22 +4,21 @@ use Rattle.std.proofs.Common.{Option, Some, None, Ok, refl, sym, ap, ◌∙◌, 
 use Rattle.std.specs.Prelude.{codes, option_and_then}
 use Rattle.std.specs.List.{list_all, list_any}
 use Rattle.std.specs.Str.{bytes_eq}
-use Rattle.std.proofs.lemmas.Bool.{and_parts, le-leb, false≢true}
+use Rattle.std.proofs.lemmas.Bool.{and_from, and_parts, le-leb, false≢true}
 use Rattle.std.proofs.lemmas.Bool.Decides.{nat_tests}
+use Rattle.std.proofs.lemmas.List.Folds.{list_all-append}
 use Rattle.fmp_bytes.specs.Bytes.{space, pieces_of}
 use Rattle.fmp_bytes.proofs.Words.{other_word, not_word}
 use Rattle.fmp_names.specs.Names.{NameLists}
 use Rattle.fmp_search_words.specs.declared.spot.Spot.{Spot}
-use Rattle.fmp_search_words.specs.Forms.{spot_of}
-use Rattle.fmp_search_question.specs.Reading.{Draft, after_word, longer, with_word, wanted_by}
+use Rattle.fmp_search_pattern.specs.declared.items.Wanted.TheVariants as wanted
+use Rattle.fmp_search_question.specs.Places.{last_spot, longer, next_spot, words_of}
+use Rattle.fmp_search_question.specs.Reading.{Draft, after_word, with_word, wanted_by}
 use Rattle.fmp_search_words.specs.Spots.{stepped}
 use Rattle.fmp_search_words.specs.Words.{is_fine, is_printed, runs_of, star}
-use Rattle.fmp_law_questions.specs.Grammar.{is_pattern_word, own_words, placed, spaced}
+use Rattle.fmp_law_questions.specs.Grammar.{is_pattern_word, own_words, place_after, placed, spaced}
 use Rattle.fmp_law_questions.proofs.Led.{led_first}
 use Rattle.fmp_law_questions.proofs.Steps.{led}
-
-abbrev pub next_place : NameLists → Spot → List ℕ → Option Spot
-next_place names place word = stepped place (spot_of names word)
 
 -- ---- tests
 
@@ -30,6 +29,10 @@ or_parts true b is = absurd cc
 pub not_parts : (a : Bool) → not a ≡ true → a ≡ false
 not_parts false is = refl
 not_parts true is = absurd cc
+
+pub unless_parts : (a : Bool) → not a ≡ false → a ≡ true
+unless_parts true is = refl
+unless_parts false is = absurd cc
 
 -- a word that is none of those of the language
 pub record IsForeign (word : List ℕ) : Type 0 where
@@ -67,7 +70,7 @@ one_parts names word is =
 -- ---- one word more
 
 module _ (names : NameLists) (d : Draft) (word : List ℕ) (place : Spot) where
-  pub word_taken : is_pattern_word names word ≡ true → length (longer d.pattern word) ≤ 1024 → next_place names d.spot word ≡ Some place
+  pub word_taken : is_pattern_word names word ≡ true → length (longer d.pattern word) ≤ 1024 → next_spot names d.pattern d.spot word ≡ Some place
       → after_word names d word ≡ Ok (record d { pattern = longer d.pattern word; spot = place })
   unfolding after_word with_word
   word_taken is short stands =
@@ -123,25 +126,50 @@ pub longer_by-grows : (pattern : List ℕ) (words : List (List ℕ)) → length 
 longer_by-grows pattern [] = omega arith
 longer_by-grows pattern (word ∷ words) = omega (arith, longer-grows pattern word, longer_by-grows (longer pattern word) words)
 
--- the first word stands somewhere, and the others after it
-pub placed_parts : (names : NameLists) (from place : Spot) (word : List ℕ) (words : List (List ℕ)) → placed names from (word ∷ words) ≡ Some place
-    → (next : Spot) × (next_place names from word ≡ Some next) × (placed names next words ≡ Some place)
-placed_parts names from place word words is = parts (next_place names from word) refl is where
-  parts : (o : Option Spot) → next_place names from word ≡ o → option_and_then (λ next. placed names next words) o ≡ Some place
-      → (next : Spot) × (next_place names from word ≡ Some next) × (placed names next words ≡ Some place)
-  parts None e rest = absurd cc
-  parts (Some next) e rest = (next, e, rest)
+-- ---- where words stand
 
-pub words_taken : (names : NameLists) (d : Draft) (words : List (List ℕ)) (place : Spot) → list_all (is_pattern_word names) words ≡ true
-    → length (longer_by d.pattern words) ≤ 1024
-    → placed names d.spot words ≡ Some place → led names d words ≡ Some (record d { pattern = longer_by d.pattern words; spot = place })
-words_taken names d [] place each short stand = let same : d.spot ≡ place = cc in ap (λ (s : Spot). Some (record d { spot = s })) same
-words_taken names d (word ∷ words) place each short stand =
-    let e = and_parts (is_pattern_word names word) (list_all (is_pattern_word names) words) each in
-    let p = placed_parts names d.spot place word words stand in
-    let room : length (longer d.pattern word) ≤ 1024 = omega (arith, short, longer_by-grows (longer d.pattern word) words) in
-    led_first (after_word names) d (record d { pattern = longer d.pattern word; spot = p.0 }) word words (word_taken names d word p.0 e.0 room p.1)
-    ∙ words_taken names (record d { pattern = longer d.pattern word; spot = p.0 }) words place e.1 short p.2
+module _ (names : NameLists) where
+  -- one word more
+  pub all_more : (words : List (List ℕ)) (word : List ℕ) → list_all (is_pattern_word names) words ≡ true → is_pattern_word names word ≡ true
+      → list_all (is_pattern_word names) (words ++ word ∷ []) ≡ true
+  all_more words word each is =
+      list_all-append (is_pattern_word names) words (word ∷ []) ∙ and_from (list_all (is_pattern_word names) words) _ each (rw is refl)
+
+  longer_by-more : (pattern : List ℕ) (words : List (List ℕ)) (word : List ℕ) → longer (longer_by pattern words) word ≡ longer_by pattern (words ++ word ∷ [])
+  longer_by-more pattern [] word = refl
+  longer_by-more pattern (first ∷ words) word = longer_by-more (longer pattern first) words word
+
+  longer_by-all : (words : List (List ℕ)) (word : List ℕ) → longer_by [] (words ++ word ∷ []) ≡ spaced (words ++ word ∷ [])
+  longer_by-all [] word = longer_by-first word []
+  longer_by-all (first ∷ words) word = longer_by-first first (words ++ word ∷ [])
+
+  -- where a word stands after the text of others is where it stands after these
+  pub same_spot : (before : List (List ℕ)) (pattern word : List ℕ) (place : Spot) → pattern ≡ longer_by [] before
+      → next_spot names pattern place word ≡ place_after names before place word
+  same_spot before pattern word place so =
+      ap (λ (text : List ℕ). stepped place (last_spot names (words_of text) word))
+      (ap (λ (p : List ℕ). longer p word) so ∙ longer_by-more [] before word ∙ longer_by-all before word)
+
+  -- the first word stands somewhere, and the others after it
+  pub placed_parts : (before : List (List ℕ)) (from place : Spot) (word : List ℕ) (words : List (List ℕ)) → placed names before from (word ∷ words) ≡ Some place
+      → (next : Spot) × (place_after names before from word ≡ Some next) × (placed names (before ++ word ∷ []) next words ≡ Some place)
+  placed_parts before from place word words is = parts (place_after names before from word) refl is where
+    parts : (o : Option Spot) → place_after names before from word ≡ o → option_and_then (λ next. placed names (before ++ word ∷ []) next words) o ≡ Some place
+        → (next : Spot) × (place_after names before from word ≡ Some next) × (placed names (before ++ word ∷ []) next words ≡ Some place)
+    parts None e rest = absurd cc
+    parts (Some next) e rest = (next, e, rest)
+
+  pub words_taken : (d : Draft) (before words : List (List ℕ)) (place : Spot) → d.pattern ≡ longer_by [] before → list_all (is_pattern_word names) words ≡ true → length (longer_by d.pattern words) ≤ 1024 → placed names before d.spot words ≡ Some place
+      → led names d words ≡ Some (record d { pattern = longer_by d.pattern words; spot = place })
+  words_taken d before [] place so each short stand = let same : d.spot ≡ place = cc in ap (λ (s : Spot). Some (record d { spot = s })) same
+  words_taken d before (word ∷ words) place so each short stand =
+      let e = and_parts (is_pattern_word names word) (list_all (is_pattern_word names) words) each in
+      let p = placed_parts before d.spot place word words stand in
+      let room : length (longer d.pattern word) ≤ 1024 = omega (arith, short, longer_by-grows (longer d.pattern word) words) in
+      let step = same_spot before d.pattern word d.spot so ∙ p.1 in
+      let following = ap (λ (text : List ℕ). longer text word) so ∙ longer_by-more [] before word in
+      led_first (after_word names) d (record d { pattern = longer d.pattern word; spot = p.0 }) word words (word_taken names d word p.0 e.0 room step)
+      ∙ words_taken (record d { pattern = longer d.pattern word; spot = p.0 }) (before ++ word ∷ []) words place following e.1 short p.2
 
 -- ---- what the words ask for
 
@@ -170,7 +198,7 @@ spaced_begins (word ∷ words) = refl
 
 -- only `refused` gives its pattern
 pub other_wanted : (word : List ℕ) (words : List (List ℕ)) → bytes_eq word (codes "refused") ≡ false
-    → wanted_by (spaced (word ∷ words)) ≡ Some (pieces_of star (spaced (word ∷ words)))
+    → wanted_by (spaced (word ∷ words)) ≡ wanted.Line (pieces_of star (spaced (word ∷ words)))
 other_wanted word words other =
     let begins = spaced_begins words in
     let differs : bytes_eq (spaced (word ∷ words)) (codes " refused ") ≡ false = other_word (spaced (word ∷ words)) (codes " refused ") (λ e.

@@ -9,10 +9,11 @@ use Rattle.fmp_names.specs.Names.{NameLists}
 use Rattle.fmp_search_question.specs.declared.fault.QuestionFault.{QuestionFault}
 use Rattle.fmp_search_question.specs.declared.fault.QuestionFault.TheVariants.{TooLong}
 use Rattle.fmp_search_pattern.specs.declared.question.Step.{Step}
-use Rattle.fmp_search_question.specs.Reading.{Draft, after_word, ended, limited, nothing_read, or_form, question_in, with_step}
+use Rattle.fmp_search_question.specs.Reading.{Draft, after_word, ended, limited, nothing_read, or_form, question_in, with_step, written_in}
+use Rattle.fmp_search_question.specs.Resolved.{resolved}
 use Rattle.fmp_search_question.specs.WordByWord.{after_words, at_place, result_then}
 use Rattle.fmp_law_questions.specs.Rows.{SpellsRow}
-use Rattle.fmp_law_questions.specs.Grammar.{Asks, AsksWords}
+use Rattle.fmp_law_questions.specs.Grammar.{Asks, AsksWords, Writes}
 use Rattle.fmp_law_questions.proofs.Led.{led_keeps, led_words}
 use Rattle.fmp_law_questions.proofs.Closed.{closed_row}
 use Rattle.fmp_law_questions.proofs.Begun.{no_item}
@@ -67,9 +68,9 @@ module _ (bytes : ℕ) (question : List Step) where
   read_parts (Ok d) is = (d, refl, ended_parts (with_step d) is)
   read_parts (Err fault) is = absurd cc
 
-pub read_is_asked : (names : NameLists) (text : List ℕ) (question : List Step) → question_in names text ≡ Ok question → Asks names text question
-unfolding question_in
-read_is_asked names text question is =
+read_is_written : (names : NameLists) (text : List ℕ) (question : List Step) → written_in names text ≡ Ok question → Writes names text question
+unfolding written_in
+read_is_written names text question is =
     let p = read_parts (length text) question (after_words (after_word names) (length text) nothing_read (pieces_of space text)) is in
     let ends = p.2 in
     let led_so = led_words (after_word names) (length text) nothing_read p.0 (pieces_of space text) p.1 in
@@ -81,3 +82,11 @@ read_is_asked names text question is =
       asked = subst (λ (q : List Step). AsksWords names (pieces_of space text) q) ends.2 (words_asked names (pieces_of space text) p.0 ends.0 all ends.1);
       few = subst (λ (q : List Step). length q ≤ 255) ends.2 ends.3;
     }
+
+pub read_is_asked : (names : NameLists) (text : List ℕ) (question : List Step) → question_in names text ≡ Ok question → Asks names text question
+unfolding question_in
+read_is_asked names text question is = go (written_in names text) refl is
+  where
+    go : (r : Result (List Step) (QuestionFault × ℕ)) → written_in names text ≡ r → result_then (λ steps. Ok (resolved names steps)) r ≡ Ok question → Asks names text question
+    go (Ok written) there on = let same : resolved names written ≡ question = cc in (written, read_is_written names text written there, sym same)
+    go (Err fault) there on = absurd cc

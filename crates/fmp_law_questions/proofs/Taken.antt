@@ -9,11 +9,11 @@ use Rattle.fmp_names.specs.Names.{NameLists}
 use Rattle.fmp_search_words.specs.declared.spot.Spot.{Spot}
 use Rattle.fmp_search_question.specs.declared.fault.QuestionFault.{QuestionFault}
 use Rattle.fmp_search_question.specs.declared.fault.QuestionFault.TheVariants.{TooLong}
-use Rattle.fmp_search_question.specs.Reading.{Draft, after_word, at_spot, limited, longer, or_form, with_moment, with_not, with_part}
+use Rattle.fmp_search_question.specs.Reading.{Draft, after_word, at_spot, limited, or_form, with_moment, with_not, with_part}
 use Rattle.fmp_search_question.specs.Reading.{with_pattern, with_refused, with_step, with_times, with_word}
 use Rattle.fmp_search_words.specs.Words.{is_fine, is_printed, runs_of}
 use Rattle.fmp_law_questions.specs.Grammar.{is_pattern_word, own_words}
-use Rattle.fmp_law_questions.proofs.Patterns.{next_place}
+use Rattle.fmp_search_question.specs.Places.{longer, next_spot}
 
 -- ---- values that are there
 
@@ -64,7 +64,7 @@ pub data Taken (names : NameLists) (d : Draft) (word : List ℕ) (e : Draft) : T
   without : word ≡ codes "without" → with_moment d ≡ Some e → Taken names d word e
   next : word ≡ codes "then" → with_step d ≡ Some e → Taken names d word e
   count : word ≡ codes "times" → with_times d ≡ Some e → Taken names d word e
-  plain : (place : Spot) → is_pattern_word names word ≡ true → length (longer d.pattern word) ≤ 1024 → next_place names d.spot word ≡ Some place
+  plain : (place : Spot) → is_pattern_word names word ≡ true → length (longer d.pattern word) ≤ 1024 → next_spot names d.pattern d.spot word ≡ Some place
       → e ≡ following_word d word place → Taken names d word e
 
 spot_parts : (names : NameLists) (d e : Draft) (word : List ℕ) (o : Option Spot) → at_spot d word o ≡ Ok e
@@ -80,7 +80,7 @@ module _ (names : NameLists) (d e : Draft) (word : List ℕ) where
         | inl known ↦ elim (choose e (leb (length (longer d.pattern word)) 1024) _ _ known.1) [
           | inl short ↦
               let fine = known.0 in
-              let spot = spot_parts names d e word (next_place names d.spot word) short.1 in
+              let spot = spot_parts names d e word (next_spot names d.pattern d.spot word) short.1 in
               plain spot.0 (rw (printed, own, fine) refl) (leb-true (length (longer d.pattern word)) 1024 short.0) spot.1 spot.2
           | inr long ↦ let bad = long.1 in absurd cc
         ]

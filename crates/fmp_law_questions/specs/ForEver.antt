@@ -9,6 +9,7 @@ use Rattle.fmp_search_pattern.specs.Lasting.{Lasting}
 use Rattle.fmp_search_words.specs.Words.{is_printed}
 use Rattle.fmp_search_question.specs.Waiting.{comma, waits_but}
 use Rattle.fmp_search_question.specs.Lasting.{are_tasks, begins_so, most_parts}
+use Rattle.fmp_search_question.specs.Resolved.{resolved_lasting}
 use Rattle.fmp_law_questions.specs.Rows.{SpellsRow}
 use Rattle.fmp_law_questions.specs.Grammar.{Negated, SpellsPart}
 
@@ -42,10 +43,14 @@ SpellsDeadlock names words lasting =
 abbrev pub AsksForEverWords : NameLists → List (List ℕ) → List Lasting → Type 0
 AsksForEverWords names words lasting = SpellsDeadlock names words lasting ⊎ ((begins_so words ≡ false) × SpellsRow (SpellsLasting names) (codes "or") words lasting)
 
--- a text of words, with one blank between each two. What it asks is not too much
-pub record AsksForEver (names : NameLists) (text : List ℕ) (lasting : List Lasting) : Type 0 where
+-- a text of words, with one blank between each two, and what is written there, each pattern as one of a record. It is not too much
+pub record WritesForEver (names : NameLists) (text : List ℕ) (lasting : List Lasting) : Type 0 where
   pub words : List (List ℕ)
   pub parts : text ≡ join_with_byte space words
   pub cut : list_all (list_all (λ b. not (b == space))) words ≡ true
   pub asked : AsksForEverWords names words lasting
   pub few : length lasting ≤ most_parts
+
+-- what is written asks for facts wherever its patterns speak of a state
+abbrev pub AsksForEver : NameLists → List ℕ → List Lasting → Type 0
+AsksForEver names text lasting = (written : List Lasting) × WritesForEver names text written × (lasting ≡ resolved_lasting names written)

@@ -7,13 +7,16 @@ use Rattle.std.specs.Str.Parse.{digits_value}
 use Rattle.fmp_bytes.specs.Bytes.{pieces_of, space}
 use Rattle.fmp_bytes.specs.Numerals.{are_digits}
 use Rattle.fmp_names.specs.Names.{NameLists}
+use Rattle.fmp_search_pattern.specs.declared.items.Wanted.{Wanted}
+use Rattle.fmp_search_pattern.specs.declared.items.Wanted.TheVariants as wanted
 use Rattle.fmp_search_pattern.specs.declared.question.Step.{Step}
 use Rattle.fmp_search_words.specs.declared.spot.Spot.{Spot}
 use Rattle.fmp_search_words.specs.declared.spot.Spot.TheVariants.{Front}
-use Rattle.fmp_search_words.specs.Forms.{spot_of}
 use Rattle.fmp_search_pattern.specs.Items.{Item}
+use Rattle.fmp_search_question.specs.Places.{last_spot, words_of}
 use Rattle.fmp_search_question.specs.Reading.{most_pattern, most_steps}
-use Rattle.fmp_search_words.specs.Spots.{is_number, stepped}
+use Rattle.fmp_search_question.specs.Resolved.{resolved}
+use Rattle.fmp_search_words.specs.Spots.{may_end, stepped}
 use Rattle.fmp_search_words.specs.Words.{is_fine, is_printed, runs_of, star}
 use Rattle.fmp_law_questions.specs.Rows.{SpellsRow}
 
@@ -25,21 +28,26 @@ own_words = codes "&" ∷ codes "or" ∷ codes "not" ∷ codes "refused" ∷ cod
 abbrev pub is_pattern_word : NameLists → List ℕ → Bool
 is_pattern_word names word = is_printed word && (not (list_any (bytes_eq word) own_words) && list_all (is_fine names) (runs_of word))
 
--- where in a line words end that stand one after the other, the first of them after some place. None where no line has them so
-abbrev pub placed : NameLists → Spot → List (List ℕ) → Option Spot
-placed names place [] = Some place
-placed names place (word ∷ words) = option_and_then (λ next. placed names next words) (stepped place (spot_of names word))
-
--- some line may have the words one after the other, the first of them anywhere, and they are not a number alone
-abbrev pub may_stand : NameLists → List (List ℕ) → Bool
-may_stand names words = option_map_or (λ place. not (is_number place)) (placed names Front words) false
-
 -- words with a blank before each of them, and one after the last
 abbrev pub spaced : List (List ℕ) → List ℕ
 spaced [] = space ∷ []
 spaced (word ∷ words) = space ∷ (word ++ spaced words)
 
--- with these blanks they are not too long
+-- where words end with one more, where they ended somewhere: by what all of them ask for together, or by where the last one stands in a record. None
+-- where it may not stand after them
+abbrev pub place_after : NameLists → List (List ℕ) → Spot → List ℕ → Option Spot
+place_after names before place word = stepped place (last_spot names (words_of (spaced (before ++ word ∷ []))) word)
+
+-- where some words end with others after them, each of which may stand after all those before it. None where one may not
+abbrev pub placed : NameLists → List (List ℕ) → Spot → List (List ℕ) → Option Spot
+placed names before place [] = Some place
+placed names before place (word ∷ words) = option_and_then (λ next. placed names (before ++ word ∷ []) next words) (place_after names before place word)
+
+-- each word may stand after those before it, and with the last one a pattern may end
+abbrev pub may_stand : NameLists → List (List ℕ) → Bool
+may_stand names words = option_map_or may_end (placed names [] Front words) false
+
+-- with blanks around them they are not too long
 abbrev pub AreShort : List (List ℕ) → Type 0
 AreShort words = length (spaced words) ≤ most_pattern
 
@@ -52,9 +60,11 @@ pub record SpellsPattern (names : NameLists) (words : List (List ℕ)) (pattern 
   pub pieces : pattern ≡ pieces_of star (spaced words)
 
 -- `refused` or a pattern
-abbrev pub SpellsWanted : NameLists → List (List ℕ) → Option (List (List ℕ)) → Type 0
-SpellsWanted names words None = words ≡ codes "refused" ∷ []
-SpellsWanted names words (Some pattern) = SpellsPattern names words pattern
+abbrev pub SpellsWanted : NameLists → List (List ℕ) → Wanted → Type 0
+SpellsWanted names words wanted.Refused = words ≡ codes "refused" ∷ []
+SpellsWanted names words (wanted.Line pattern) = SpellsPattern names words pattern
+SpellsWanted names words wanted.End = ⊥
+SpellsWanted names words (wanted.State pattern asked) = ⊥
 
 -- with `not` before it, or without
 abbrev pub Negated : (List (List ℕ) → Type 0) → Bool → List (List ℕ) → Type 0
@@ -62,7 +72,7 @@ Negated Spells true words = (rest : List (List ℕ)) × (words ≡ codes "not" �
 Negated Spells false words = Spells words
 
 abbrev pub SpellsItem : NameLists → List (List ℕ) → Item → Type 0
-SpellsItem names words item = Negated (λ rest. SpellsWanted names rest item.pattern) item.negated words
+SpellsItem names words item = Negated (λ rest. SpellsWanted names rest item.wanted) item.negated words
 
 abbrev pub SpellsPart : NameLists → List (List ℕ) → List Item → Type 0
 SpellsPart names words part = SpellsRow (SpellsItem names) (codes "&") words part
@@ -106,10 +116,14 @@ abbrev pub AsksWords : NameLists → List (List ℕ) → List Step → Type 0
 AsksWords names words question =
     (steps : List (ℕ × Step)) × SpellsRow (λ front step. SpellsStep names front step.0 step.1) (codes "then") words steps × (question ≡ repeated steps)
 
--- a text of words, with one blank between each two. Its steps are not too many
-pub record Asks (names : NameLists) (text : List ℕ) (question : List Step) : Type 0 where
+-- a text of words, with one blank between each two, and the steps that are written there, each pattern as one of a record. They are not too many
+pub record Writes (names : NameLists) (text : List ℕ) (question : List Step) : Type 0 where
   pub words : List (List ℕ)
   pub parts : text ≡ join_with_byte space words
   pub cut : list_all (list_all (λ b. not (b == space))) words ≡ true
   pub asked : AsksWords names words question
   pub few : length question ≤ most_steps
+
+-- what is written asks for facts wherever its patterns speak of a state
+abbrev pub Asks : NameLists → List ℕ → List Step → Type 0
+Asks names text question = (written : List Step) × Writes names text written × (question ≡ resolved names written)

@@ -8,6 +8,7 @@ use Rattle.fmp_rules.specs.Step.{step}
 use Rattle.fmp_kernel_order.specs.Queues.{Queues, listed}
 use Rattle.fmp_search.specs.Runs.{Goes}
 use Rattle.fmp_search_pattern.specs.Questions.{allows}
+use Rattle.fmp_search_pattern.specs.Sights.{Sight}
 use Rattle.fmp_search_kernel.specs.Walked.{Walked}
 use Rattle.fmp_search_orders.specs.Places.{Place, event_of, is_marked, next_place, went, sight_at, after, report_of, report}
 
@@ -43,7 +44,7 @@ unfolding after
 not_gone w w' s is = rw is refl
 
 -- where no event may be marked so, no step leads anywhere that marks its event so
-pub none_goes : (w : Place) (s : ℕ) → ((text : List ℕ) → allows w.question w.seen (is_marked s) text ≡ false) → after w s ≡ None
+pub none_goes : (w : Place) (s : ℕ) → ((sight : Sight) → allows w.question w.seen (is_marked s) sight ≡ false) → after w s ≡ None
 unfolding after
 none_goes w s never = by (event_of w s)
   where

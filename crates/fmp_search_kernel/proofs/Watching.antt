@@ -7,6 +7,7 @@ use Rattle.fmp_rules.specs.Step.{step}
 use Rattle.fmp_kernel_order.specs.Queues.{listed}
 use Rattle.fmp_search.specs.Runs.{Goes, Watches}
 use Rattle.fmp_search_pattern.specs.Questions.{allows}
+use Rattle.fmp_search_pattern.specs.Sights.{Sight}
 use Rattle.fmp_search_pattern.specs.Lasting.{Lasting, is_so}
 use Rattle.fmp_search_orders.specs.Lasting.{step_test, test_there}
 use Rattle.fmp_search_orders.specs.Places.{Place, origin, event_of, is_marked, went, sight_at, allowed, next_place, after}
@@ -15,13 +16,13 @@ use Rattle.fmp_search_kernel.specs.Walked.{origin_of}
 
 -- ---- steps where no question is asked
 
-refused : (n : ℕ) (text : List ℕ) → allows [] n true text ≡ false
+refused : (n : ℕ) (sight : Sight) → allows [] n true sight ≡ false
 unfolding allows
-refused n text = refl
+refused n sight = refl
 
-passed : (n : ℕ) (text : List ℕ) → allows [] n false text ≡ true
+passed : (n : ℕ) (sight : Sight) → allows [] n false sight ≡ true
 unfolding allows
-passed n text = refl
+passed n sight = refl
 
 module _ (w : Place) (none : w.question ≡ []) (s : ℕ) where
   -- one with a mark cannot be made

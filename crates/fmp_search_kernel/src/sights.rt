@@ -1,24 +1,26 @@
-//! The lines of an event, in which a question looks for its moments.
-ghost use Rattle.std.specs.Prelude.{◌≡◌, ◌≤◌, ◌<◌, ◌+◌, ◌*◌, ◌^◌, ◌++◌, ℕ, List, [], false, not, drop, length, map, IfOk, OnOk, if◌then◌else◌, codes};
-ghost use Rattle.fmp_kernel_order.specs.Queues.{listed};
+//! What a question sees of an event.
+ghost use Rattle.std.specs.Prelude.{◌≡◌, ◌≤◌, ◌<◌, ◌+◌, ◌*◌, ◌^◌, false, not, drop, length, map, OnOk, if◌then◌else◌};
 ghost use Rattle.fmp_search_orders.specs.Orders.{each};
 ghost use Rattle.fmp_search_orders.specs.Sights as sights;
 ghost use Rattle.fmp_search_orders.specs.Watched.{bits_of};
 ghost use Rattle.fmp_search_pattern.specs.Lasting.{is_so};
 ghost use Rattle.fmp_search_pattern.specs.Questions as spec;
-ghost use Rattle.fmp_show_state.specs.States.{state_lines};
-ghost use Rattle.fmp_trace.specs.Lines.{line_text};
+ghost use Rattle.fmp_search_pattern.specs.Sights.{Sight as AnySight};
+ghost use Rattle.fmp_show_facts.specs.Facts.{is_so as is_asked};
+ghost use Rattle.fmp_trace.specs.Lines.{core_text};
+ghost use Rattle.fmp_search_kernel.specs.Seen.{seen_of};
 ghost use Rattle.fmp_search_kernel.specs.Walked.{count_in, is_idle_on};
 
 use crate::ticks::is_out_of_time;
 use fmp_codes::{Proc, Record};
+use fmp_facts::Asked;
 use fmp_kernel::Kernel;
 use fmp_names::Names;
 use fmp_rules::Config;
 use fmp_search_orders::Rules;
-use fmp_search_pattern::{Lasting, Question, allows};
-use fmp_show_state::put_lines;
-use fmp_trace::trace_line;
+use fmp_search_pattern::{Lasting, Question, Sight};
+use fmp_show_facts::is_so;
+use fmp_trace::put_core;
 use std::alloc::AllocError;
 
 /// Whether on a processor no handler is due, no task runs and no request is pending.
@@ -48,29 +50,57 @@ pub fn is_over(config: &Config, rules: Rules, taken: &[u32; 8], kernel: &Kernel)
     are_idle(config, kernel) && (kernel.is_untimed() || is_out_of_time(config, rules, taken))
 }
 
-/// Replaces a text by the lines of an event: its line of a trace with the number 1, those of the state after it, and `end` where
-/// nothing can change any more.
-pub fn put_sight(
-    text: &mut Vec<u8>,
-    names: &Names,
-    kernel: &Kernel,
-    made: &Record,
-    over: bool,
-) -> Result<(), AllocError>
-    ensures { OnOk result (text.new.items ≡ line_text names.now 1 made.now ++ state_lines listed names.now kernel.now ++ (if over then codes "end\n" else [])) }
+/// Replaces a text by the line of an event without its number, with two blanks before and after it.
+#[tactic(auto, using(crate::proofs::Sighted::line_is, crate::proofs::Sighted::line_long))]
+pub fn put_line(text: &mut Vec<u8>, names: &Names, made: &Record) -> Result<(), AllocError>
+    ensures { OnOk result (text.new.items ≡ sights.padded (drop 2 (core_text names.now 1 made.now))) }
 {
-    trace_line(1, made, names, text)?;
-    put_lines(text, names, kernel.machine())?;
-    if over {
-        text.extend_from_slice(b"end\n")?;
-    }
+    text.clear();
+    put_core(text, names, 1, made)?;
+    text.extend_from_slice(b"  ")?;
+    text[0] = b' ';
     Ok(())
 }
 
-/// Whether it may depend on the lines of an event whether it may be marked so, where so many steps of the question were seen.
+/// An event that a kernel answered: its line between blanks, the kernel after it, and whether nothing can change any more.
+#[derive(Clone, Copy)]
+pub struct Seen<'a> {
+    line: &'a [u8],
+    kernel: &'a Kernel,
+    over: bool,
+}
+
+impl<'a> Seen<'a> {
+    /// The event of this line, after which the kernel is so.
+    pub fn new(line: &'a [u8], kernel: &'a Kernel, over: bool) -> Seen<'a>
+        ensures { seen_of result ≡ record { line = line.now; is_so = is_asked kernel.now; over = over } }
+    {
+        Seen { line, kernel, over }
+    }
+}
+
+impl<'a> Sight for Seen<'a> {
+    ghost use Rattle.fmp_search_kernel.specs.Seen.{seen_of};
+
+    ghost sight = { seen_of };
+
+    fn line(&self) -> &[u8] {
+        self.line
+    }
+
+    fn is_so(&self, asked: &Asked) -> bool {
+        is_so(self.kernel.machine(), asked)
+    }
+
+    fn is_over(&self) -> bool {
+        self.over
+    }
+}
+
+/// Whether it may depend on an event whether it may be marked so, where so many steps of the question were seen.
 #[tactic(auto, unfolding(fmp_search_pattern::specs::Questions::allows))]
 pub fn has_to_look(question: &Question, seen: u32, marked: bool) -> bool
-    ensures { result ≡ false → (text : List ℕ) → spec.allows question.now seen marked text ≡ not marked }
+    ensures { result ≡ false → (sight : AnySight) → spec.allows question.now seen marked sight ≡ not marked }
 {
     match question.steps().get(seen as usize) {
         None => false,
@@ -78,43 +108,19 @@ pub fn has_to_look(question: &Question, seen: u32, marked: bool) -> bool
     }
 }
 
-/// Whether an event may be marked so, where so many steps of the question were seen. A number of one digit and a blank stand before its
-/// lines.
-pub fn look(
-    line: &mut Vec<u8>,
-    text: &[u8],
-    question: &Question,
-    seen: u32,
-    marked: bool,
-) -> Result<bool, AllocError>
-    requires { 2 ≤ length text.now }
-    ensures { IfOk result (λ r. r ≡ spec.allows question.now seen marked (drop 2 text.now)) }
-{
-    allows(line, &text[2..], question, seen, marked)
-}
-
-/// Which of these are so of an event with these lines, as bits: the first is the lowest.
-fn bits_at(line: &mut Vec<u8>, lines: &[u8], lasting: &[Lasting]) -> Result<u64, AllocError>
+/// Which of these are so of an event, as bits: the first is the lowest.
+pub fn bits_at(event: &Seen<'_>, lasting: &[Lasting]) -> u64
     requires { length lasting.now ≤ 64 }
-    ensures { IfOk result (λ n. n ≡ bits_of (map (λ l. is_so l lines.now) lasting.now)) }
+    ensures { result ≡ bits_of (map (λ l. is_so l (seen_of event.now)) lasting.now) }
 {
     let mut bits: u64 = 0;
     let mut at = lasting.len();
     while 0 < at {
         at -= 1;
-        let so = lasting[at].is_so(line, lines)?;
+        let so = lasting[at].is_so(event);
         bits = with_bit(bits, so);
     }
-    Ok(bits)
-}
-
-/// The same, where a number of one digit and a blank stand before the lines.
-pub fn bits_in(line: &mut Vec<u8>, text: &[u8], lasting: &[Lasting]) -> Result<u64, AllocError>
-    requires long { 2 ≤ length text.now }
-    requires few { length lasting.now ≤ 64 }
-    ensures { IfOk result (λ n. n ≡ bits_of (map (λ l. is_so l (drop 2 text.now)) lasting.now)) }
-{
-    bits_at(line, &text[2..], lasting)
+    bits
 }
 
 /// A number with one bit more, which is the lowest.

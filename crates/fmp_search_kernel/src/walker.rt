@@ -10,15 +10,16 @@ ghost use Rattle.fmp_search_orders.specs.Lasting.{step_test};
 ghost use Rattle.fmp_search_orders.specs.Watched.{bits_of};
 ghost use Rattle.fmp_search_pattern.specs.Lasting.{is_so};
 ghost use Rattle.fmp_search_pattern.specs.Questions.{allows};
+ghost use Rattle.fmp_search_pattern.specs.Sights.{Sight as AnySight};
 ghost use Rattle.fmp_search_kernel.specs.Walked.{origin_of};
 
-use crate::sights::{bits_in, has_to_look, is_over, look, put_sight};
+use crate::sights::{Seen, bits_at, has_to_look, is_over, put_line};
 use crate::ticks::{advance_idled, advance_taken, keeps_pace, lower_taken, may_tick};
 use fmp_codes::{Answer, Event, Proc, Record, Runner};
 use fmp_kernel::Kernel;
 use fmp_rules::Config;
 use fmp_search_orders::Rules;
-use fmp_search_pattern::{Lasting, Question};
+use fmp_search_pattern::{Lasting, Question, allows};
 use fmp_smp_histories::{advance_handler, advance_task, asked_at};
 use fmp_text_scripts::Scripts;
 use std::alloc::AllocError;
@@ -50,9 +51,8 @@ pub struct Walker<'a> {
     pub(crate) left: u32,
     /// What the last event was told to have done.
     made: Record,
-    /// Room for the lines of an event, and for one of them.
+    /// Room for the line of an event.
     text: Vec<u8>,
-    line: Vec<u8>,
 }
 
 impl<'a> Model for Walker<'a> {
@@ -208,7 +208,7 @@ impl<'a> Walker<'a> {
 
     /// Whether an event may be marked so here: where all steps of the question were seen none may have a mark.
     pub(crate) fn may_mark(&self, marked: bool) -> bool
-        ensures { result ≡ false → (text : List ℕ) → allows self.now.place.question self.now.place.seen marked text ≡ false }
+        ensures { result ≡ false → (sight : AnySight) → allows self.now.place.question self.now.place.seen marked sight ≡ false }
     {
         !marked || has_to_look(self.question, self.seen, marked)
     }
@@ -253,7 +253,6 @@ impl<'a> Walker<'a> {
             left: MOST,
             made: Record::answer(Event::Tick(Proc::new(1)), None, Answer::Nothing),
             text: Vec::new(config.allocator()),
-            line: Vec::new(config.allocator()),
         })
     }
 
@@ -354,14 +353,9 @@ impl<'a> Walker<'a> {
         ensures same { self.new ≡ self.old }
     {
         let over = is_over(self.config, self.rules, &self.taken, &self.kernel);
-        put_sight(
-            &mut self.text,
-            self.config.names(),
-            &self.kernel,
-            &self.made,
-            over,
-        )?;
-        bits_in(&mut self.line, &self.text, lasting)
+        put_line(&mut self.text, self.config.names(), &self.made)?;
+        let seen = Seen::new(&self.text, &self.kernel, over);
+        Ok(bits_at(&seen, lasting))
     }
 
     /// Whether the last event may be marked so, for a question of which so many steps were seen before it. The place stays as it is, and the
@@ -374,13 +368,8 @@ impl<'a> Walker<'a> {
             return Ok(!marked);
         }
         let over = is_over(self.config, self.rules, &self.taken, &self.kernel);
-        put_sight(
-            &mut self.text,
-            self.config.names(),
-            &self.kernel,
-            &self.made,
-            over,
-        )?;
-        look(&mut self.line, &self.text, self.question, seen, marked)
+        put_line(&mut self.text, self.config.names(), &self.made)?;
+        let event = Seen::new(&self.text, &self.kernel, over);
+        Ok(allows(&event, self.question, seen, marked))
     }
 }

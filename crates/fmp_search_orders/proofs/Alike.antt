@@ -1,22 +1,27 @@
 -- What a place says of events and lines is what its history says.
-use Rattle.std.proofs.Common.{◌≡◌, ℕ, zero, suc, ◌+◌, ◌≤◌, Bool, true, false, ◌&&◌, ◌||◌, not, ◌∙◌, Option, None, Some, ◌++◌, [], inl, inr, refl, ap, sym, subst, arith, cond}
-use Rattle.std.specs.Prelude.{nat_lt, is_none, is_some, drop, codes}
+use Rattle.std.proofs.Common.{◌≡◌, ℕ, zero, suc, ◌+◌, ◌≤◌, Bool, true, false, ◌&&◌, ◌||◌, not, ◌∙◌, Option, None, Some, inl, inr, refl, ap, sym, subst, arith}
+use Rattle.std.specs.Prelude.{nat_lt, is_none, is_some, drop}
 use Rattle.std.proofs.lemmas.Bool.{and_parts, cases_Bool, cases_eq, ltb-true, ltb-false, lt-ltb, le-ltb}
 use Rattle.fmp_codes.specs.Numbers.{as_proc, within}
 use Rattle.fmp_codes.proofs.Same.{processors_same}
 use Rattle.fmp_codes.specs.declared.numbers.Proc.{Proc}
 use Rattle.fmp_codes.specs.declared.records.Record.{Record}
 use Rattle.fmp_setup.specs.Setup.{Setup, has_time}
-use Rattle.fmp_rules.specs.Arrivals.{State, numbered}
+use Rattle.fmp_rules.specs.Arrivals.{State}
 use Rattle.fmp_rules.specs.World.{World, processor, runner_of}
-use Rattle.fmp_kernel_order.specs.Queues.{Queues, listed}
+use Rattle.fmp_kernel_order.specs.Queues.{Queues}
 use Rattle.fmp_law_lists.specs.Stands.{Stands}
-use Rattle.fmp_trace.specs.Lines.{line_text}
-use Rattle.fmp_show_state.specs.States.{state_lines}
-use Rattle.fmp_show_state.proofs.Alike.{states_alike}
+use Rattle.fmp_trace.specs.Lines.{core_text}
+use Rattle.fmp_facts.specs.Asking.{Asked}
+use Rattle.fmp_show_facts.specs.Facts.{is_so}
 use Rattle.fmp_search_orders.specs.declared.rules.Rules.{Rules}
 use Rattle.fmp_search_orders.specs.Orders.{each, is_left, is_near, may_tick}
-use Rattle.fmp_search_orders.specs.Sights.{is_untimed, is_out_of_time, is_over, sight}
+use Rattle.fmp_search_orders.specs.Sights.{is_untimed, is_out_of_time, is_over, padded, sight}
+
+-- nothing that is asked of a state looks at its order
+so_alike : (k : World Queues) (m : State) → Stands k m → is_so k ≡ is_so m
+unfolding is_so
+so_alike k m stands = ap (λ (w : World Queues). is_so w) stands.same
 
 -- tests that are the same of each of the first processors
 each_same : (f g : Proc → Bool) (n : ℕ) → ((p : Proc) → p.number ≤ n → f p ≡ g p) → each f n ≡ each g n
@@ -92,13 +97,13 @@ module _ (c : Setup) (rules : Rules) (a b : ℕ → ℕ) (shifted : AreShifted c
       ap (λ x. each (λ p. is_none (runner_of k p) && not (processor k p).latch) c.processors && (is_untimed k || x)) time_same
       ∙ ap (λ (w : World Queues). each (λ p. is_none (runner_of w p) && not (processor w p).latch) c.processors && (is_untimed w || is_out_of_time c rules b)) stands.same
 
-  pub sight_shifted : (k : World Queues) (m : State) (r : Record) → Stands k m → sight listed c rules a k r ≡ sight numbered c rules b m r
+  pub sight_shifted : (k : World Queues) (m : State) (r : Record) → Stands k m → sight c rules a k r ≡ sight c rules b m r
   unfolding sight
   sight_shifted k m r stands =
-      ap (λ x. drop 2 (line_text c.names 1 r) ++ x ++ cond (is_over c rules a k) (codes "end\n") []) (states_alike k m stands c.names)
-      ∙ ap (λ x. drop 2 (line_text c.names 1 r) ++ state_lines numbered c.names m ++ cond x (codes "end\n") []) (over_same k m stands)
+      ap (λ (so : Asked → Bool). record { line = padded (drop 2 (core_text c.names 1 r)); is_so = so; over = is_over c rules a k }) (so_alike k m stands)
+      ∙ ap (λ (over : Bool). record { line = padded (drop 2 (core_text c.names 1 r)); is_so = is_so m; over = over }) (over_same k m stands)
 
 -- counts that are the same
 pub sight_same : (c : Setup) (rules : Rules) (a b : ℕ → ℕ) → ((p : Proc) → a p.number ≡ b p.number) → (k : World Queues) (m : State) (r : Record) → Stands k m →
-    sight listed c rules a k r ≡ sight numbered c rules b m r
+    sight c rules a k r ≡ sight c rules b m r
 sight_same c rules a b same = sight_shifted c rules a b (unshifted c rules a b same)

@@ -18,6 +18,7 @@ use Rattle.fmp_smp_histories.proofs.Histories.{after_more, events_more}
 use Rattle.fmp_search.specs.Runs.{run}
 use Rattle.fmp_search.specs.Guides.{Follows, NoneWithinAlong, NoneEverAlong, IsShortestAlong}
 use Rattle.fmp_search_pattern.specs.declared.question.Step.{Step}
+use Rattle.fmp_search_pattern.specs.Sights.{Sight}
 use Rattle.fmp_search_pattern.specs.Questions.{allows, seen}
 use Rattle.fmp_search_orders.specs.declared.rules.Rules.{Rules}
 use Rattle.fmp_search_orders.specs.Orders.{MayHappen, AreInOrder, IsOrder}
@@ -150,7 +151,7 @@ module _ (c : Setup) (scripts : List Steps) (rs : Rules) (valid : IsValid c) whe
   on_start = ([], leads_origin c scripts rs [] valid)
 
   -- no event is refused
-  pub passed : (n : ℕ) (text : List ℕ) → allows [] n false text ≡ true
+  pub passed : (n : ℕ) (text : Sight) → allows [] n false text ≡ true
   unfolding allows
   passed n text = refl
 

@@ -303,8 +303,8 @@ module _ (c : Setup) (scripts : List Steps) (rs : Rules) (question : List Step) 
   pub same_sight : (m : Bool) → sight_at (went w m did) did.1 ≡ last_sight c rs (h ++ did.1 ∷ []) did.1
   same_sight m =
       let v = went w m did in
-      ap (λ (x : Setup). sight listed x w.rules (count_at v) did.0 did.1) leads.config_is
-      ∙ ap (λ (x : Rules). sight listed c x (count_at v) did.0 did.1) leads.rules_are
+      ap (λ (x : Setup). sight x w.rules (count_at v) did.0 did.1) leads.config_is
+      ∙ ap (λ (x : Rules). sight c x (count_at v) did.0 did.1) leads.rules_are
       ∙ sight_shifted c rs (count_at v) (counted rs (h ++ did.1 ∷ [])) (counts_shifted c rs v (h ++ did.1 ∷ []) taken_more) did.0 (state_after c (h ++ did.1 ∷ [])) did.1 stands_more
 
   -- the place allows a mark where the question does

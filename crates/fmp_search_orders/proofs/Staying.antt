@@ -17,6 +17,7 @@ use Rattle.fmp_smp_histories.proofs.Histories.{run_more}
 use Rattle.fmp_search.specs.Runs.{run}
 use Rattle.fmp_search.specs.Forever.{EndsForEver}
 use Rattle.fmp_search_pattern.specs.Questions.{allows}
+use Rattle.fmp_search_pattern.specs.Sights.{Sight}
 use Rattle.fmp_search_orders.specs.declared.rules.Rules.{Rules}
 use Rattle.fmp_search_orders.specs.Orders.{MayHappen, IsOrder}
 use Rattle.fmp_search_orders.specs.Shown.{last_sight}
@@ -123,7 +124,7 @@ module _ (c : Setup) (scripts : List Steps) (rs : Rules) (valid : IsValid c) whe
     pub next_is : u ≡ went w false (step listed w.machine event)
     pub on : On u (h ++ (step listed w.machine event).1 ∷ [])
 
-  refused : (n : ℕ) (text : List ℕ) → allows [] n true text ≡ false
+  refused : (n : ℕ) (text : Sight) → allows [] n true text ≡ false
   unfolding allows
   refused n text = refl
 
@@ -149,7 +150,7 @@ module _ (c : Setup) (scripts : List Steps) (rs : Rules) (valid : IsValid c) whe
   unfolding after
   made_of w h on s u goes = made_by w h on s u (event_of w s) refl (is_marked s) refl goes
 
-  module _ (test : List ℕ → Bool) where
+  module _ (test : Sight → Bool) where
     abbrev q : Place
     q = origin c scripts rs []
 
@@ -267,5 +268,5 @@ module _ (c : Setup) (scripts : List Steps) (rs : Rules) (valid : IsValid c) whe
           };
     }
 
-pub lasting_answer : (c : Setup) (scripts : List Steps) (rs : Rules) (test : List ℕ → Bool) → IsValid c → LastingAnswer c scripts rs test
+pub lasting_answer : (c : Setup) (scripts : List Steps) (rs : Rules) (test : Sight → Bool) → IsValid c → LastingAnswer c scripts rs test
 lasting_answer c scripts rs test valid = lasting c scripts rs valid test

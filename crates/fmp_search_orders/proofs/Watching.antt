@@ -10,6 +10,7 @@ use Rattle.fmp_setup.specs.Valid.{IsValid}
 use Rattle.fmp_search.specs.Runs.{run}
 use Rattle.fmp_search.specs.Forever.{EndsForEver, is_bit, test_of}
 use Rattle.fmp_search_pattern.specs.Lasting.{Lasting, is_so}
+use Rattle.fmp_search_pattern.specs.Sights.{Sight}
 use Rattle.fmp_search_orders.specs.declared.rules.Rules.{Rules}
 use Rattle.fmp_search_orders.specs.Places.{Place, origin, after}
 use Rattle.fmp_search_orders.specs.Lasting.{step_test}
@@ -63,7 +64,7 @@ module _ (lasting : List Lasting) where
   unwatched (Some p) w is = (p, refl, same_watched (W p) w is)
 
   module _ (k : ℕ) (less : k < length lasting) where
-    abbrev asked : List ℕ → Bool
+    abbrev asked : Sight → Bool
     asked = is_so (lasting_at lasting k)
 
     -- the bit of a number is what is asked under it

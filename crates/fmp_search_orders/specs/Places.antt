@@ -22,6 +22,7 @@ use Rattle.fmp_smp_histories.specs.Places.{moved_tasks, moved_handlers}
 use Rattle.fmp_smp_histories.specs.Scripted.{asked_at}
 use Rattle.fmp_search_pattern.specs.declared.question.Step.{Step}
 use Rattle.fmp_search_pattern.specs.Questions.{allows}
+use Rattle.fmp_search_pattern.specs.Sights.{Sight}
 use Rattle.fmp_search_orders.specs.declared.rules.Rules.{Rules}
 use Rattle.fmp_search_orders.specs.Orders.{counts_ticks, each, idled_next, keeps_pace, may_tick}
 use Rattle.fmp_search_orders.specs.Sights.{sight}
@@ -123,9 +124,9 @@ went w mark did = record w {
   seen = if mark then w.seen + 1 else w.seen;
 }
 
--- the lines of the event that led to a place
-abbrev pub sight_at : Place → Record → List ℕ
-sight_at w r = sight listed w.config w.rules (count_at w) w.machine r
+-- what is seen of the event that led to a place
+abbrev pub sight_at : Place → Record → Sight
+sight_at w r = sight w.config w.rules (count_at w) w.machine r
 
 -- the same place, if its event may be marked so
 abbrev pub allowed : Place → Bool → World Queues × Record → Option Place

@@ -4,17 +4,17 @@ use Rattle.std.specs.Prelude.{◌≡◌, ℕ, suc, ◌≤◌, Bool, true, List, 
 use Rattle.fmp_codes.specs.declared.records.Record.{Record}
 use Rattle.fmp_text_scripts.specs.Scripts.{Steps}
 use Rattle.fmp_setup.specs.Setup.{Setup}
-use Rattle.fmp_rules.specs.Arrivals.{numbered}
 use Rattle.fmp_smp_histories.specs.Histories.{state_after}
 use Rattle.fmp_search_pattern.specs.declared.question.Step.{Step}
 use Rattle.fmp_search_pattern.specs.Questions.{allows, seen}
+use Rattle.fmp_search_pattern.specs.Sights.{Sight}
 use Rattle.fmp_search_orders.specs.declared.rules.Rules.{Rules}
 use Rattle.fmp_search_orders.specs.Orders.{counted, IsOrder}
 use Rattle.fmp_search_orders.specs.Sights.{sight}
 
--- the lines of the last record of a history
-abbrev pub last_sight : Setup → Rules → List Record → Record → List ℕ
-last_sight c rules h r = sight numbered c rules (counted rules h) (state_after c h) r
+-- what is seen of the last record of a history
+abbrev pub last_sight : Setup → Rules → List Record → Record → Sight
+last_sight c rules h r = sight c rules (counted rules h) (state_after c h) r
 
 -- each record is marked as the question allows it, where so many of its steps were seen before
 pub record IsMarked (c : Setup) (rules : Rules) (question : List Step) (h : List Record) (marks : List Bool) : Type 0 where

@@ -1,12 +1,13 @@
--- The lines of an event: what patterns are looked for in. docs/FORMATS.md has the forms of a line of a trace and of a state.
-use Rattle.std.specs.Prelude.{ℕ, Bool, not, ◌&&◌, ◌||◌, is_none, List, [], ◌++◌, drop, if◌then◌else◌, codes}
+-- What is seen of an event: what patterns are looked for in. docs/FORMATS.md has the form of a line of a trace.
+use Rattle.std.specs.Prelude.{ℕ, Bool, not, ◌&&◌, ◌||◌, is_none, List, [], ◌∷◌, ◌++◌, drop}
 use Rattle.std.specs.List.{list_all}
+use Rattle.fmp_bytes.specs.Bytes.{space}
 use Rattle.fmp_codes.specs.declared.records.Record.{Record}
 use Rattle.fmp_setup.specs.Setup.{Setup, has_time}
-use Rattle.fmp_rules.specs.Ordering.{Ordering}
 use Rattle.fmp_rules.specs.World.{World, processor, runner_of}
-use Rattle.fmp_trace.specs.Lines.{line_text}
-use Rattle.fmp_show_state.specs.States.{state_lines}
+use Rattle.fmp_trace.specs.Lines.{core_text}
+use Rattle.fmp_show_facts.specs.Facts.{is_so}
+use Rattle.fmp_search_pattern.specs.Sights.{Sight}
 use Rattle.fmp_search_orders.specs.declared.rules.Rules.{Rules}
 use Rattle.fmp_search_orders.specs.Orders.{each, is_left}
 
@@ -23,8 +24,11 @@ unfoldable pub is_over : {Q : Type 0} → Setup → Rules → (ℕ → ℕ) → 
 is_over c rules count w =
     each (λ p. is_none (runner_of w p) && not (processor w p).latch) c.processors && (is_untimed w || is_out_of_time c rules count)
 
--- the lines of an event: its line of the trace, without the number and the blank after it, those of the state after it, and `end`
--- where nothing can change any more
-unfoldable pub sight : {Q : Type 0} → Ordering Q → Setup → Rules → (ℕ → ℕ) → World Q → Record → List ℕ
-sight k c rules count w r =
-    drop 2 (line_text c.names 1 r) ++ state_lines k c.names w ++ (if is_over c rules count w then codes "end\n" else [])
+-- a line between blanks, so that the words at its ends are whole words too
+abbrev pub padded : List ℕ → List ℕ
+padded line = space ∷ space ∷ line ++ space ∷ space ∷ []
+
+-- what is seen of an event: its line of the trace, without the number and the blank after it, what is so of the state after it, and whether
+-- nothing can change any more
+unfoldable pub sight : {Q : Type 0} → Setup → Rules → (ℕ → ℕ) → World Q → Record → Sight
+sight c rules count w r = record { line = padded (drop 2 (core_text c.names 1 r)); is_so = is_so w; over = is_over c rules count w }

@@ -11,6 +11,7 @@ ghost use Rattle.fmp_search_orders.specs.Joined.{RootsAnswer};
 ghost use Rattle.fmp_search_orders.specs.Lasting.{LastingAnswer};
 ghost use Rattle.fmp_search_orders.specs.Watched.{WatchedAnswer};
 ghost use Rattle.fmp_search_pattern.specs.Lasting.{Lasting};
+ghost use Rattle.fmp_search_pattern.specs.Sights.{Sight};
 ghost use Rattle.fmp_search_orders.specs.Made.{MadeAnswer};
 ghost use Rattle.fmp_search_orders.specs.Laws.{RunsAreOrders, PlacesAnswer};
 ghost use Rattle.fmp_search_orders.specs.Orders.{IsOrder};
@@ -47,7 +48,7 @@ pub fn roots_answer()
 /// does is an order that does.
 #[tactic(auto, using(crate::proofs::Staying::lasting_answer))]
 pub fn lasting_answer()
-    ensures { (c : Setup) (scripts : List Steps) (rules : Rules) (test : List ℕ → Bool) → IsValid c → LastingAnswer c scripts rules test }
+    ensures { (c : Setup) (scripts : List Steps) (rules : Rules) (test : Sight → Bool) → IsValid c → LastingAnswer c scripts rules test }
 {}
 
 /// The same of places with what is asked of every event from one on: what is known of the runs over them is known of all orders.

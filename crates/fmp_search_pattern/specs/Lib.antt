@@ -1,3 +1,4 @@
+pub mod Sights  -- What a question sees of an event.
 pub mod Matching  -- When a pattern stands in a line.
 pub mod Items  -- When an item of a moment, or a part of it, is in the lines of an event.
 pub mod Questions  -- Questions, and when their moments are there.

@@ -1,8 +1,6 @@
 -- When a pattern stands in a line. A pattern is kept as the pieces between its stars, the blanks before its first word and after its last
--- one with them, so that only whole words match.
-use Rattle.std.specs.Prelude.{◌≡◌, ℕ, ◌==◌, Bool, true, false, not, ◌&&◌, ◌||◌, List, [], ◌∷◌, ◌++◌}
-use Rattle.std.specs.List.{list_all}
-use Rattle.fmp_bytes.specs.Bytes.{space, line_feed, pieces_of}
+-- one with them, so that only whole words match a line between blanks.
+use Rattle.std.specs.Prelude.{ℕ, ◌==◌, Bool, true, false, ◌&&◌, ◌||◌, List, [], ◌∷◌}
 
 -- some item passes the test
 abbrev pub any : {A : Type 0} → (A → Bool) → List A → Bool
@@ -29,18 +27,3 @@ somewhere test (c ∷ text) = test (c ∷ text) || somewhere test text
 abbrev pub stand : List (List ℕ) → List ℕ → Bool
 stand [] text = true
 stand (piece ∷ pieces) text = somewhere (begins piece (stand pieces)) text
-
--- a line between blanks
-abbrev pub padded : List ℕ → List ℕ
-padded line = space ∷ space ∷ line ++ space ∷ space ∷ []
-
--- a pattern stands in some line of a text
-unfoldable pub has_pattern : List ℕ → List (List ℕ) → Bool
-has_pattern text pattern = any (λ line. stand pattern (padded line)) (pieces_of line_feed text)
-
--- bytes that stand in a piece, without a blank
-pub record IsWordIn (piece word : List ℕ) : Type 0 where
-  pub before : List ℕ
-  pub following : List ℕ
-  pub there : piece ≡ before ++ (word ++ following)
-  pub solid : list_all (λ b. not (b == space)) word ≡ true

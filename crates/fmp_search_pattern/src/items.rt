@@ -1,16 +1,46 @@
 //! Parts of a moment, and their items.
 ghost use Rattle.std.specs.Prelude.{◌≡◌, IfOk};
-ghost use Rattle.std.specs.Option.{option_copied};
 
 use crate::question::Pattern;
+use fmp_facts::Choice;
 use std::alloc::{AllocError, Global};
 use std::marker::Model;
 
-/// A pattern that is in some line, or must not be, or in place of the pattern the code of a refused call.
+/// What an item asks for.
+#[derive(Drop)]
+pub enum Wanted {
+    /// The code of a refused call.
+    Refused,
+    /// That nothing can change any more.
+    End,
+    /// A pattern of the event's line of a trace.
+    Line(Pattern),
+    /// One of some facts of the state after it, with the words that ask for them.
+    State(Pattern, Choice),
+}
+
+impl Wanted {
+    /// The same once more. The error is want of memory.
+    fn copy(&self, alloc: Global) -> Result<Wanted, AllocError>
+        ensures { IfOk result (λ w. w ≡ self.now) }
+    {
+        match self {
+            Wanted::Refused => Ok(Wanted::Refused),
+            Wanted::End => Ok(Wanted::End),
+            Wanted::Line(pattern) => Ok(Wanted::Line(pattern.copy(alloc)?)),
+            Wanted::State(words, choice) => Ok(Wanted::State(
+                words.copy(alloc)?,
+                choice.copy(alloc)?,
+            )),
+        }
+    }
+}
+
+/// What is asked for, and whether it is to be there or must not be.
 #[derive(Drop)]
 pub struct Item {
     negated: bool,
-    pattern: Option<Pattern>,
+    wanted: Wanted,
 }
 
 impl Model for Item {
@@ -18,25 +48,15 @@ impl Model for Item {
 
     ghost Value = { spec.Item };
 
-    ghost view = { λ i. record { negated = i.negated; pattern = i.pattern } };
-}
-
-/// A copy of a pattern, and none of none. The error is want of memory.
-fn copied(alloc: Global, pattern: Option<&Pattern>) -> Result<Option<Pattern>, AllocError>
-    ensures { IfOk result (λ o. o ≡ option_copied pattern.entry) }
-{
-    match pattern {
-        None => Ok(None),
-        Some(pattern) => Ok(Some(pattern.copy(alloc)?)),
-    }
+    ghost view = { λ i. record { negated = i.negated; wanted = i.wanted } };
 }
 
 impl Item {
-    /// That the pattern is in some line, or without one the code of a refused call; or that it is in none.
-    pub fn new(negated: bool, pattern: Option<Pattern>) -> Item
-        ensures { result ≡ record { negated = negated; pattern = pattern } }
+    /// That this is there, or that it is not.
+    pub fn new(negated: bool, wanted: Wanted) -> Item
+        ensures { result ≡ record { negated = negated; wanted = wanted } }
     {
-        Item { negated, pattern }
+        Item { negated, wanted }
     }
 
     /// Whether it must not be there.
@@ -46,11 +66,11 @@ impl Item {
         self.negated
     }
 
-    /// The pattern. Without one it is `refused`.
-    pub fn pattern(&self) -> Option<&Pattern>
-        ensures { option_copied result ≡ self.now.pattern }
+    /// What is asked for.
+    pub fn wanted(&self) -> &Wanted
+        ensures { result.now ≡ self.now.wanted }
     {
-        self.pattern.as_ref()
+        &self.wanted
     }
 
     /// The same item once more. The error is want of memory.
@@ -59,7 +79,7 @@ impl Item {
     {
         Ok(Item {
             negated: self.negated,
-            pattern: copied(alloc, self.pattern.as_ref())?,
+            wanted: self.wanted.copy(alloc)?,
         })
     }
 }

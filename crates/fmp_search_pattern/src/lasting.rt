@@ -1,12 +1,12 @@
 //! What a question asks of every event from one on.
-ghost use Rattle.std.specs.Prelude.{◌≡◌, IfOk};
+ghost use Rattle.std.specs.Prelude.{◌≡◌};
 ghost use Rattle.fmp_search_pattern.specs.Lasting as spec;
 ghost use Rattle.fmp_search_pattern.specs.Matching.{any};
 ghost use Rattle.fmp_search_pattern.specs.Questions.{has_moment as is_there};
 
 use crate::matching::has_moment;
 use crate::question::Moment;
-use std::alloc::AllocError;
+use crate::sight::Sight;
 use std::marker::Model;
 
 /// What has to be so of every event from one on: one of some moments is at it, or none of them is.
@@ -46,24 +46,24 @@ impl Lasting {
         &self.moments
     }
 
-    /// Whether it is so of an event with these lines. The room is used up in between; the error is want of memory for a line of the text.
+    /// Whether it is so of an event.
     #[tactic(auto, unfolding(crate::specs::Lasting::is_so))]
-    pub fn is_so(&self, room: &mut Vec<u8>, text: &[u8]) -> Result<bool, AllocError>
-        ensures { IfOk result (λ r. r ≡ spec.is_so self.now text.now) }
+    pub fn is_so<S: Sight>(&self, event: &S) -> bool
+        ensures { result ≡ spec.is_so self.now (S.sight event.now) }
     {
-        let there = has_some(room, text, &self.moments)?;
-        if self.negated { Ok(!there) } else { Ok(there) }
+        let there = has_some(event, &self.moments);
+        if self.negated { !there } else { there }
     }
 }
 
-/// Whether one of these moments is in a text. The room and the error are as at `is_so`.
-fn has_some(room: &mut Vec<u8>, text: &[u8], moments: &[Moment]) -> Result<bool, AllocError>
-    ensures { IfOk result (λ r. r ≡ any (is_there text.now) moments.now) }
+/// Whether one of these moments is at an event.
+fn has_some<S: Sight>(event: &S, moments: &[Moment]) -> bool
+    ensures { result ≡ any (is_there (S.sight event.now)) moments.now }
 {
     for moment in moments {
-        if has_moment(room, text, moment)? {
-            return Ok(true);
+        if has_moment(event, moment) {
+            return true;
         }
     }
-    Ok(false)
+    false
 }

@@ -1,5 +1,5 @@
-//! What a question about runs is: patterns of lines, moments at which they stand or do not, and moments one after the other; and when
-//! they are in the lines of an event.
+//! What a question about runs is: patterns of lines and facts of states, moments at which they are there or not, and moments one after the
+//! other; and when they are at an event.
 //!
 //! docs/FORMATS.md has what a question asks.
 #![tactic(auto)]
@@ -9,9 +9,11 @@ mod lasting;
 mod matching;
 mod question;
 mod refusals;
+mod sight;
 
-pub use items::{Item, Part};
+pub use items::{Item, Part, Wanted};
 pub use lasting::Lasting;
 pub use matching::allows;
 pub use question::{Moment, Pattern, Piece, Question, Step};
 pub use refusals::is_code;
+pub use sight::Sight;

@@ -75,7 +75,7 @@ impl Pattern {
     }
 
     /// A pattern of the same pieces. The error is want of memory.
-    pub(crate) fn copy(&self, alloc: Global) -> Result<Pattern, AllocError>
+    pub fn copy(&self, alloc: Global) -> Result<Pattern, AllocError>
         ensures { IfOk result (λ p. p ≡ self.now) }
     {
         let mut pieces = Vec::new(alloc);

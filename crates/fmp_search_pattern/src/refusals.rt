@@ -1,4 +1,4 @@
-//! Codes, and whether a call is refused in the lines of an event.
+//! Codes, and whether a line is that of a refused call.
 ghost use Rattle.std.specs.Prelude.{◌≡◌};
 ghost use Rattle.fmp_search_pattern.specs.Items as spec;
 
@@ -21,7 +21,7 @@ fn is_refusal(word: &[u8]) -> bool
 }
 
 /// Whether some word of a line is such a code.
-fn is_refused(line: &[u8]) -> bool
+pub(crate) fn is_refused(line: &[u8]) -> bool
     ensures { result ≡ spec.is_refused line.now }
 {
     let mut rest = Some(line);
@@ -29,21 +29,6 @@ fn is_refused(line: &[u8]) -> bool
         let (word, after) = cut(b' ', text);
         rest = after;
         if is_refusal(word) {
-            return true;
-        }
-    }
-    false
-}
-
-/// Whether some word of a text is such a code.
-pub(crate) fn has_refusal(text: &[u8]) -> bool
-    ensures { result ≡ spec.has_refusal text.now }
-{
-    let mut rest = Some(text);
-    while let Some(lines) = rest {
-        let (line, after) = cut(b'\n', lines);
-        rest = after;
-        if is_refused(line) {
             return true;
         }
     }

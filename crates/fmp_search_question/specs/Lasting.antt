@@ -1,5 +1,5 @@
 -- How a question of what stays for ever is read: moments with `for ever` after each and `or` between them, or `deadlock`.
-use Rattle.std.specs.Prelude.{ℕ, ◌-◌, ◌==◌, Bool, true, false, not, ◌&&◌, ◌||◌, nat_le, is_some, List, [], ◌∷◌, ◌++◌, length, Option, None, Some, Result, Ok, Err}
+use Rattle.std.specs.Prelude.{ℕ, ◌==◌, Bool, true, false, not, ◌&&◌, ◌||◌, nat_le, is_some, List, [], ◌∷◌, ◌++◌, length, Option, None, Some, Result, Ok, Err}
 use Rattle.std.specs.Prelude.{if◌then◌else◌, codes}
 use Rattle.std.specs.List.{list_all}
 use Rattle.std.specs.Str.{bytes_eq}
@@ -13,6 +13,7 @@ use Rattle.fmp_search_question.specs.declared.stage.Stage.{Stage}
 use Rattle.fmp_search_question.specs.declared.stage.Stage.TheVariants as stage
 use Rattle.fmp_search_pattern.specs.Lasting.{Lasting}
 use Rattle.fmp_search_words.specs.Words.{is_printed}
+use Rattle.fmp_search_question.specs.Resolved.{resolved_lasting}
 use Rattle.fmp_search_question.specs.Waiting.{comma, waits_but}
 use Rattle.fmp_search_question.specs.Reading as reading
 use Rattle.fmp_search_question.specs.WordByWord.{after_words, result_then}
@@ -109,9 +110,13 @@ abbrev pub ended : ℕ → Parts → Result (List Lasting) (QuestionFault × ℕ
 ended bytes d =
     if may_end d.stage then (if nat_le (length d.lasting) most_parts then Ok d.lasting else Err (TooLong, bytes)) else Err (BadForm, bytes)
 
+-- the parts of a question as it is written, each pattern as one of a record, or its first fault
+unfoldable pub written_in : NameLists → List ℕ → Result (List Lasting) (QuestionFault × ℕ)
+written_in names text = result_then (ended (length text)) (after_words (after_word names) (length text) no_parts (pieces_of space text))
+
 -- the parts of a question, or its first fault
 unfoldable pub lasting_in : NameLists → List ℕ → Result (List Lasting) (QuestionFault × ℕ)
-lasting_in names text = result_then (ended (length text)) (after_words (after_word names) (length text) no_parts (pieces_of space text))
+lasting_in names text = result_then (λ parts. Ok (resolved_lasting names parts)) (written_in names text)
 
 -- ---- which questions are read so
 

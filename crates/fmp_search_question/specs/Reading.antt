@@ -9,6 +9,8 @@ use Rattle.std.specs.Str.{bytes_eq}
 use Rattle.fmp_bytes.specs.Bytes.{space, pieces_of}
 use Rattle.fmp_bytes.specs.Numerals.{are_digits, magnitude_of}
 use Rattle.fmp_names.specs.Names.{NameLists}
+use Rattle.fmp_search_pattern.specs.declared.items.Wanted.{Wanted}
+use Rattle.fmp_search_pattern.specs.declared.items.Wanted.TheVariants as wanted
 use Rattle.fmp_search_pattern.specs.declared.question.Step.{Step}
 use Rattle.fmp_search_question.specs.declared.fault.QuestionFault.{QuestionFault}
 use Rattle.fmp_search_question.specs.declared.fault.QuestionFault.TheVariants.{BadWord, BadForm, UnknownName, TooLong, NoLine}
@@ -16,10 +18,11 @@ use Rattle.fmp_search_question.specs.declared.fault.ReadFault.{ReadFault}
 use Rattle.fmp_search_question.specs.declared.fault.ReadFault.TheVariants.{Memory, Text}
 use Rattle.fmp_search_words.specs.declared.spot.Spot.{Spot}
 use Rattle.fmp_search_words.specs.declared.spot.Spot.TheVariants.{Front, Whole}
-use Rattle.fmp_search_words.specs.Forms.{spot_of}
 use Rattle.fmp_search_pattern.specs.Items.{Item}
-use Rattle.fmp_search_words.specs.Spots.{is_number, stepped}
+use Rattle.fmp_search_words.specs.Spots.{may_end}
 use Rattle.fmp_search_words.specs.Words.{is_printed, is_fine, runs_of, star}
+use Rattle.fmp_search_question.specs.Places.{longer, next_spot}
+use Rattle.fmp_search_question.specs.Resolved.{resolved}
 use Rattle.fmp_search_question.specs.WordByWord.{after_words, at_place, result_then}
 
 -- the greatest number of steps, and of bytes of a pattern with the blanks around it
@@ -44,14 +47,14 @@ abbrev pub nothing_read : Draft
 nothing_read = record { steps = []; times = None; moment = None; parts = []; items = []; negated = false; pattern = []; spot = Front }
 
 -- what the words of a pattern ask for
-abbrev pub wanted_by : List ℕ → Option (List (List ℕ))
-wanted_by words = if bytes_eq words (codes " refused ") then None else Some (pieces_of star words)
+abbrev pub wanted_by : List ℕ → Wanted
+wanted_by words = if bytes_eq words (codes " refused ") then wanted.Refused else wanted.Line (pieces_of star words)
 
--- a pattern is complete. A number alone is none
+-- a pattern is complete. A number alone is none, nor is what does not end with a word of a record or of a state
 unfoldable pub with_pattern : Draft → Option Draft
 with_pattern d =
-    if length d.pattern == 0 || is_number d.spot then None
-    else Some (record d { items = d.items ++ record { negated = d.negated; pattern = wanted_by d.pattern } ∷ []; negated = false; pattern = []; spot = Front })
+    if length d.pattern == 0 || not (may_end d.spot) then None
+    else Some (record d { items = d.items ++ record { negated = d.negated; wanted = wanted_by d.pattern } ∷ []; negated = false; pattern = []; spot = Front })
 
 -- a part is complete
 abbrev pub part_ended : Draft → Draft
@@ -106,10 +109,6 @@ with_not d = if length d.pattern == 0 && not d.negated then Some (record d { neg
 abbrev pub with_refused : Draft → Option Draft
 with_refused d = if length d.pattern == 0 then Some (record d { pattern = codes " refused "; spot = Whole }) else None
 
--- the pattern with a word more
-abbrev pub longer : List ℕ → List ℕ → List ℕ
-longer pattern word = (if length pattern == 0 then space ∷ [] else pattern) ++ word ++ space ∷ []
-
 -- what has to stand there, in its place
 abbrev pub or_form : Option Draft → Result Draft QuestionFault
 or_form None = Err BadForm
@@ -120,7 +119,7 @@ abbrev pub limited : Result Draft QuestionFault → Result Draft QuestionFault
 limited (Err fault) = Err fault
 limited (Ok d) = if nat_le (length d.steps) most_steps then Ok d else Err TooLong
 
--- a word that may stand after those before it in some line
+-- a word that may stand after those before it
 abbrev pub at_spot : Draft → List ℕ → Option Spot → Result Draft QuestionFault
 at_spot d word None = Err NoLine
 at_spot d word (Some spot) = Ok (record d { pattern = longer d.pattern word; spot = spot })
@@ -129,7 +128,7 @@ at_spot d word (Some spot) = Ok (record d { pattern = longer d.pattern word; spo
 unfoldable pub with_word : NameLists → Draft → List ℕ → Result Draft QuestionFault
 with_word names d word =
     if list_all (is_fine names) (runs_of word) then
-    (if nat_le (length (longer d.pattern word)) most_pattern then at_spot d word (stepped d.spot (spot_of names word)) else Err TooLong)
+    (if nat_le (length (longer d.pattern word)) most_pattern then at_spot d word (next_spot names d.pattern d.spot word) else Err TooLong)
     else Err UnknownName
 
 -- one word more
@@ -154,6 +153,10 @@ report (Text fault place) = (fault, place)
 abbrev pub ended : ℕ → Draft → Result (List Step) (QuestionFault × ℕ)
 ended bytes d = result_then (λ e. Ok e.steps) (at_place bytes (limited (or_form (with_step d))))
 
+-- the steps of a question as it is written, each pattern as one of a record, or its first fault
+unfoldable pub written_in : NameLists → List ℕ → Result (List Step) (QuestionFault × ℕ)
+written_in names text = result_then (ended (length text)) (after_words (after_word names) (length text) nothing_read (pieces_of space text))
+
 -- the steps of a question, or its first fault
 unfoldable pub question_in : NameLists → List ℕ → Result (List Step) (QuestionFault × ℕ)
-question_in names text = result_then (ended (length text)) (after_words (after_word names) (length text) nothing_read (pieces_of space text))
+question_in names text = result_then (λ steps. Ok (resolved names steps)) (written_in names text)

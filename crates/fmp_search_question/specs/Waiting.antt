@@ -4,19 +4,17 @@ use Rattle.fmp_bytes.specs.Bytes.{space, pieces_of}
 use Rattle.fmp_codes.specs.declared.kinds.ObjectKind.TheVariants.{Task}
 use Rattle.fmp_codes.specs.declared.kinds.NameKind.TheVariants.{Object}
 use Rattle.fmp_names.specs.Names.{NameLists, names_of, has_name}
+use Rattle.fmp_search_pattern.specs.declared.items.Wanted.TheVariants as wanted
 use Rattle.fmp_search_pattern.specs.Items.{Item}
 use Rattle.fmp_search_pattern.specs.Lasting.{Lasting}
 
 -- the moment of one pattern, which has no star
 abbrev pub only : List ℕ → List (List Item)
-only words = (record { negated = false; pattern = Some (words ∷ []) } ∷ []) ∷ []
+only words = (record { negated = false; wanted = wanted.Line (words ∷ []) } ∷ []) ∷ []
 
--- a line of a state has the words that a task waits, suspended or not
+-- that a task waits: a fact of the state, whether it is suspended too or not
 abbrev pub waits : List ℕ → Lasting
-waits name = record {
-  negated = false;
-  moments = only (space ∷ name ++ codes " waits ") ∷ only (space ∷ name ++ codes " suspended waits ") ∷ [];
-}
+waits name = record { negated = false; moments = only (space ∷ name ++ codes " waits ") ∷ [] }
 
 -- those that are listed after `but`, if it stands there
 abbrev pub comma : ℕ

@@ -4,14 +4,16 @@ ghost use Rattle.std.specs.Option.{option_and_then};
 ghost use Rattle.fmp_bytes.specs.Bytes.{pieces_of};
 ghost use Rattle.std.specs.List.{list_all};
 ghost use Rattle.fmp_search_words.specs.Words.{star, is_fine};
+ghost use Rattle.fmp_search_question.specs.Places.{longer};
 ghost use Rattle.fmp_search_question.specs.Reading as spec;
 ghost use Rattle.fmp_search_question.specs.WordByWord.{fault_of};
 
 use crate::fault::{QuestionFault, ReadFault};
+use crate::place::next_spot;
 use fmp_bytes::{are_digits, cut, magnitude};
 use fmp_names::Names;
-use fmp_search_pattern::{Item, Moment, Part, Pattern, Piece, Question, Step};
-use fmp_search_words::{Spot, are_fine, is_printed, spot_of};
+use fmp_search_pattern::{Item, Moment, Part, Pattern, Piece, Question, Step, Wanted};
+use fmp_search_words::{Spot, are_fine, is_printed};
 use std::alloc::{AllocError, Global};
 use std::marker::Model;
 use std::mem;
@@ -67,14 +69,14 @@ fn pieces(alloc: Global, pattern: &[u8]) -> Result<Vec<Piece>, AllocError>
     Ok(pieces)
 }
 
-/// What the words of a pattern ask for: none where `refused` does. The error is want of memory.
-fn wanted_by(alloc: Global, words: &[u8]) -> Result<Option<Pattern>, AllocError>
+/// What the words of a pattern ask for. The error is want of memory.
+fn wanted_by(alloc: Global, words: &[u8]) -> Result<Wanted, AllocError>
     ensures { IfOk result (λ wanted. wanted ≡ spec.wanted_by words.now) }
 {
     if words == b" refused ".as_slice() {
-        Ok(None)
+        Ok(Wanted::Refused)
     } else {
-        Ok(Some(Pattern::new(pieces(alloc, words)?)))
+        Ok(Wanted::Line(Pattern::new(pieces(alloc, words)?)))
     }
 }
 
@@ -117,13 +119,13 @@ impl Draft {
         }
     }
 
-    /// Puts the pattern after the other items of its part. False where it has no word yet, or is a number alone. The error is want of memory.
+    /// Puts the pattern after the other items of its part. False where it has no word yet, or may not end with its last one. The error is want of memory.
     #[tactic(auto, unfolding(crate::specs::Reading::with_pattern))]
     pub(crate) fn end_pattern(&mut self) -> Result<bool, AllocError>
         ensures none { IfOk result (λ done. done ≡ is_some (spec.with_pattern self.old)) }
         ensures done { (d : spec.Draft) → spec.with_pattern self.old ≡ Some d → OnOk result (self.new ≡ d) }
     {
-        if self.pattern.is_empty() || self.spot.is_number() {
+        if self.pattern.is_empty() || !self.spot.may_end() {
             return Ok(false);
         }
         let wanted = wanted_by(self.alloc, &self.pattern)?;
@@ -303,7 +305,7 @@ impl Draft {
 
     /// Puts a word at the end of the pattern, with a blank on each side. The error is want of memory.
     fn push_word(&mut self, word: &[u8]) -> Result<(), AllocError>
-        ensures { OnOk result (self.new ≡ record self.old { pattern = spec.longer self.old.pattern word.now }) }
+        ensures { OnOk result (self.new ≡ record self.old { pattern = longer self.old.pattern word.now }) }
     {
         if self.pattern.is_empty() {
             self.pattern.push(b' ')?;
@@ -314,7 +316,7 @@ impl Draft {
     }
 
     /// Puts a word at the end of the pattern. The fault is `UnknownName` where a run of it is not fine, else `TooLong` where the pattern would
-    /// have more than 1,024 bytes, else `NoLine` where it can stand after those before it in no line. The error is want of memory.
+    /// have more than 1,024 bytes, else `NoLine` where it may not stand after those before it. The error is want of memory.
     #[tactic(auto, unfolding(crate::specs::Reading::with_word))]
     fn add_word(&mut self, names: &Names, word: &[u8]) -> Result<Option<QuestionFault>, AllocError>
         ensures report { IfOk result (λ fault. fault ≡ fault_of (spec.with_word names.now self.old word.now)) }
@@ -327,11 +329,11 @@ impl Draft {
         if MOST_PATTERN < self.pattern.len() + word.len() + blanks {
             return Ok(Some(QuestionFault::TooLong));
         }
-        match self.spot.step(spot_of(names, word)) {
+        self.push_word(word)?;
+        match next_spot(self.alloc, names, &self.pattern, self.spot, word)? {
             None => Ok(Some(QuestionFault::NoLine)),
             Some(spot) => {
                 self.spot = spot;
-                self.push_word(word)?;
                 Ok(None)
             }
         }

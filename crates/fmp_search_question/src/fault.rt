@@ -11,7 +11,7 @@ pub enum QuestionFault {
     UnknownName,
     /// More than 255 steps, or a pattern of more than 1,024 bytes.
     TooLong,
-    /// A word that can stand after those before it in no line of any event.
+    /// A word that stands after those before it in the line of no record, where they speak of no state either.
     NoLine,
 }
 

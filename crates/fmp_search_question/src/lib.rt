@@ -1,4 +1,4 @@
-//! Reading questions about runs, word by word.
+//! Reading questions about runs, word by word, and resolving their patterns: those that speak of the state become tests of it.
 //!
 //! docs/FORMATS.md has how a question is written.
 #![tactic(auto)]
@@ -6,7 +6,9 @@
 mod draft;
 mod fault;
 mod parts;
+mod place;
 mod reading;
+mod resolving;
 mod stage;
 
 pub use fault::{QuestionFault, ReadFault};

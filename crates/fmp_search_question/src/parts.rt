@@ -11,11 +11,12 @@ ghost use Rattle.fmp_search_question.specs.WordByWord.{fault_of};
 
 use crate::draft::Draft;
 use crate::fault::{QuestionFault, ReadFault};
+use crate::resolving::resolved_lasting;
 use crate::stage::Stage;
 use fmp_bytes::cut;
 use fmp_codes::{NameKind, ObjectKind};
 use fmp_names::Names;
-use fmp_search_pattern::{Item, Lasting, Moment, Part, Pattern, Piece};
+use fmp_search_pattern::{Item, Lasting, Moment, Part, Pattern, Piece, Wanted};
 use fmp_search_words::is_printed;
 use std::alloc::{AllocError, Global};
 use std::marker::Model;
@@ -35,7 +36,7 @@ fn words_after(alloc: Global, name: &[u8], words: &[u8]) -> Result<Moment, Alloc
     let mut pieces = Vec::new(alloc);
     pieces.push(Piece::new(bytes))?;
     let mut items = Vec::new(alloc);
-    items.push(Item::new(false, Some(Pattern::new(pieces))))?;
+    items.push(Item::new(false, Wanted::Line(Pattern::new(pieces))))?;
     let mut parts = Vec::new(alloc);
     parts.push(Part::new(items))?;
     Ok(Moment::new(parts))
@@ -47,7 +48,6 @@ fn waits(alloc: Global, name: &[u8]) -> Result<Lasting, AllocError>
 {
     let mut moments = Vec::new(alloc);
     moments.push(words_after(alloc, name, b" waits ")?)?;
-    moments.push(words_after(alloc, name, b" suspended waits ")?)?;
     Ok(Lasting::new(false, moments))
 }
 
@@ -367,11 +367,11 @@ impl Parts {
     }
 }
 
-/// The parts of a question of what stays for ever, over a configuration with these names, or its first fault.
-#[tactic(auto, unfolding(crate::specs::Lasting::lasting_in))]
-pub fn read_lasting(alloc: Global, names: &Names, text: &[u8]) -> Result<Vec<Lasting>, ReadFault>
-    ensures ok { IfOk result (λ v. spec.lasting_in names.now text.now ≡ Ok v.items) }
-    ensures err { IfErr result (λ fault. fault ≢ ReadFault.Memory → spec.lasting_in names.now text.now ≡ Err (reading.report fault)) }
+/// The parts of a question of what stays for ever as it is written, each pattern as one of a record, or its first fault.
+#[tactic(auto, unfolding(crate::specs::Lasting::written_in))]
+fn read_written(alloc: Global, names: &Names, text: &[u8]) -> Result<Vec<Lasting>, ReadFault>
+    ensures ok { IfOk result (λ v. spec.written_in names.now text.now ≡ Ok v.items) }
+    ensures err { IfErr result (λ fault. fault ≢ ReadFault.Memory → spec.written_in names.now text.now ≡ Err (reading.report fault)) }
     ensures few { IfOk result (λ v. length v.items ≤ 64) }
 {
     let mut parts = Parts::new(alloc);
@@ -385,6 +385,20 @@ pub fn read_lasting(alloc: Global, names: &Names, text: &[u8]) -> Result<Vec<Las
         }
     }
     parts.end(text)
+}
+
+/// The parts of a question of what stays for ever, over a configuration with these names, or its first fault.
+#[tactic(auto, unfolding(crate::specs::Lasting::lasting_in))]
+pub fn read_lasting(alloc: Global, names: &Names, text: &[u8]) -> Result<Vec<Lasting>, ReadFault>
+    ensures ok { IfOk result (λ v. spec.lasting_in names.now text.now ≡ Ok v.items) }
+    ensures err { IfErr result (λ fault. fault ≢ ReadFault.Memory → spec.lasting_in names.now text.now ≡ Err (reading.report fault)) }
+    ensures few { IfOk result (λ v. length v.items ≤ 64) }
+{
+    let written = read_written(alloc, names, text)?;
+    match resolved_lasting(alloc, names, &written) {
+        Ok(parts) => Ok(parts),
+        Err(_) => Err(ReadFault::Memory),
+    }
 }
 
 /// Whether a question is one of what stays for ever: it has the words `for ever`, or begins with `deadlock`.

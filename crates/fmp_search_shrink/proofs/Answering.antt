@@ -9,7 +9,7 @@ use Rattle.fmp_setup.specs.Setup.{Setup}
 use Rattle.fmp_rules.specs.Arrivals.{State, numbered}
 use Rattle.fmp_rules.specs.Boot.{booted}
 use Rattle.fmp_rules.specs.Step.{step, answers, replay}
-use Rattle.fmp_kernel_order.specs.Queues.{Queues, listed}
+use Rattle.fmp_kernel_order.specs.Queues.{Queues}
 use Rattle.fmp_rules.specs.World.{World}
 use Rattle.fmp_rules.proofs.Replays.{step_event, replay_more, answers_more}
 use Rattle.fmp_law_lists.specs.Stands.{Stands}
@@ -82,16 +82,16 @@ module _ (c : Setup) (rules : Rules) (question : List Step) (given : List Event)
 
   -- the kernel's lines are those of the model
   same_lines : (ns : List ℕ) (k : World Queues) (report : Record) → TakenAre rules ns (h ++ r ∷ []) → Stands k (step numbered m e).0 → report ≡ r →
-      sight listed c rules (count_in ns) k report ≡ last_sight c rules (h ++ r ∷ []) r
+      sight c rules (count_in ns) k report ≡ last_sight c rules (h ++ r ∷ []) r
   same_lines ns k report are stands is =
       let count = counted rules (h ++ r ∷ []) in
       sight_same c rules (count_in ns) count (counts_same rules (record (origin c [] rules question) { taken = ns }) (h ++ r ∷ []) are) k (step numbered m e).0 report stands
-      ∙ ap (λ x. sight numbered c rules count (step numbered m e).0 x) is
-      ∙ ap (λ s. sight numbered c rules count s r) (sym last_state)
+      ∙ ap (λ x. sight c rules count (step numbered m e).0 x) is
+      ∙ ap (λ s. sight c rules count s r) (sym last_state)
 
   -- the numbers of steps that may have been seen in the answers
   pub seen_next : (ns : List ℕ) (k : World Queues) (report : Record) (numbers next : List Bool) → TakenAre rules ns (answers numbered (booted c) (given ++ e ∷ [])) →
-      Stands k (step numbered m e).0 → report ≡ r → AreSeen c rules question h numbers → AreNext question (sight listed c rules (count_in ns) k report) numbers next →
+      Stands k (step numbered m e).0 → report ≡ r → AreSeen c rules question h numbers → AreNext question (sight c rules (count_in ns) k report) numbers next →
       AreSeen c rules question (answers numbered (booted c) (given ++ e ∷ [])) next
   seen_next ns k report numbers next taken_are stands is before are =
       let longer = answers_more (booted c) given e in

@@ -10,6 +10,7 @@ use Rattle.std.proofs.lemmas.Option.{slice_get_past, slice_get_within}
 use Rattle.fmp_codes.specs.declared.records.Record.{Record}
 use Rattle.fmp_setup.specs.Setup.{Setup}
 use Rattle.fmp_search_pattern.specs.declared.question.Step.{Step}
+use Rattle.fmp_search_pattern.specs.Sights.{Sight}
 use Rattle.fmp_search_pattern.specs.Questions.{allows, seen}
 use Rattle.fmp_search_orders.specs.declared.rules.Rules.{Rules}
 use Rattle.fmp_search_orders.specs.Shown.{last_sight, IsMarked}
@@ -77,7 +78,7 @@ module _ (c : Setup) (rules : Rules) (question : List Step) (h : List Record) (r
 -- ---- numbers of steps
 
 module _ (c : Setup) (rules : Rules) (question : List Step) (h : List Record) (r : Record) (numbers : List Bool) (seen_before : AreSeen c rules question h numbers) where
-  abbrev text : List ℕ
+  abbrev text : Sight
   text = last_sight c rules (h ++ r ∷ []) r
 
   -- who goes on from a number that may have been seen
@@ -168,11 +169,11 @@ seen_at_boot c rules question n small = (
 -- ---- what is settled stays as it is
 
 -- where all steps were seen, nothing is looked for any more
-pub allowed_at_end : (question : List Step) (text : List ℕ) (n : ℕ) → length question ≤ n → allows question n false text ≡ true
+pub allowed_at_end : (question : List Step) (text : Sight) (n : ℕ) → length question ≤ n → allows question n false text ≡ true
 unfolding allows
 allowed_at_end question text n past = rw (slice_get_past question n past) refl
 
-module _ (question : List Step) (numbers : List Bool) (settled : IsSettled question numbers) (text : List ℕ) where
+module _ (question : List Step) (numbers : List Bool) (settled : IsSettled question numbers) (text : Sight) where
   stays : (n : ℕ) → goes_on question text numbers n false ≡ slice_index_or numbers n false
   stays n = elim (cases_lt n (length question)) [
     | inl less ↦ rw (settled n less) refl

@@ -8,6 +8,7 @@ use Rattle.fmp_rules.specs.Boot.{booted}
 use Rattle.fmp_rules.specs.Step.{answers, replay}
 use Rattle.fmp_law_lists.specs.Stands.{Stands}
 use Rattle.fmp_search_pattern.specs.declared.question.Step.{Step}
+use Rattle.fmp_search_pattern.specs.Sights.{Sight}
 use Rattle.fmp_search_pattern.specs.Questions.{allows, seen}
 use Rattle.fmp_search_orders.specs.declared.rules.Rules.{Rules}
 use Rattle.fmp_search_orders.specs.Laws.{TakenAre}
@@ -30,18 +31,18 @@ pub record Watches (c : Setup) (rules : Rules) (question : List Step) (given : L
   pub sized : length w.taken ≡ 8
   pub seen : AreSeen c rules question (answers numbered (booted c) given) w.numbers
 
--- one of these numbers of steps was seen, and an event with these lines may be marked so
-abbrev pub goes_on : List Step → List ℕ → List Bool → ℕ → Bool → Bool
-goes_on question text numbers n marked = slice_index_or numbers n false && allows question n marked text
+-- one of these numbers of steps was seen, and an event may be marked so
+abbrev pub goes_on : List Step → Sight → List Bool → ℕ → Bool → Bool
+goes_on question sight numbers n marked = slice_index_or numbers n false && allows question n marked sight
 
 -- so many steps may have been seen after such an event
-abbrev pub is_seen : List Step → List ℕ → List Bool → ℕ → Bool
-is_seen question text numbers zero = goes_on question text numbers zero false
-is_seen question text numbers (suc n) = goes_on question text numbers (suc n) false || goes_on question text numbers n true
+abbrev pub is_seen : List Step → Sight → List Bool → ℕ → Bool
+is_seen question sight numbers zero = goes_on question sight numbers zero false
+is_seen question sight numbers (suc n) = goes_on question sight numbers (suc n) false || goes_on question sight numbers n true
 
--- the numbers of steps that may have been seen after an event with these lines, where these may have been seen before
-abbrev pub AreNext : List Step → List ℕ → List Bool → List Bool → Type 0
-AreNext question text numbers next = (n : ℕ) → n ≤ length question → slice_index_or next n false ≡ is_seen question text numbers n
+-- the numbers of steps that may have been seen after an event, where these may have been seen before
+abbrev pub AreNext : List Step → Sight → List Bool → List Bool → Type 0
+AreNext question sight numbers next = (n : ℕ) → n ≤ length question → slice_index_or next n false ≡ is_seen question sight numbers n
 
 -- which of them may have been seen depends on no event any more: not all steps were seen in any way that is left
 abbrev pub IsSettled : List Step → List Bool → Type 0

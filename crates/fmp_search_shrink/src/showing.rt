@@ -5,12 +5,12 @@ ghost use Rattle.fmp_codes.specs.Records.{AreOn, processor_of};
 ghost use Rattle.fmp_rules.specs.Arrivals.{State, numbered};
 ghost use Rattle.fmp_rules.specs.Boot.{booted};
 ghost use Rattle.fmp_rules.specs.Step.{answers, step};
-ghost use Rattle.fmp_kernel_order.specs.Queues.{listed};
 ghost use Rattle.fmp_law_lists.specs.Stands.{Stands};
 ghost use Rattle.fmp_search_orders.specs.Orders as orders;
 ghost use Rattle.fmp_search_orders.specs.Places.{moved_taken};
 ghost use Rattle.fmp_search_orders.specs.Shown.{Shows};
 ghost use Rattle.fmp_search_orders.specs.Sights.{sight};
+ghost use Rattle.fmp_search_kernel.specs.Seen.{seen_of};
 ghost use Rattle.fmp_search_kernel.specs.Walked.{count_in};
 ghost use Rattle.fmp_search_shrink.specs.Seen as spec;
 ghost use Rattle.fmp_search_shrink.specs.Seen.{AreNext, IsSettled, IsShownAt, Watches};
@@ -19,70 +19,47 @@ ghost use Rattle.fmp_codes.specs.declared.records.Event.{Event as AnyEvent};
 use fmp_codes::{Answer, Event, Proc, Record};
 use fmp_kernel::Kernel;
 use fmp_rules::Config;
-use fmp_search_kernel::{advance_taken, has_to_look, is_over, look, put_sight};
+use fmp_search_kernel::{Seen, advance_taken, is_over, put_line};
 use fmp_search_orders::Rules;
-use fmp_search_pattern::Question;
+use fmp_search_pattern::{Question, allows};
 use std::alloc::AllocError;
 
-/// Whether so many steps may have been seen before an event with these lines, and it may be marked so. A number of one digit and a blank
-/// stand before the lines.
+/// Whether so many steps may have been seen before an event, and it may be marked so.
 fn goes_on(
-    line: &mut Vec<u8>,
-    text: &[u8],
+    event: &Seen<'_>,
     question: &Question,
     numbers: &[bool; 256],
     at: u8,
     marked: bool,
-) -> Result<bool, AllocError>
-    requires { 2 ≤ length text.now }
-    ensures { IfOk result (λ r. r ≡ spec.goes_on question.now (drop 2 text.now) numbers.now at marked) }
+) -> bool
+    ensures { result ≡ spec.goes_on question.now (seen_of event.now) numbers.now at marked }
 {
-    if !numbers[usize::from(at)] {
-        return Ok(false);
-    }
-    let seen = u32::from(at);
-    if !has_to_look(question, seen, marked) {
-        return Ok(!marked);
-    }
-    look(line, text, question, seen, marked)
+    numbers[usize::from(at)] && allows(event, question, u32::from(at), marked)
 }
 
-/// Whether so many steps may have been seen after an event with these lines.
-fn is_seen(
-    line: &mut Vec<u8>,
-    text: &[u8],
-    question: &Question,
-    numbers: &[bool; 256],
-    at: u8,
-) -> Result<bool, AllocError>
-    requires { 2 ≤ length text.now }
-    ensures { IfOk result (λ r. r ≡ spec.is_seen question.now (drop 2 text.now) numbers.now at) }
+/// Whether so many steps may have been seen after an event.
+fn is_seen(event: &Seen<'_>, question: &Question, numbers: &[bool; 256], at: u8) -> bool
+    ensures { result ≡ spec.is_seen question.now (seen_of event.now) numbers.now at }
 {
-    if goes_on(line, text, question, numbers, at, false)? {
-        return Ok(true);
+    if goes_on(event, question, numbers, at, false) {
+        return true;
     }
     if at == 0 {
-        return Ok(false);
+        return false;
     }
-    goes_on(line, text, question, numbers, at - 1, true)
+    goes_on(event, question, numbers, at - 1, true)
 }
 
-/// The numbers of steps that may have been seen after an event with these lines, where these may have been seen before.
-fn all_seen(
-    line: &mut Vec<u8>,
-    text: &[u8],
-    question: &Question,
-    numbers: &[bool; 256],
-) -> Result<[bool; 256], AllocError>
-    requires short { length question.now ≤ 255 }
-    requires long { 2 ≤ length text.now }
-    ensures { IfOk result (λ r. AreNext question.now (drop 2 text.now) numbers.now r) }
+/// The numbers of steps that may have been seen after an event, where these may have been seen before.
+fn all_seen(event: &Seen<'_>, question: &Question, numbers: &[bool; 256]) -> [bool; 256]
+    requires { length question.now ≤ 255 }
+    ensures { AreNext question.now (seen_of event.now) numbers.now result }
 {
     let mut next = [false; 256];
     for at in 0..question.steps().len() + 1 {
-        next[at] = is_seen(line, text, question, numbers, at as u8)?;
+        next[at] = is_seen(event, question, numbers, at as u8);
     }
-    Ok(next)
+    next
 }
 
 /// Whether no event changes any more how many steps may have been seen.
@@ -106,9 +83,8 @@ struct Watch {
     /// The ticks that each processor has taken, where they are counted.
     taken: [u32; 8],
     numbers: [bool; 256],
-    /// Room for the lines of an event, and for one of them.
+    /// Room for the line of an event.
     text: Vec<u8>,
-    line: Vec<u8>,
 }
 
 impl Watch {
@@ -127,39 +103,23 @@ impl Watch {
             taken: [0; 8],
             numbers,
             text: Vec::new(config.allocator()),
-            line: Vec::new(config.allocator()),
         })
     }
 
-    /// Puts the lines of the last answer in the place of the text.
-    fn print(&mut self, config: &Config, rules: Rules) -> Result<(), AllocError>
-        ensures sight { OnOk result (drop 2 self.new.text.items ≡ sight listed config.now rules (count_in self.old.taken) self.old.kernel self.old.made) }
-        ensures long { OnOk result (2 ≤ length self.new.text.items) }
-        ensures same { (self.new.kernel ≡ self.old.kernel) × (self.new.made ≡ self.old.made) × (self.new.taken ≡ self.old.taken) × (self.new.numbers ≡ self.old.numbers) }
-    {
-        let over = is_over(config, rules, &self.taken, &self.kernel);
-        let names = config.names();
-        put_sight(&mut self.text, names, &self.kernel, &self.made, over)?;
-        Ok(())
-    }
-
-    /// Sees how many steps may have been seen after the last answer. Its lines are printed only where that depends on them.
+    /// Sees how many steps may have been seen after the last answer. Its line is printed only where that depends on it.
     fn see(&mut self, config: &Config, rules: Rules, question: &Question) -> Result<(), AllocError>
         requires { length question.now ≤ 255 }
         ensures next { OnOk result (AreNext question.now
-            (sight listed config.now rules (count_in self.old.taken) self.old.kernel self.old.made) self.old.numbers self.new.numbers) }
+            (sight config.now rules (count_in self.old.taken) self.old.kernel self.old.made) self.old.numbers self.new.numbers) }
         ensures same { (self.new.kernel ≡ self.old.kernel) × (self.new.made ≡ self.old.made) × (self.new.taken ≡ self.old.taken) }
     {
         if is_settled(question, &self.numbers) {
             return Ok(());
         }
-        self.print(config, rules)?;
-        self.numbers = all_seen(
-            &mut self.line,
-            self.text.as_slice(),
-            question,
-            &self.numbers,
-        )?;
+        let over = is_over(config, rules, &self.taken, &self.kernel);
+        put_line(&mut self.text, config.names(), &self.made)?;
+        let event = Seen::new(self.text.as_slice(), &self.kernel, over);
+        self.numbers = all_seen(&event, question, &self.numbers);
         Ok(())
     }
 

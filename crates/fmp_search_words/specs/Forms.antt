@@ -1,10 +1,10 @@
--- Where in a line a word may stand, by the forms of lines of a trace and of a state.
-use Rattle.std.specs.Prelude.{ℕ, Bool, true, false, not, ◌&&◌, ◌||◌, ◌==◌, is_some, List, [], ◌∷◌, map, Option, Some, None, if◌then◌else◌, codes}
-use Rattle.std.specs.List.{list_all, list_any}
+-- Where in the line of a record a word may stand, by the form of this line.
+use Rattle.std.specs.Prelude.{ℕ, Bool, true, false, not, ◌&&◌, ◌||◌, ◌==◌, is_some, nat_lt, List, [], ◌∷◌, map, Option, Some, None, if◌then◌else◌, codes}
+use Rattle.std.specs.List.{list_any}
 use Rattle.std.specs.Option.{option_map_or, option_or}
 use Rattle.std.specs.Str.{bytes_eq}
-use Rattle.fmp_bytes.specs.Bytes.{following, close_parenthesis, colon, comma, cut_at, equals_sign, minus_sign, open_parenthesis, pieces_of}
-use Rattle.fmp_bytes.specs.Numerals.{are_digits, magnitude_of}
+use Rattle.fmp_bytes.specs.Bytes.{following, close_parenthesis, colon, comma, cut_at, equals_sign, minus_sign, open_parenthesis}
+use Rattle.fmp_bytes.specs.Numerals.{are_digits, is_zero_led, magnitude_of}
 use Rattle.fmp_calls.specs.Table.{is_bare, kinds_of, named}
 use Rattle.fmp_codes.specs.declared.kinds.ArgumentKind.{ArgumentKind}
 use Rattle.fmp_codes.specs.declared.kinds.ArgumentKind.TheVariants as kinds
@@ -14,8 +14,6 @@ use Rattle.fmp_codes.specs.declared.kinds.ObjectKind.TheVariants as objects
 use Rattle.fmp_codes.specs.declared.calls.Call.{Call}
 use Rattle.fmp_search_pattern.specs.Items.{is_code}
 use Rattle.fmp_names.specs.Names.{NameLists, is_object, name_of, number_of}
-use Rattle.fmp_search_words.specs.declared.forms.Piece.{Piece}
-use Rattle.fmp_search_words.specs.declared.forms.Piece.TheVariants as piece
 use Rattle.fmp_search_words.specs.declared.forms.TheConstants.{WORD_SPOTS, KEY_SPOTS, TELLING}
 use Rattle.fmp_search_words.specs.declared.spot.Spot.{Spot}
 use Rattle.fmp_search_words.specs.declared.spot.Spot.TheVariants as spot
@@ -32,9 +30,15 @@ word_rows = map (λ row. (row.0.now, row.1)) WORD_SPOTS
 abbrev pub key_rows : List (List ℕ × Spot)
 key_rows = map (λ row. (row.0.now, row.1)) KEY_SPOTS
 
--- a number in decimal, after a `-` or not
+-- a number in decimal as a record has it: without a zero that it does not need, after a `-` or not
+abbrev pub is_numeral : List ℕ → Bool
+is_numeral word = are_digits 10 word && not (is_zero_led word)
+
+abbrev pub is_below_zero : List ℕ → Bool
+is_below_zero digits = is_numeral digits && not (bytes_eq digits (codes "0"))
+
 abbrev pub is_number : List ℕ → Bool
-is_number word = option_map_or (are_digits 10) (following minus_sign word) (are_digits 10 word)
+is_number word = option_map_or is_below_zero (following minus_sign word) (is_numeral word)
 
 -- an answer to a call: a code; `E_OK` may have a value
 abbrev pub code_spot : List ℕ → Option (List ℕ) → Option Spot
@@ -44,44 +48,39 @@ code_spot code None = if bytes_eq code (codes "E_OK") then Some spot.Accepted el
 abbrev pub answer_spot : List ℕ → Option Spot
 answer_spot word = code_spot (cut_at colon word).0 (cut_at colon word).1
 
--- a word of a line as it is, or an answer
+-- a word of a record as it is, or an answer
 abbrev pub plain_spot : List ℕ → Option Spot
 plain_spot word = option_or (spot_in word_rows word) (answer_spot word)
 
--- the name of an object. One that is also a word of a line may be anywhere
+-- the name of an object. One that is also a word of a record may be anywhere
 abbrev pub is_one : NameLists → ObjectKind → List ℕ → Bool
 is_one names kind word = is_some (number_of names (name.Object kind) word)
 
+abbrev pub is_task : NameLists → List ℕ → Bool
+is_task names word = is_one names objects.Task word
+
 abbrev pub object_spot : NameLists → List ℕ → Spot
 object_spot names word =
-    if is_one names objects.Task word then spot.Task
+    if is_task names word then spot.Task
     else if is_one names objects.Cyclic word || is_one names objects.Alarm word then spot.Handler
-    else if is_one names objects.SpinLock word then spot.Lock
     else spot.Object
 
 abbrev pub name_spot : NameLists → List ℕ → Spot
 name_spot names word = if is_some (plain_spot word) then spot.Anything else object_spot names word
 
-abbrev pub is_task : NameLists → List ℕ → Bool
-is_task names word = is_one names objects.Task word
+-- the digit of a processor, above another digit
+abbrev pub is_request_above : NameLists → ℕ → ℕ → Bool
+is_request_above names least digit = nat_lt least digit && is_processor names.processors (80 ∷ digit ∷ [])
 
-abbrev pub is_handler : NameLists → List ℕ → Bool
-is_handler names word = is_one names objects.Cyclic word || is_one names objects.Alarm word
+-- digits of processors, each above the one before it, with commas between them: what is left after a digit or a comma
+abbrev pub is_request_row : NameLists → ℕ → Bool → List ℕ → Bool
+is_request_row names least after_digit [] = after_digit
+is_request_row names least true (b ∷ rest) = b == comma && is_request_row names least false rest
+is_request_row names least false (b ∷ rest) = is_request_above names least b && is_request_row names b true rest
 
--- the number of a processor, as it stands in a request
-abbrev pub is_request : NameLists → List ℕ → Bool
-is_request names (digit ∷ []) = is_processor names.processors (80 ∷ digit ∷ [])
-is_request names other = false
-
-abbrev pub is_piece : NameLists → Piece → List ℕ → Bool
-is_piece names piece.Task word = is_task names word
-is_piece names piece.Handler word = is_handler names word
-is_piece names piece.Request word = is_request names word
-is_piece names piece.Number word = is_number word
-
--- a value that is a row of such pieces with commas between them
-abbrev pub are_all : NameLists → Piece → List ℕ → Bool
-are_all names piece value = list_all (is_piece names piece) (pieces_of comma value)
+-- the processors to which requests go, as a record has them
+abbrev pub are_requests : NameLists → List ℕ → Bool
+are_requests names value = is_request_row names 0 false value
 
 -- the end of a wait: the task's name and, after a colon, what its call answers
 abbrev pub is_release : NameLists → List ℕ × Option (List ℕ) → Bool
@@ -91,21 +90,12 @@ is_release names (task, Some answer) = is_task names task && is_some (answer_spo
 -- what may stand after a `=`
 abbrev pub is_value : NameLists → Spot → List ℕ → Bool
 is_value names spot.Release value = is_release names (cut_at colon value)
-is_value names spot.Held value = is_processor names.processors value
-is_value names spot.Ready value = are_all names piece.Task value
-is_value names spot.Due value = are_all names piece.Handler value
-is_value names spot.Requests value = are_all names piece.Request value
-is_value names spot.Values value = are_all names piece.Number value
-is_value names spot.Lost value = is_number value
-is_value names other value = are_digits 10 value
+is_value names spot.Requests value = are_requests names value
+is_value names other value = is_number value
 
--- who runs: a task wherever a line says it, `idle` after an event, and `-` of a processor
+-- who runs after an event: a task, or `idle`
 abbrev pub run_spot : NameLists → List ℕ → Option Spot
-run_spot names value =
-    if is_task names value then Some spot.Run
-    else if bytes_eq value (codes "idle") then Some spot.RunIdle
-    else if bytes_eq value (codes "-") then Some spot.RunNobody
-    else None
+run_spot names value = if is_task names value then Some spot.Run else (if bytes_eq value (codes "idle") then Some spot.RunIdle else None)
 
 abbrev pub valued : NameLists → List ℕ → Option Spot → Option Spot
 valued names value None = None
@@ -128,7 +118,7 @@ abbrev pub is_unnamed : NameLists → ObjectKind → List ℕ → Bool
 is_unnamed names kind digits = option_map_or (λ n. not (is_some (name_of names (name.Object kind) n))) (magnitude_of 10 digits) true
 
 abbrev pub is_stranger : NameLists → ObjectKind → List ℕ → Bool
-is_stranger names kind word = option_map_or (are_digits 10) (following minus_sign word) (are_digits 10 word && is_unnamed names kind word)
+is_stranger names kind word = option_map_or is_below_zero (following minus_sign word) (is_numeral word && is_unnamed names kind word)
 
 -- the first argument of a call: an object of its kind, by its name where it has one. The caller is `TSK_SELF`, and not 0
 abbrev pub is_first : NameLists → ArgumentKind → List ℕ → Bool
@@ -182,7 +172,7 @@ cut_spot names word (key, None) (call, None) = argument_spot word
 abbrev pub made_spot : NameLists → List ℕ → Option Spot
 made_spot names word = cut_spot names word (cut_at equals_sign word) (cut_at open_parenthesis word)
 
--- where in a line a word may stand. What has a star may be anywhere, and a number stands before `times` alone
+-- where in the line of a record a word may stand. What has a star may be anywhere, and a number stands before `times` alone
 unfoldable pub spot_of : NameLists → List ℕ → Option Spot
 spot_of names word =
     if list_any (λ b. b == star) word then Some spot.Anything

@@ -1,11 +1,10 @@
--- Where in a line a word stands, and which words may stand one after the other. docs/FORMATS.md has the forms of a line of a trace and of a state.
+-- Where in the line of a record a word stands, and which words may stand one after the other. docs/FORMATS.md has the form of this line.
 use Rattle.std.specs.Prelude.{ℕ, Bool, true, false, ◌==◌, List, [], ◌∷◌, Option, None, Some, if◌then◌else◌}
 use Rattle.std.specs.List.{list_any}
 use Rattle.fmp_search_words.specs.declared.spot.Spot.{Spot}
-use Rattle.fmp_search_words.specs.declared.spot.Spot.TheVariants.{Front, Anything, Number, Whole, Processor, Nobody, Task, Handler, Object, Lock, Timer, Return, Begun}
+use Rattle.fmp_search_words.specs.declared.spot.Spot.TheVariants.{Front, Anything, Number, Whole, Processor, Nobody, Task, Handler, Object, Fact, Timer, Return, Begun}
 use Rattle.fmp_search_words.specs.declared.spot.Spot.TheVariants.{BegunSome, BegunReported, Called, CalledSome, CalledReported, Argument, LastArgument, Taken, Accepted, Report}
-use Rattle.fmp_search_words.specs.declared.spot.Spot.TheVariants.{Answer, Release, Lost, Run, RunIdle, RunNobody, Requests, Ready, Locked, Disabled, Latch, Due, Suspended}
-use Rattle.fmp_search_words.specs.declared.spot.Spot.TheVariants.{Waits, Sleep, WaitsFor, Left, Priority, Activated, Wakeups, Fact, Values, Stopped, Held, End}
+use Rattle.fmp_search_words.specs.declared.spot.Spot.TheVariants.{Answer, Release, Lost, Run, RunIdle, Requests}
 
 -- a number of its own for each
 abbrev pub number : Spot → ℕ
@@ -18,7 +17,7 @@ number Nobody = 5
 number Task = 6
 number Handler = 7
 number Object = 8
-number Lock = 9
+number Fact = 9
 number Timer = 10
 number Return = 11
 number Begun = 12
@@ -37,38 +36,20 @@ number Release = 24
 number Lost = 25
 number Run = 26
 number RunIdle = 27
-number RunNobody = 28
-number Requests = 29
-number Ready = 30
-number Locked = 31
-number Disabled = 32
-number Latch = 33
-number Due = 34
-number Suspended = 35
-number Waits = 36
-number Sleep = 37
-number WaitsFor = 38
-number Left = 39
-number Priority = 40
-number Activated = 41
-number Wakeups = 42
-number Fact = 43
-number Values = 44
-number Stopped = 45
-number Held = 46
-number End = 47
+number Requests = 28
 
-abbrev pub is_number : Spot → Bool
-is_number Number = true
-is_number other = false
+-- a pattern may end with it: not with a number, nor with the name of an object that is a word of no record
+abbrev pub may_end : Spot → Bool
+may_end Number = false
+may_end Object = false
+may_end other = true
 
--- what may stand right before a word of a line: where in the line there is nothing between the two, or nothing that has to be there. `Front` and
--- `Anything` may stand before each
+-- what may stand right before a word of a record: where in its line there is nothing between the two, or nothing that has to be there. `Front` may
+-- stand before each, and `Anything` before each that a record may have
 abbrev pub before : Spot → List Spot
 before Nobody = Processor ∷ []
 before Task = Processor ∷ []
 before Handler = Processor ∷ []
-before Object = WaitsFor ∷ []
 before Timer = Nobody ∷ Task ∷ Handler ∷ []
 before Return = Nobody ∷ Task ∷ Handler ∷ []
 before Begun = Nobody ∷ Task ∷ Handler ∷ []
@@ -85,25 +66,7 @@ before Release = Taken ∷ Accepted ∷ Report ∷ Answer ∷ Release ∷ []
 before Lost = Taken ∷ Accepted ∷ Report ∷ Answer ∷ Release ∷ []
 before Run = Processor ∷ Taken ∷ Accepted ∷ Report ∷ Answer ∷ Release ∷ Lost ∷ []
 before RunIdle = Taken ∷ Accepted ∷ Report ∷ Answer ∷ Release ∷ Lost ∷ []
-before RunNobody = Processor ∷ []
 before Requests = Taken ∷ Accepted ∷ Report ∷ Answer ∷ Release ∷ Lost ∷ Run ∷ RunIdle ∷ []
-before Ready = Run ∷ RunNobody ∷ []
-before Locked = Run ∷ RunNobody ∷ Ready ∷ []
-before Disabled = Run ∷ RunNobody ∷ Ready ∷ Locked ∷ []
-before Latch = Run ∷ RunNobody ∷ Ready ∷ Locked ∷ Disabled ∷ []
-before Due = Run ∷ RunNobody ∷ Ready ∷ Locked ∷ Disabled ∷ Latch ∷ []
-before Suspended = Task ∷ []
-before Waits = Task ∷ Suspended ∷ []
-before Sleep = Waits ∷ []
-before WaitsFor = Waits ∷ []
-before Left = Handler ∷ Sleep ∷ Object ∷ []
-before Priority = Task ∷ Suspended ∷ Sleep ∷ Object ∷ Left ∷ []
-before Activated = Task ∷ Suspended ∷ Sleep ∷ Object ∷ Left ∷ Priority ∷ []
-before Wakeups = Task ∷ Suspended ∷ Sleep ∷ Object ∷ Left ∷ Priority ∷ Activated ∷ []
-before Fact = Object ∷ []
-before Values = Object ∷ []
-before Stopped = Handler ∷ []
-before Held = Lock ∷ []
 before other = []
 
 -- a word may stand after another
@@ -112,11 +75,14 @@ may_follow Front next = true
 may_follow Number next = false
 may_follow Whole next = false
 may_follow Anything Number = false
+may_follow Anything Object = false
 may_follow place Anything = true
+may_follow place Fact = true
 may_follow Anything next = true
 may_follow place next = list_any (λ s. number s == number place) (before next)
 
--- where the words so far end: an argument belongs to the call that begins before it
+-- where the words so far end: an argument belongs to the call that begins before it, what has a star to the object that stands before it, and who
+-- runs to the processor, of which it is a fact
 abbrev pub ended_by : Spot → Spot → Spot
 ended_by Begun Argument = Begun
 ended_by BegunReported Argument = BegunReported
@@ -124,6 +90,8 @@ ended_by place Argument = BegunSome
 ended_by Begun LastArgument = Called
 ended_by BegunReported LastArgument = CalledReported
 ended_by place LastArgument = CalledSome
+ended_by Object Anything = Object
+ended_by Processor Run = Fact
 ended_by place next = next
 
 -- the words so far, with one more

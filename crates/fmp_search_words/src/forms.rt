@@ -1,4 +1,4 @@
-//! Where in a line a word may stand.
+//! Where in the line of a record a word may stand.
 ghost use Rattle.std.specs.Prelude.{◌≡◌, map};
 ghost use Rattle.std.specs.Option.{option_copied};
 ghost use Rattle.fmp_bytes.specs.Bytes.{cut_at};
@@ -6,14 +6,14 @@ ghost use Rattle.fmp_search_words.specs.Forms as spec;
 
 use crate::spot::Spot;
 use crate::words::{has_star, has_word, is_processor};
-use fmp_bytes::{are_digits, cut, following, magnitude};
+use fmp_bytes::{are_digits, cut, following, is_zero_led, magnitude};
 use fmp_calls::{find_call, form};
 use fmp_codes::{ArgumentKind, NameKind, ObjectKind};
 use fmp_names::Names;
 use fmp_search_pattern::is_code;
 
 /// Words that stand in a line as they are, and where.
-pub(crate) const WORD_SPOTS: [(&[u8], Spot); 25] = [
+pub(crate) const WORD_SPOTS: [(&[u8], Spot); 11] = [
     (b"-", Spot::Nobody),
     (b"tick", Spot::Timer),
     (b"ipi", Spot::Timer),
@@ -25,39 +25,14 @@ pub(crate) const WORD_SPOTS: [(&[u8], Spot); 25] = [
     (b"held", Spot::Taken),
     (b"taken", Spot::Taken),
     (b"none", Spot::Taken),
-    (b"locked", Spot::Locked),
-    (b"disabled", Spot::Disabled),
-    (b"latch", Spot::Latch),
-    (b"suspended", Spot::Suspended),
-    (b"waits", Spot::Waits),
-    (b"slp", Spot::Sleep),
-    (b"dly", Spot::Sleep),
-    (b"sem", Spot::WaitsFor),
-    (b"flg", Spot::WaitsFor),
-    (b"sdtq", Spot::WaitsFor),
-    (b"rdtq", Spot::WaitsFor),
-    (b"mpf", Spot::WaitsFor),
-    (b"stopped", Spot::Stopped),
-    (b"end", Spot::End),
 ];
 
 /// What stands before a `=`, and where.
-pub(crate) const KEY_SPOTS: [(&[u8], Spot); 15] = [
+pub(crate) const KEY_SPOTS: [(&[u8], Spot); 4] = [
     (b"rel", Spot::Release),
     (b"lost", Spot::Lost),
     (b"run", Spot::Run),
     (b"ipi", Spot::Requests),
-    (b"ready", Spot::Ready),
-    (b"due", Spot::Due),
-    (b"left", Spot::Left),
-    (b"pri", Spot::Priority),
-    (b"act", Spot::Activated),
-    (b"wup", Spot::Wakeups),
-    (b"count", Spot::Fact),
-    (b"pattern", Spot::Fact),
-    (b"values", Spot::Values),
-    (b"free", Spot::Fact),
-    (b"held", Spot::Held),
 ];
 
 /// The calls that tell a value wherever they answer `E_OK`. No other call does.
@@ -109,13 +84,27 @@ fn answer_spot(word: &[u8]) -> Option<Spot>
     }
 }
 
-/// Whether a word is a number in decimal, after a `-` or not.
+/// Whether a word is a number in decimal without a zero that it does not need.
+fn is_numeral(word: &[u8]) -> bool
+    ensures { result ≡ spec.is_numeral word.now }
+{
+    are_digits(10, word) && !is_zero_led(word)
+}
+
+/// Whether digits that stand after a `-` are a number below zero.
+fn is_below_zero(digits: &[u8]) -> bool
+    ensures { result ≡ spec.is_below_zero digits.now }
+{
+    is_numeral(digits) && digits != b"0".as_slice()
+}
+
+/// Whether a word is a number in decimal as a record has it, after a `-` or not.
 fn is_number(word: &[u8]) -> bool
     ensures { result ≡ spec.is_number word.now }
 {
     match following(b'-', word) {
-        Some(digits) => are_digits(10, digits),
-        None => are_digits(10, word),
+        Some(digits) => is_below_zero(digits),
+        None => is_numeral(word),
     }
 }
 
@@ -140,18 +129,16 @@ fn is_one(names: &Names, kind: ObjectKind, name: &[u8]) -> bool
 fn object_spot(names: &Names, name: &[u8]) -> Spot
     ensures { result ≡ spec.object_spot names.now name.now }
 {
-    if is_one(names, ObjectKind::Task, name) {
+    if is_task(names, name) {
         Spot::Task
     } else if is_one(names, ObjectKind::Cyclic, name) || is_one(names, ObjectKind::Alarm, name) {
         Spot::Handler
-    } else if is_one(names, ObjectKind::SpinLock, name) {
-        Spot::Lock
     } else {
         Spot::Object
     }
 }
 
-/// Where a name stands. One that is also a word of a line may be anywhere.
+/// Where a name stands. One that is also a word of a record may be anywhere.
 fn name_spot(names: &Names, name: &[u8]) -> Spot
     ensures { result ≡ spec.name_spot names.now name.now }
 {
@@ -169,61 +156,27 @@ fn is_task(names: &Names, word: &[u8]) -> bool
     is_one(names, ObjectKind::Task, word)
 }
 
-/// Whether a word is the name of a cyclic handler or an alarm.
-fn is_handler(names: &Names, word: &[u8]) -> bool
-    ensures { result ≡ spec.is_handler names.now word.now }
+/// Whether a byte is the digit of a processor, above another digit.
+fn is_request_above(names: &Names, least: u8, digit: u8) -> bool
+    ensures { result ≡ spec.is_request_above names.now least digit }
 {
-    is_one(names, ObjectKind::Cyclic, word) || is_one(names, ObjectKind::Alarm, word)
+    least < digit && is_processor(names, &[b'P', digit])
 }
 
-/// Whether a word is the number of a processor, as it stands in a request.
-fn is_request(names: &Names, word: &[u8]) -> bool
-    ensures { result ≡ spec.is_request names.now word.now }
+/// Whether what is left after a digit, or after a comma, is digits of processors, each above the one before it, with commas between them.
+fn is_request_row(names: &Names, least: u8, after_digit: bool, left: &[u8]) -> bool
+    ensures { result ≡ spec.is_request_row names.now least after_digit left.now }
 {
-    match word {
-        [digit] => is_processor(names, &[b'P', *digit]),
-        _ => false,
-    }
-}
-
-/// Of what pieces a value is a row, with commas between them.
-#[derive(Clone, Copy)]
-enum Piece {
-    /// The name of a task.
-    Task,
-    /// The name of a cyclic handler or an alarm.
-    Handler,
-    /// The number of a processor to which a request goes.
-    Request,
-    /// A number.
-    Number,
-}
-
-/// Whether a word is such a piece.
-fn is_piece(names: &Names, piece: Piece, word: &[u8]) -> bool
-    ensures { result ≡ spec.is_piece names.now piece word.now }
-{
-    match piece {
-        Piece::Task => is_task(names, word),
-        Piece::Handler => is_handler(names, word),
-        Piece::Request => is_request(names, word),
-        Piece::Number => is_number(word),
-    }
-}
-
-/// Whether a value is a row of such pieces.
-fn are_all(names: &Names, piece: Piece, value: &[u8]) -> bool
-    ensures { result ≡ spec.are_all names.now piece value.now }
-{
-    let mut rest = Some(value);
-    while let Some(text) = rest {
-        let (word, after) = cut(b',', text);
-        rest = after;
-        if !is_piece(names, piece, word) {
-            return false;
+    match left {
+        [] => after_digit,
+        [byte, rest @ ..] => {
+            if after_digit {
+                *byte == b',' && is_request_row(names, least, false, rest)
+            } else {
+                is_request_above(names, least, *byte) && is_request_row(names, *byte, true, rest)
+            }
         }
     }
-    true
 }
 
 /// Whether a value is a task's name and, after a colon, what its call answers.
@@ -242,17 +195,12 @@ fn is_value(names: &Names, spot: Spot, value: &[u8]) -> bool
 {
     match spot {
         Spot::Release => is_release(names, value),
-        Spot::Held => is_processor(names, value),
-        Spot::Ready => are_all(names, Piece::Task, value),
-        Spot::Due => are_all(names, Piece::Handler, value),
-        Spot::Requests => are_all(names, Piece::Request, value),
-        Spot::Values => are_all(names, Piece::Number, value),
-        Spot::Lost => is_number(value),
-        _ => are_digits(10, value),
+        Spot::Requests => is_request_row(names, 0, false, value),
+        _ => is_number(value),
     }
 }
 
-/// Where `run=` stands with who runs: a task wherever a line says it, `idle` after an event, and `-` of a processor.
+/// Where `run=` stands with who runs after an event: a task, or `idle`.
 fn run_spot(names: &Names, value: &[u8]) -> Option<Spot>
     ensures { result ≡ spec.run_spot names.now value.now }
 {
@@ -260,8 +208,6 @@ fn run_spot(names: &Names, value: &[u8]) -> Option<Spot>
         Some(Spot::Run)
     } else if value == b"idle".as_slice() {
         Some(Spot::RunIdle)
-    } else if value == b"-".as_slice() {
-        Some(Spot::RunNobody)
     } else {
         None
     }
@@ -305,8 +251,8 @@ fn is_stranger(names: &Names, kind: ObjectKind, word: &[u8]) -> bool
     ensures { result ≡ spec.is_stranger names.now kind word.now }
 {
     match following(b'-', word) {
-        Some(digits) => are_digits(10, digits),
-        None => are_digits(10, word) && is_unnamed(names, kind, word),
+        Some(digits) => is_below_zero(digits),
+        None => is_numeral(word) && is_unnamed(names, kind, word),
     }
 }
 
@@ -431,7 +377,7 @@ fn made_spot(names: &Names, word: &[u8]) -> Option<Spot>
     }
 }
 
-/// Where in a line a word may stand. None where it stands in no line.
+/// Where in the line of a record a word may stand. None where it stands in none, and in no number before `times`.
 #[tactic(auto, unfolding(crate::specs::Forms::spot_of))]
 pub fn spot_of(names: &Names, word: &[u8]) -> Option<Spot>
     ensures { result ≡ spec.spot_of names.now word.now }

@@ -1,6 +1,6 @@
-//! Words of the lines of a trace and of a state: which ones may stand in some line, and where.
+//! The words of patterns: which ones a trace or a state may have, and where in the line of a record they stand.
 //!
-//! docs/FORMATS.md has the forms of these lines.
+//! docs/FORMATS.md has the form of this line. Which words of a state stand together is not asked here.
 #![tactic(auto)]
 
 mod forms;

@@ -1,16 +1,16 @@
-//! Where in a line a word stands, and which words may stand before it.
+//! Where in the line of a record a word stands, and which words may stand before it.
 ghost use Rattle.std.specs.Prelude.{◌≡◌, ◌==◌};
 ghost use Rattle.std.specs.List.{list_any};
 ghost use Rattle.fmp_search_words.specs.Spots as spec;
 
 use Spot::*;
 
-/// Where in a line of a trace or of a state a word stands.
+/// Where in the line of a record a word stands.
 #[derive(Clone, Copy)]
 pub enum Spot {
     /// Nothing: a pattern begins.
     Front,
-    /// A word that may be anywhere: it has a star, or is a name that is also a word of a line.
+    /// A word that may be anywhere: it has a star, or is a name that is also a word of a record.
     Anything,
     /// A number alone, which stands before `times` and in no line.
     Number,
@@ -24,10 +24,10 @@ pub enum Spot {
     Task,
     /// The name of an alarm or a cyclic handler.
     Handler,
-    /// The name of an object that tasks wait for.
+    /// The name of an object that neither runs nor handles. It is a word of no record, but words of a state may follow it.
     Object,
-    /// The name of a spin lock.
-    Lock,
+    /// Words that ask for facts.
+    Fact,
     /// `tick` or `ipi`.
     Timer,
     /// `ret_hdr`.
@@ -60,43 +60,12 @@ pub enum Spot {
     Release,
     /// ` lost=`.
     Lost,
-    /// ` run=` and a task, after a processor too.
+    /// ` run=` and a task.
     Run,
     /// ` run=idle`, where no task runs after an event.
     RunIdle,
-    /// ` run=-`, of a processor on which no task runs.
-    RunNobody,
     /// ` ipi=`.
     Requests,
-    /// ` ready=`.
-    Ready,
-    Locked,
-    Disabled,
-    Latch,
-    /// ` due=`.
-    Due,
-    Suspended,
-    Waits,
-    /// `slp` or `dly`.
-    Sleep,
-    /// `sem` and the like, before the name of the object.
-    WaitsFor,
-    /// ` left=`.
-    Left,
-    /// ` pri=`.
-    Priority,
-    /// ` act=`.
-    Activated,
-    /// ` wup=`.
-    Wakeups,
-    /// What is told of an object: ` count=` and the like.
-    Fact,
-    /// ` values=`.
-    Values,
-    Stopped,
-    /// ` held=`.
-    Held,
-    End,
 }
 
 impl Spot {
@@ -110,13 +79,12 @@ impl Spot {
         self as u8
     }
 
-    /// What may stand right before a word of a line, but for `Front` and `Anything`, which may stand before each.
+    /// What may stand right before a word of a record, but for `Front` and `Anything`, which may stand before each.
     fn before(self) -> &'static [Spot]
         ensures { result.now ≡ spec.before self }
     {
         match self {
             Nobody | Task | Handler => &[Processor],
-            Object => &[WaitsFor],
             Timer | Return | Begun | BegunReported | Called | CalledReported => &[
                 Nobody, Task, Handler,
             ],
@@ -128,32 +96,16 @@ impl Spot {
             Release | Lost => &[Taken, Accepted, Report, Answer, Release],
             Run => &[Processor, Taken, Accepted, Report, Answer, Release, Lost],
             RunIdle => &[Taken, Accepted, Report, Answer, Release, Lost],
-            RunNobody => &[Processor],
             Requests => &[Taken, Accepted, Report, Answer, Release, Lost, Run, RunIdle],
-            Ready => &[Run, RunNobody],
-            Locked => &[Run, RunNobody, Ready],
-            Disabled => &[Run, RunNobody, Ready, Locked],
-            Latch => &[Run, RunNobody, Ready, Locked, Disabled],
-            Due => &[Run, RunNobody, Ready, Locked, Disabled, Latch],
-            Suspended => &[Task],
-            Waits => &[Task, Suspended],
-            Sleep | WaitsFor => &[Waits],
-            Left => &[Handler, Sleep, Object],
-            Priority => &[Task, Suspended, Sleep, Object, Left],
-            Activated => &[Task, Suspended, Sleep, Object, Left, Priority],
-            Wakeups => &[Task, Suspended, Sleep, Object, Left, Priority, Activated],
-            Fact | Values => &[Object],
-            Stopped => &[Handler],
-            Held => &[Lock],
             _ => &[],
         }
     }
 
-    /// Whether it is a number alone.
-    pub fn is_number(self) -> bool
-        ensures { result ≡ spec.is_number self }
+    /// Whether a pattern may end with it: not with a number, nor with the name of an object that is a word of no record.
+    pub fn may_end(self) -> bool
+        ensures { result ≡ spec.may_end self }
     {
-        matches!(self, Number)
+        !matches!(self, Number | Object)
     }
 
     /// Whether this is one of some.
@@ -170,13 +122,14 @@ impl Spot {
     {
         match (self, next) {
             (Front, _) => true,
-            (Number | Whole, _) | (Anything, Number) => false,
-            (_, Anything) | (Anything, _) => true,
+            (Number | Whole, _) | (Anything, Number | Object) => false,
+            (_, Anything | Fact) | (Anything, _) => true,
             _ => self.is_among(next.before()),
         }
     }
 
-    /// Where the words so far end with a word more: an argument belongs to the call that begins before it.
+    /// Where the words so far end with a word more: an argument belongs to the call that begins before it, what has a star to the object that
+    /// stands before it, and who runs to the processor, of which it is a fact.
     fn ended_by(self, next: Spot) -> Spot
         ensures { result ≡ spec.ended_by self next }
     {
@@ -187,6 +140,8 @@ impl Spot {
             (Begun, LastArgument) => Called,
             (BegunReported, LastArgument) => CalledReported,
             (_, LastArgument) => CalledSome,
+            (Object, Anything) => Object,
+            (Processor, Run) => Fact,
             (_, next) => next,
         }
     }

@@ -11,7 +11,7 @@ use fmp_names::Names;
 use fmp_search_pattern::is_code;
 
 /// The words of a trace and of a state, besides names, processors, calls and codes.
-pub const TRACE_WORDS: [&[u8]; 39] = [
+pub const TRACE_WORDS: [&[u8]; 42] = [
     b"tick",
     b"ipi",
     b"wait",
@@ -24,6 +24,8 @@ pub const TRACE_WORDS: [&[u8]; 39] = [
     b"rel",
     b"lost",
     b"run",
+    b"dormant",
+    b"running",
     b"ready",
     b"due",
     b"locked",
@@ -46,6 +48,7 @@ pub const TRACE_WORDS: [&[u8]; 39] = [
     b"count",
     b"pattern",
     b"values",
+    b"empty",
     b"free",
     b"end",
     b"TSK_SELF",

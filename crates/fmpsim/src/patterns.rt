@@ -1,5 +1,5 @@
 //! The words of patterns, as a question has them.
-use fmp_search_pattern::{Item, Pattern};
+use fmp_search_pattern::{Item, Pattern, Wanted};
 use std::alloc::{AllocError, Global};
 
 /// Puts what stands between two things, and nothing before the first.
@@ -22,8 +22,11 @@ fn words_of(alloc: Global, pattern: &Pattern) -> Result<Vec<u8>, AllocError> {
 
 /// Puts the words of an item, without the `not` before them.
 pub fn put_item(alloc: Global, text: &mut Vec<u8>, item: &Item) -> Result<(), AllocError> {
-    match item.pattern() {
-        None => text.extend_from_slice(b"refused"),
-        Some(pattern) => text.extend_from_slice(words_of(alloc, pattern)?.trim_ascii()),
+    match item.wanted() {
+        Wanted::Refused => text.extend_from_slice(b"refused"),
+        Wanted::End => text.extend_from_slice(b"end"),
+        Wanted::Line(pattern) | Wanted::State(pattern, _) => {
+            text.extend_from_slice(words_of(alloc, pattern)?.trim_ascii())
+        }
     }
 }

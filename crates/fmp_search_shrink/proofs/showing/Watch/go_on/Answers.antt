@@ -4,7 +4,7 @@ use Rattle.fmp_rules.specs.Boot.{booted}
 use Rattle.fmp_rules.specs.Step.{answers, replay}
 use Rattle.fmp_rules.specs.World.{World}
 use Rattle.fmp_law_lists.specs.Stands.{Stands}
-use Rattle.fmp_kernel_order.specs.Queues.{Queues, listed}
+use Rattle.fmp_kernel_order.specs.Queues.{Queues}
 use Rattle.fmp_search_orders.specs.Laws.{TakenAre}
 use Rattle.fmp_search_orders.specs.Sights.{sight}
 use Rattle.fmp_search_orders.proofs.Longer.{taken_long}
@@ -27,7 +27,7 @@ returns c = λ given so_far.
     let report = c.answer.ensures.made m so_far.stands in
     let stands = c.answer.ensures.stands m so_far.stands in
     let taken_are = taken_next config rules question given e before.taken w.taken w.made report c.answer.ensures.taken so_far.taken_are so_far.sized in
-    let lines = sight listed config rules (count_in w.taken) w.kernel w.made in
+    let lines = sight config rules (count_in w.taken) w.kernel w.made in
     let seen = subst (λ (ns : List Bool). AreNext question lines ns next.numbers) c.answer.ensures.numbers c.in_ok-see.ensures.next in
     record {
       stands =

@@ -1,0 +1,1 @@
+pub mod Asking  -- What a pattern asks of a state.

@@ -1,0 +1,1 @@
+pub mod Things  -- The word of a thing.
