@@ -65,31 +65,14 @@ void clocks_atomic(int context, uint32_t *kept_clock, bool acquires, bool releas
         release(&contexts[context], kept_clock);
 }
 
-static const char *const gives[] = {"sig_sem", "set_flg", "snd_dtq", "psnd_dtq", "tsnd_dtq", "fsnd_dtq", "rel_mpf", "wup_tsk", "act_tsk",
-                                    "mact_tsk", "sta_alm", "msta_alm", "sta_cyc", "msta_cyc", "rsm_tsk", "rel_wai", "unl_spn"};
-static const char *const takes[] = {"wai_sem", "twai_sem", "pol_sem", "wai_flg", "twai_flg", "pol_flg", "rcv_dtq", "trcv_dtq", "prcv_dtq",
-                                    "get_mpf", "tget_mpf", "pget_mpf", "can_wup", "can_act", "loc_spn", "try_spn"};
-
-static bool among(const char *const *names, size_t count, const char *name) {
-    for (size_t i = 0; i < count; i++)
-        if (!strcmp(names[i], name))
-            return true;
-    return false;
-}
-#define AMONG(names, name) among(names, sizeof names / sizeof *names, name)
-
-static bool is(const char *name, const char *first, const char *second, const char *third) {
-    return !strcmp(name, first) || !strcmp(name, second) || !strcmp(name, third);
-}
-
 /* The caller gave way of itself: whoever runs next comes after all that it did. */
-static bool gave_way(const struct context *caller, const char *name, const struct answer *answer) {
+static bool gave_way(const struct context *caller, const struct answer *answer) {
     if (answer->said == WAIT || answer->said == GONE)
         return true;
     if (answer->said != CODE || answer->code != 0)
         return false;
-    bool of_itself = caller->named == caller->object && is(name, "sus_tsk", "mig_tsk", "chg_pri");
-    return of_itself || is(name, "rot_rdq", "mrot_rdq", "");
+    bool of_itself = caller->named == caller->object && (caller->call->does & GIVES_WAY_ITSELF);
+    return of_itself || (caller->call->does & ROTATES);
 }
 
 static bool runs_elsewhere(int task, int processor) {
@@ -100,44 +83,45 @@ static bool runs_elsewhere(int task, int processor) {
 }
 
 /* What is given to an object and taken from it. A data queue has places, too: a sender takes one that a receiver gave. */
-static void object_orders(struct context *caller, const char *name, const struct answer *answer) {
+static void object_orders(struct context *caller, const struct answer *answer) {
     bool accepted = answer->said == CODE && answer->code == 0;
+    unsigned does = caller->call->does;
     int object = caller->named;
-    bool sends = strstr(name, "snd_dtq") != NULL, receives = strstr(name, "rcv_dtq") != NULL;
     if (object < 0)
         return;
-    if (AMONG(gives, name) && (accepted || (sends && answer->said == WAIT))) {
-        if (sends)
+    if ((does & GIVES) && (accepted || ((does & SENDS) && answer->said == WAIT))) {
+        if (does & SENDS)
             acquire(caller, taken[object]);
         release(caller, given[object]);
     }
-    if (accepted && AMONG(takes, name))
+    if (accepted && (does & TAKES))
         acquire(caller, given[object]);
-    if (accepted && receives)
+    if (accepted && (does & RECEIVES))
         release(caller, taken[object]);
 }
 
-static void processor_orders(struct context *caller, const char *name, int processor) {
+static void processor_orders(struct context *caller, int processor) {
+    unsigned does = caller->call->does;
     int object = caller->named;
-    if (is(name, "slp_tsk", "tslp_tsk", "slp_tsk"))
+    if (does & SLEEPS)
         acquire(caller, given[caller->object]);
     /* one that ends or is suspended stands still from then on, unless another processor still runs it: the interrupt has not come there */
-    if (object >= 0 && object != caller->object && (is(name, "ter_tsk", "", "") || (is(name, "sus_tsk", "", "") && !runs_elsewhere(object, processor))))
+    if (object >= 0 && object != caller->object && ((does & TERMINATES) || ((does & SUSPENDS) && !runs_elsewhere(object, processor))))
         acquire(caller, own[context_of_task(object) - contexts]);
-    if (is(name, "loc_cpu", "loc_spn", "try_spn"))
+    if (does & LOCKS_CPU)
         acquire(caller, cpu[processor]);
-    if (is(name, "unl_cpu", "unl_spn", "ret_hdr"))
+    if (does & UNLOCKS_CPU)
         release(caller, cpu[processor]);
-    if (is(name, "dis_dsp", "", ""))
+    if (does & DISABLES_DISPATCH)
         acquire(caller, dispatch[processor]);
-    if (is(name, "ena_dsp", "", ""))
+    if (does & ENABLES_DISPATCH)
         release(caller, dispatch[processor]);
 }
 
-static void releases_order(struct context *caller, const char *name, const struct answer *answer) {
+static void releases_order(struct context *caller, const struct answer *answer) {
     for (int i = 0; i < answer->releases; i++) {
         struct context *released = context_of_task(answer->release[i].task);
-        if (strstr(name, "rcv_dtq") != NULL) /* a sender's wait: its value was given when it began */
+        if (caller->call->does & RECEIVES) /* a sender's wait: its value was given when it began */
             acquire(released, taken[caller->named]);
         else {
             acquire(released, own[caller - contexts]);
@@ -150,18 +134,14 @@ static void releases_order(struct context *caller, const char *name, const struc
 }
 
 static void caller_orders(struct context *caller, int processor, const struct answer *answer) {
-    char name[32] = "";
-    const char *call = caller->request + (caller->request[0] == 'i'); /* no call but those of handlers begins so */
-    size_t length = strcspn(call, "(");
-    memcpy(name, call, length < sizeof name ? length : sizeof name - 1);
-    object_orders(caller, name, answer);
+    object_orders(caller, answer);
     if (answer->said == CODE && answer->code == 0)
-        processor_orders(caller, name, processor);
-    releases_order(caller, name, answer);
+        processor_orders(caller, processor);
+    releases_order(caller, answer);
     for (int i = 0; i < fmphost_object_count; i++) /* a lock that went with its holder's end */
         if (before.held[i] == processor && state.held[i] == 0 && caller->named != i)
             release(caller, given[i]);
-    if (caller->processor == 0 && gave_way(caller, name, answer)) {
+    if (caller->processor == 0 && gave_way(caller, answer)) {
         release(caller, cpu[processor]);
         release(caller, dispatch[processor]);
     }

@@ -2,6 +2,7 @@
 #include "contexts.h"
 #include "outcome.h"
 #include "options.h"
+#include "requests.h"
 #include <stdio.h>
 #include <string.h>
 #include <sys/mman.h>
@@ -122,10 +123,7 @@ static void life(void) {
     __sanitizer_finish_switch_fiber(NULL, &runner_stack, &runner_size);
 #endif
     fmphost_objects[me->object].body(fmphost_objects[me->object].exinf);
-    me->next = CALL;
-    me->named = -1;
-    me->place = 0;
-    strcpy(me->request, me->processor ? "ret_hdr" : "ext_tsk()");
+    request_of(me, NULL, me->processor ? RET_HDR : EXT_TSK, (const int64_t[MOST_ARGUMENTS]){0});
     to_runner(me);
     give_up("one that has ended goes on");
 }

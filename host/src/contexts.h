@@ -1,6 +1,7 @@
 /* A task's or a handler's C code, as a coroutine. It stops before each thing that others can see: a service call, a shared access. */
 #ifndef CONTEXTS_H
 #define CONTEXTS_H
+#include "calls.h"
 #include "proved.h"
 #include <ucontext.h>
 
@@ -11,7 +12,9 @@ struct context {
     int object, processor;      /* a handler has one context for each processor, since it may be due on two; a task's is 0 */
     bool lives, started, answered, waits;
     enum operation next;        /* what it stands before */
-    char request[REQUEST];      /* CALL: the call, as an event has it */
+    const struct call *call;    /* CALL: the call, */
+    int64_t argument[MOST_ARGUMENTS];
+    char request[REQUEST];      /* and as an event has it */
     int named;                  /* the object that the call names, or -1 */
     uintptr_t at, place;        /* ACCESS */
     unsigned size;

@@ -33,38 +33,30 @@ static void named(struct footprint *f, int object) {
         set(f->writes, before.waits[object]);
 }
 
-static bool is_timed_wait(const char *call) {
-    static const char *const begins[] = {"tslp", "twai", "tsnd", "trcv", "tget", "dly_"};
-    for (size_t i = 0; i < sizeof begins / sizeof *begins; i++)
-        if (strncmp(call, begins[i], 4) == 0)
-            return true;
-    return false;
-}
-
 /* The calls that name a task: where it is ready its place in the queue may change and the queue look the same. */
-static void named_task(struct footprint *f, const char *call, int task) {
+static void named_task(struct footprint *f, unsigned does, int task) {
     for (int p = 1; p <= fmphost_processors; p++)
-        if (state.processor[p].run == task || strstr(call, "chg_pri") != NULL)
+        if (state.processor[p].run == task || (does & SETS_PRIORITY))
             set(f->writes, QUEUE + p - 1);
 }
 
 void footprint_call(struct footprint *f, int processor, const struct context *caller) {
-    const char *call = caller->request;
+    unsigned does = caller->call->does;
     set(f->reads, QUEUE + processor - 1); /* it dispatches at its end */
     if (caller->processor == 0)
         named(f, caller->object);
     if (caller->named >= 0)
         named(f, caller->named);
     if (caller->named >= 0 && fmphost_objects[caller->named].kind == FMPHOST_TASK)
-        named_task(f, call, caller->named);
-    if (strstr(call, "rot_rdq") != NULL)
+        named_task(f, does, caller->named);
+    if (does & ROTATES)
         for (int p = 0; p < fmphost_processors; p++)
             set(f->writes, QUEUE + p);
-    if (strstr(call, "mig_tsk") || strstr(call, "mact_tsk") || strstr(call, "msta_"))
+    if (does & MOVES)
         each_timer(f->writes);
-    if (strstr(call, "sta_") || strstr(call, "stp_"))
+    if (does & (STARTS | STOPS))
         each_timer(f->reads);
-    if (is_timed_wait(call))
+    if (does & TIMED)
         set(f->writes, TIMER + (fmphost_master ? fmphost_master : processor) - 1);
 }
 

@@ -1,9 +1,12 @@
 /* The kernel in this process: the library fmp. A run is a process of its own, so the machine that is made before all runs is at boot in each. */
 #include "machine.h"
+#include "call_numbers.h"
 #include "fmp.h"
 #include "outcome.h"
 #include <stdio.h>
 #include <string.h>
+
+_Static_assert((int)RET_HDR == (int)FMP_RET_HDR, "the calls have the numbers of fmp.h");
 
 static fmp_machine machine = FMP_NO_MACHINE;
 static char asked[MACHINE_WAITS]; /* events that are not answered yet */

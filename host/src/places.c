@@ -32,44 +32,34 @@ static uint64_t block_part(int64_t block) {
     return mix((uint64_t)block + 1, 0x94d049bb133111ebu);
 }
 
-static bool calls(const struct context *caller, const char *name) {
-    return strstr(caller->request, name) != NULL;
-}
-
 /* Blocks are handed out by a call's answer or by the release of one that waited for it, and given back where nobody waits. */
 static void note_blocks(const struct context *caller, const struct answer *answer, bool accepted) {
-    int first, second;
     for (int i = 0; i < answer->releases; i++) {
         const struct context *released = context_of_task(answer->release[i].task);
-        if (calls(released, "get_mpf") && answer->release[i].code == 0 && released->named >= 0)
+        if ((released->call->does & GETS_BLOCK) && answer->release[i].code == 0 && released->named >= 0)
             handed_out[released->named] += block_part(answer->release[i].value);
     }
     if (!accepted)
         return;
-    if (calls(caller, "get_mpf"))
+    if (caller->call->does & GETS_BLOCK)
         handed_out[caller->named] += block_part(answer->value);
-    if (calls(caller, "rel_mpf") && sscanf(strchr(caller->request, '('), "(%d, %d", &first, &second) == 2)
-        handed_out[caller->named] -= block_part(second);
+    if (caller->call->does & RETURNS_BLOCK)
+        handed_out[caller->named] -= block_part(caller->argument[1]);
 }
 
 /* A task that is on a processor is assigned there: the state tells it then, and what calls named before is no longer asked. */
 static void note_processors(const struct context *caller, bool accepted) {
-    int first, second;
     for (int t = 0; t < fmphost_object_count; t++)
         if (fmphost_objects[t].kind == FMPHOST_TASK && !state.sleeps[t] && state.last_on[t] != before.last_on[t])
             assigned[t] = (unsigned char)state.last_on[t];
-    if (!accepted || sscanf(strchr(caller->request, '('), "(%d, %d", &first, &second) < 1)
+    if (!accepted)
         return;
-    if (calls(caller, "mact_tsk("))
-        queued_for[caller->named] = (unsigned char)second;
-    else if (calls(caller, "act_tsk("))
-        queued_for[caller->named] = NOWHERE;
-    else if (calls(caller, "mig_tsk("))
-        assigned[caller->named] = (unsigned char)second;
-    else if (calls(caller, "msta_cyc("))
-        assigned[caller->named] = (unsigned char)second;
-    else if (calls(caller, "msta_alm(") && sscanf(strchr(caller->request, '('), "(%d, %d, %d", &first, &first, &second) == 3)
-        assigned[caller->named] = (unsigned char)second;
+    unsigned does = caller->call->does;
+    int to = does & MOVES ? (int)caller->argument[call_argument(caller->call, A_PROCESSOR)] : NOWHERE;
+    if (does & ACTIVATES)
+        queued_for[caller->named] = (unsigned char)to;
+    else if (does & MOVES)
+        assigned[caller->named] = (unsigned char)to;
 }
 
 void places_event(const struct context *caller, const struct answer *answer) {
@@ -79,7 +69,7 @@ void places_event(const struct context *caller, const struct answer *answer) {
     note_processors(caller, accepted);
     if (caller != NULL && answer->said == WAIT)
         since[caller->object] = anew[caller->object] = events_so_far;
-    if (accepted && calls(caller, "chg_pri"))
+    if (accepted && (caller->call->does & SETS_PRIORITY))
         anew[caller->named] = events_so_far;
 }
 

@@ -2,21 +2,47 @@
 #include "contexts.h"
 #include "memory.h"
 #include "outcome.h"
-#include <stdarg.h>
 #include <stdlib.h>
 #include <string.h>
 
-void request(const void *place, int named, const char *form, ...) {
+/* The object that the first argument names, or -1. */
+static int object_in(const struct context *me) {
+    int kind = me->call->argument[0];
+    if (kind < A_TASK || kind > A_SPIN_LOCK)
+        return -1;
+    if (kind == A_TASK && me->argument[0] == TSK_SELF)
+        return me->processor == 0 ? me->object : -1;
+    return object_of(kind - A_TASK, (int)me->argument[0]);
+}
+
+/* As an event has it: `wai_flg(1, 3, TWF_ANDW)`. */
+static void write_request(struct context *me) {
+    char *at = me->request, *end = at + sizeof me->request;
+    at += snprintf(at, (size_t)(end - at), me->call->does & RETURNS ? "%s" : "%s(", me->call->name);
+    for (int i = 0; i < MOST_ARGUMENTS && me->call->argument[i] != A_NOTHING; i++) {
+        const char *comma = i > 0 ? ", " : "";
+        if (me->call->argument[i] == A_MODE)
+            at += snprintf(at, (size_t)(end - at), "%s%s", comma, me->argument[i] == TWF_ANDW ? "TWF_ANDW" : "TWF_ORW");
+        else
+            at += snprintf(at, (size_t)(end - at), "%s%lld", comma, (long long)me->argument[i]);
+    }
+    if (!(me->call->does & RETURNS))
+        snprintf(at, (size_t)(end - at), ")");
+}
+
+void request_of(struct context *me, const void *place, enum call_number number, const int64_t *arguments) {
+    me->call = &calls[number];
+    memcpy(me->argument, arguments, sizeof me->argument);
+    me->next = CALL;
+    me->named = object_in(me);
+    me->place = (uintptr_t)place;
+    write_request(me);
+}
+
+void request(const void *place, enum call_number number, const int64_t *arguments) {
     if (running == NULL)
         give_up("a service call outside tasks and handlers, as in a constructor or an atexit function");
-    struct context *me = running;
-    va_list values;
-    va_start(values, form);
-    vsnprintf(me->request, sizeof me->request, form, values);
-    va_end(values);
-    me->next = CALL;
-    me->named = named;
-    me->place = (uintptr_t)place;
+    request_of(running, place, number, arguments);
 }
 
 ER reply(void) {
@@ -26,14 +52,6 @@ ER reply(void) {
 
 int64_t told(void) {
     return running->value;
-}
-
-int task_named(ID tskid) {
-    return tskid != TSK_SELF ? object_of(FMPHOST_TASK, tskid) : running != NULL && running->processor == 0 ? running->object : -1;
-}
-
-const char *mode_word(MODE mode) {
-    return mode == TWF_ANDW ? "TWF_ANDW" : "TWF_ORW";
 }
 
 int block_at(ID mpfid, const void *block) {

@@ -156,8 +156,8 @@ static void make_call(struct context *who, int processor, struct turn *turn) {
     int number = (int)(who - contexts);
     footprint_call(footprint, processor, who);
     spins[number] = answer->said == SPIN;
-    bool ends = answer->said == GONE || (answer->said == CODE && strcmp(who->request, "ret_hdr") == 0);
-    int ended = answer->said == CODE && answer->code == 0 && strncmp(who->request, "ter_tsk", 7) == 0 ? who->named : -1;
+    bool ends = answer->said == GONE || (answer->said == CODE && (who->call->does & RETURNS));
+    int ended = answer->said == CODE && answer->code == 0 && (who->call->does & TERMINATES) ? who->named : -1;
     if (answer->said == WAIT) {
         who->waits = true;
         who->next = NOTHING;

@@ -1,0 +1,16 @@
+/* Made by gen/calls.py of `fmpsim list`: the calls by their numbers, which are those of fmp.h. */
+#ifndef CALL_NUMBERS_H
+#define CALL_NUMBERS_H
+enum call_number {
+    ACT_TSK = 1, IACT_TSK = 2, MACT_TSK = 3, IMACT_TSK = 4, CAN_ACT = 5, MIG_TSK = 6, EXT_TSK = 7, TER_TSK = 8,
+    CHG_PRI = 9, GET_PRI = 10, SLP_TSK = 11, TSLP_TSK = 12, WUP_TSK = 13, IWUP_TSK = 14, CAN_WUP = 15, REL_WAI = 16,
+    IREL_WAI = 17, SUS_TSK = 18, RSM_TSK = 19, DLY_TSK = 20, SIG_SEM = 21, ISIG_SEM = 22, WAI_SEM = 23, TWAI_SEM = 24,
+    POL_SEM = 25, SET_FLG = 26, ISET_FLG = 27, CLR_FLG = 28, WAI_FLG = 29, TWAI_FLG = 30, POL_FLG = 31, SND_DTQ = 32,
+    TSND_DTQ = 33, PSND_DTQ = 34, IPSND_DTQ = 35, FSND_DTQ = 36, IFSND_DTQ = 37, RCV_DTQ = 38, TRCV_DTQ = 39, PRCV_DTQ = 40,
+    GET_MPF = 41, TGET_MPF = 42, PGET_MPF = 43, REL_MPF = 44, STA_CYC = 45, MSTA_CYC = 46, STP_CYC = 47, STA_ALM = 48,
+    ISTA_ALM = 49, MSTA_ALM = 50, IMSTA_ALM = 51, STP_ALM = 52, ISTP_ALM = 53, ROT_RDQ = 54, IROT_RDQ = 55, MROT_RDQ = 56,
+    IMROT_RDQ = 57, GET_TID = 58, IGET_TID = 59, GET_PID = 60, IGET_PID = 61, LOC_CPU = 62, ILOC_CPU = 63, UNL_CPU = 64,
+    IUNL_CPU = 65, DIS_DSP = 66, ENA_DSP = 67, SNS_CTX = 68, SNS_LOC = 69, SNS_DSP = 70, SNS_DPN = 71, LOC_SPN = 72,
+    ILOC_SPN = 73, TRY_SPN = 74, ITRY_SPN = 75, UNL_SPN = 76, IUNL_SPN = 77, RET_HDR = 78,
+};
+#endif
