@@ -27,8 +27,9 @@ fmphost_clang := $(findstring clang,$(shell $(CC) --version 2>/dev/null))
 fmphost_c := $(CC) -std=gnu11 -g -MMD -MP -I'$(FMPHOST)/include' -I'$(FMPHOST_OUT)'
 # The hooks have C's types, which are not those that gcc knows of its sanitizers.
 fmphost_own := -I'$(FMPHOST)/../include' -O2 -fvisibility=hidden -Wall -Wextra $(if $(fmphost_clang),,-Wno-builtin-declaration-mismatch)
-# Each access calls a hook, each line is its own (-O0), and a call's place is that of its caller.
-fmphost_seen := -O0 -fno-optimize-sibling-calls -fsanitize=thread \
+# Each access and each function calls a hook, each line is its own (-O0), and a call's place is that of its caller. The project's code has a
+# section of its own, so that its functions are known.
+fmphost_seen := -O0 -fno-optimize-sibling-calls -finstrument-functions -fsanitize=thread \
     $(if $(fmphost_clang),-mllvm -tsan-distinguish-volatile=1 -mllvm -tsan-instrument-read-before-write=1,--param tsan-distinguish-volatile=1)
 fmphost_objects := $(patsubst %.c,$(FMPHOST_OUT)/%.o,$(notdir $(FMPHOST_SOURCES)))
 fmphost_kernel := $(if $(FMPHOST_FMP),pipes,in_process)
@@ -45,6 +46,7 @@ $(fmphost_objects): $(FMPHOST_OUT)/%.o: %.c $(FMPHOST_OUT)/kernel_cfg.h
 	$(fmphost_c) $(fmphost_seen) $(FMPHOST_FLAGS) -c -o $@ $<
 $(FMPHOST_OUT)/kernel_cfg.o: $(FMPHOST_OUT)/kernel_cfg.c
 	$(fmphost_c) $(FMPHOST_SANITIZERS) -O1 -I. $(addprefix -I,$(sort $(dir $(FMPHOST_SOURCES) $(FMPHOST_CFG)))) $(FMPHOST_FLAGS) -c -o $@ $<
+	$(OBJCOPY) --rename-section .text=fmphost_project,alloc,load,readonly,code,contents $@
 $(FMPHOST_OUT)/kernel_cfg.c: $(FMPHOST_OUT)/kernel_cfg.h
 	@touch $@
 $(FMPHOST_OUT)/kernel_cfg.h: $(FMPHOST_CFG) $(FMPHOST)/gen/fmphost-cfg

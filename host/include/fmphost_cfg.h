@@ -15,6 +15,7 @@ struct fmphost_object {
     size_t size;        /* of a block */
     unsigned char *memory;
     int counts;         /* a cyclic handler that counts ticks from boot */
+    int processor;      /* on which a task or handler begins */
 };
 
 extern const struct fmphost_object fmphost_objects[];

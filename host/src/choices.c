@@ -115,17 +115,16 @@ static int action_of_line(void) {
     return (processor - 1) * ACTS + act;
 }
 
-/* `# fmphost order: ticks 3, timed 1, points 4068 4070`: what the run that wrote it was asked and knew. */
+/* `# fmphost order: ticks 3, points 4068 4070`: what the run that wrote it was asked and knew. */
 static void read_head(void) {
     long ticks;
-    int timed, used;
+    int used;
     has_points = false;
-    if (sscanf(line, "# fmphost order: ticks %ld, timed %d, points%n", &ticks, &timed, &used) != 2)
+    if (sscanf(line, "# fmphost order: ticks %ld, points%n", &ticks, &used) != 1)
         return;
     has_points = true;
     if (!options.ticks_named)
         options.ticks = ticks;
-    ticks_from_boot = timed != 0;
     for (char *at = line + used, *end; *at == ' '; at = end)
         learn_word((uintptr_t)strtoull(at, &end, 16));
 }
@@ -140,7 +139,7 @@ void replay_open(void) {
     rewind(replayed);
     replays_trace = !next_line() ? !has_points : line[0] >= '0' && line[0] <= '9';
     if (replays_trace) {
-        ticks_from_boot = true;
+        every_tick = true;
         options.ticks = options.ticks_named ? options.ticks : 1000000;
     }
     rewind(replayed);

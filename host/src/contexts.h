@@ -32,6 +32,9 @@ extern struct context *running; /* whose code runs, NULL in the runner */
 
 void contexts_make(void);
 struct context *context_of_task(int object);
+static inline bool is_accepted(const struct context *caller, const struct answer *answer) {
+    return caller != NULL && answer->said == CODE && answer->code == 0;
+}
 struct context *context_of_handler(int object, int processor);
 const char *context_name(int context);
 void context_resume(struct context *context); /* until it stands before something */

@@ -1,4 +1,5 @@
 /* What the compiler calls before each access, by -fsanitize=thread: these stand in the place of the sanitizer's library, which is not linked. */
+#include "coverage.h"
 #include "memory.h"
 #include "options.h"
 #include "run.h"
@@ -25,6 +26,8 @@ ACCESSES(16)
 PUBLIC void __tsan_read_range(void *at, unsigned long size) { memory_touch((uintptr_t)at, (unsigned)size, false, false, PLACE); }
 PUBLIC void __tsan_write_range(void *at, unsigned long size) { memory_touch((uintptr_t)at, (unsigned)size, true, false, PLACE); }
 PUBLIC void __tsan_init(void) { instrumented = true; }
+PUBLIC void __cyg_profile_func_enter(void *function, void *caller) { (void)caller, coverage_function((uintptr_t)function); }
+PUBLIC void __cyg_profile_func_exit(void *function, void *caller) { (void)function, (void)caller; }
 PUBLIC void __tsan_func_entry(void *place) { (void)place; }
 PUBLIC void __tsan_func_exit(void) { }
 

@@ -1,5 +1,6 @@
 #define _GNU_SOURCE
 #include "clocks.h"
+#include "coverage.h"
 #include "memory.h"
 #include "options.h"
 #include "outcome.h"
@@ -40,6 +41,7 @@ __attribute__((visibility("default"))) int main(int count, char **words) {
     places_make();
     search_make();
     report_make();
+    coverage_make();
     proved_check(options.fmpsim, options.configuration);
     machine_prepare(options.fmpsim, options.configuration);
     return options.mode == BY_REPLAY ? play_file() : options.mode == BY_PLACES ? play_places() : options.mode == BY_SEEDS ? play_seeds() : play_orders();

@@ -2,9 +2,10 @@
 #include "clocks.h"
 #include "outcome.h"
 #include "run.h"
+#include <stdio.h>
 #include <string.h>
 
-enum { WORD = 8, MOST_SEEN = 12, MOST_WORDS = 1 << 15, WORD_SLOTS = 1 << 16, MOST_ATOMIC = 1 << 10 };
+enum { WORD = 8, MOST_SEEN = 12, MOST_WORDS = 1 << 17, WORD_SLOTS = 1 << 18, MOST_ATOMIC = 1 << 10 };
 struct seen { /* an access that was made, of one context */
     short context;
     unsigned char bytes; /* which of the word's */
@@ -51,8 +52,10 @@ static struct word *word_at(uintptr_t number, bool make) {
             return &words[slots[i] - 1];
     if (!make)
         return NULL;
-    if (word_count == MOST_WORDS)
-        give_up("the program touches more than %d words of memory in a run: --turns makes runs shorter", MOST_WORDS);
+    if (word_count == MOST_WORDS) {
+        snprintf(outcome->left[LEFT_MEMORY], sizeof outcome->left[LEFT_MEMORY], "accesses beyond the first %d words of memory", MOST_WORDS);
+        return NULL;
+    }
     struct word *word = &words[word_count++];
     slots[i] = (uint32_t)word_count;
     *word = (struct word){.number = number, .first = -1, .at_first = value_of(number)};
@@ -69,7 +72,8 @@ static bool is_learned(uintptr_t number) {
 }
 
 void learn_word(uintptr_t number) {
-    if (is_learned(number) || learned->count == MOST_LEARNED)
+    learned->full |= learned->count == MOST_LEARNED && !is_learned(number);
+    if (learned->full || is_learned(number))
         return;
     size_t i = slot_of(number, LEARNED_SLOTS);
     while (learned->slot[i] != 0)

@@ -11,8 +11,7 @@
 enum { MOST_LEARNED = 1 << 13, LEARNED_SLOTS = 1 << 15 };
 struct learned {
     long count;
-    bool timed;   /* something counts ticks */
-    bool learns;
+    bool learns, full;
     uintptr_t word[MOST_LEARNED];
     short slot[LEARNED_SLOTS]; /* the words by their hashes, from 1 */
 };

@@ -96,6 +96,36 @@ static void ask_symbol(uintptr_t address, char *name, size_t room) {
         pclose(tool);
 }
 
+/* A local static variable has a number behind its name. */
+bool variable_range(const char *name, uintptr_t *from, uint64_t *bytes) {
+    FILE *tool = ask_tool("nm -nS --defined-only", " 2>/dev/null");
+    char line[700], symbol[512], type;
+    unsigned long at, size, found = 0;
+    while (tool != NULL && fgets(line, sizeof line, tool)) {
+        if (sscanf(line, "%lx %lx %c %511s", &at, &size, &type, symbol) != 4 || strchr("bBdDsSvV", type) == NULL)
+            continue;
+        symbol[strcspn(symbol, ".")] = '\0';
+        if (strcmp(symbol, name) == 0) {
+            found++;
+            *from = at + load_address(), *bytes = size;
+        }
+    }
+    if (tool != NULL)
+        pclose(tool);
+    return found == 1;
+}
+
+void each_function(void (*see)(uintptr_t code, const char *name)) {
+    FILE *tool = ask_tool("nm -n --defined-only", " 2>/dev/null");
+    char line[700], symbol[512], type;
+    unsigned long at;
+    while (tool != NULL && fgets(line, sizeof line, tool))
+        if (sscanf(line, "%lx %c %511s", &at, &type, symbol) == 3 && (type == 't' || type == 'T'))
+            see(at + load_address(), symbol);
+    if (tool != NULL)
+        pclose(tool);
+}
+
 const char *variable_name(uintptr_t address) {
     enum { MOST_KNOWN = 256 };
     static struct { uintptr_t address; char name[600]; } known[MOST_KNOWN];

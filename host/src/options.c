@@ -18,7 +18,7 @@ static const char usage[] =
     "  --places            every order, and no place is gone on from twice: for programs that never end\n"
     "  --replay FILE       a file: an order that --order wrote, or a trace\n"
     "How far:\n"
-    "  --ticks N|any       so many ticks for each processor (3); any goes with --places\n"
+    "  --ticks N|any       so many times on each processor ticks go on to what is due next (3); any goes with --places\n"
     "  --turns N           so many turns in a run (2000)\n"
     "  --runs N            so many runs\n"
     "  --seconds N         code that comes to no service call in that time hangs (10)\n"
@@ -44,7 +44,7 @@ static const char usage[] =
     "  --config CFG        the configuration, where it is no longer where kernel_cfg.c was made of it\n"
     "  --fmpsim PROGRAM    the program (FMPSIM, else fmpsim)\n"
     "\n"
-    "Status: 0 nothing found, 5 found, 6 nothing found and not all was looked at, 2 wrong words, 3 something failed.\n";
+    "Status: 0 nothing found as far as the last line says, 5 found, 6 nothing found and not all was looked at, 2 wrong words, 3 something failed.\n";
 
 struct options options;
 static bool mode_named;

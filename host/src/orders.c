@@ -1,5 +1,6 @@
 /* The searches, and the replay of a file. */
 #include "choices.h"
+#include "coverage.h"
 #include "memory.h"
 #include "outcome.h"
 #include "places.h"
@@ -14,7 +15,6 @@
 static long runs;
 static struct path first_path;      /* of the first finding, */
 static long first_learned;          /* and what was known when its run began */
-static bool first_timed;
 
 static bool is_enough(void) {
     return (found_so_far() && !options.goes_on) || runs >= options.most_runs;
@@ -26,7 +26,6 @@ static void count(bool counts_end) {
         path_of_outcome();
         first_path = path;
         first_learned = learned_before;
-        first_timed = ticks_from_boot;
     }
     note_run((uint64_t)runs, counts_end);
 }
@@ -34,6 +33,7 @@ static void count(bool counts_end) {
 static void begin_anew(void) {
     runs = 0;
     kept->valid = 0;
+    coverage_forget();
     forget_runs();
 }
 
@@ -45,7 +45,6 @@ static int tell(const char *what, bool complete) {
         tell_findings(what);
         first_finding(&hash);
         learned_only(first_learned);
-        ticks_from_boot = first_timed;
         path = first_path;
         kept->valid = 0;
         process_run(by_path);
@@ -61,24 +60,16 @@ static int tell(const char *what, bool complete) {
 
 /* --- orders --- */
 
-/* Points or ticks were missing where more was learned, so what was gone through may not be all. */
-static bool learned_more(long *words, bool *timed) {
-    bool more = *words != learned->count || *timed != learned->timed;
-    *words = learned->count;
-    *timed = learned->timed;
-    return more;
-}
-
 int play_orders(void) {
     bool complete = false;
     learn_words();
     long words = learned->count;
-    bool timed = learned->timed;
     begin_anew();
     for (;;) {
-        ticks_from_boot = learned->timed;
         process_run(search_choose);
-        if (learned_more(&words, &timed) && (!is_finding() || options.goes_on)) {
+        /* points were missing where words were learned, so what was gone through may not be all */
+        if (words != learned->count && (!is_finding() || options.goes_on)) {
+            words = learned->count;
             search_anew();
             begin_anew();
             continue;
@@ -107,8 +98,12 @@ static int by_place(uint32_t enabled, long turn) {
         return wanted;
     bool is_new;
     long here = places_here(from_place, wanted, &is_new);
-    if (is_new)
+    if (is_new) {
         places->place[here].enabled = enabled;
+        places->place[here].cut_ticks = run_cut_ticks();
+        if (places->place[here].cut_ticks)
+            run_leaves_ticks(false);
+    }
     return enabled == 0 ? ENDS_HERE : LEAVES_OFF;
 }
 
@@ -147,7 +142,7 @@ static bool go_through(long words) {
 
 static void look_for_stuck(void) {
     int task;
-    long place = places_stuck(&task);
+    long place = places_stuck(&task, true);
     if (place < 0 || (path.length = places_path(place, path.action, options.turns - 1)) < 0)
         return;
     kept->valid = 0;
@@ -157,19 +152,27 @@ static void look_for_stuck(void) {
     count(false);
 }
 
+/* One that waits for ever, unless it goes on behind a place at which ticks were cut off. */
+static void look_for_undecided(void) {
+    int task;
+    if (places_stuck(&task, false) >= 0)
+        leave_untried(LEFT_TICKS, "%s may wait for ever", context_name(task));
+}
+
 int play_places(void) {
     bool complete;
     long words;
     learn_words();
     do {
         words = learned->count;
-        ticks_from_boot = learned->timed;
         places_anew();
         begin_anew();
         complete = go_through(words);
-    } while ((words != learned->count || ticks_from_boot != learned->timed) && (!found_so_far() || options.goes_on));
+    } while (words != learned->count && (!found_so_far() || options.goes_on));
     if (complete && !found_so_far())
         look_for_stuck();
+    if (complete && !found_so_far())
+        look_for_undecided();
     return tell("step", complete);
 }
 

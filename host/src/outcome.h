@@ -7,6 +7,8 @@
 /* Those from ASLEEP on are findings, up to BROKEN, where the host itself failed and has told why. A run that is UNENDED was left by exit(). */
 enum ending { UNENDED, QUIET, LEFT_OFF, LIMIT, CUT_SHORT, ASLEEP, CLAIM, RACE, CRASH, HANG, BROKEN };
 enum { MOST_TURNS = 1 << 15 };
+/* Why what comes after a run, or beside it, was not looked at. */
+enum left { LEFT_TICKS, LEFT_TURNS, LEFT_EVENTS, LEFT_MEMORY, LEFT_KINDS };
 
 /* One turn: which of the things that could happen did. An action is a processor and one of these. */
 enum act { GO, IPI, TICK, ACTS };
@@ -14,7 +16,8 @@ struct turn {
     unsigned char action; /* processor * ACTS + act */
     short context;        /* who went on, -1 where nobody did */
     long answers_before;  /* that at boot among them */
-    long record;          /* the line of the trace that it made, from 1, or 0 */
+    long record;          /* the last line of the trace that it made, from 1, or 0 */
+    long ticks;           /* TICK: how many ticks it was */
     uintptr_t at, place;  /* the address that it touched, and the code that did */
     unsigned size;
     bool writes;
@@ -30,6 +33,7 @@ struct outcome {
     enum ending ending;
     long turns, events;
     char words[4096];
+    char left[LEFT_KINDS][1024]; /* who or what is left there, by name, or nothing */
     struct access race[2];
     uintptr_t crash, last;   /* where, and the last place of the program before it */
     uint64_t end;            /* a hash of the last state, to count the ends that differ */

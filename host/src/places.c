@@ -9,14 +9,15 @@
 #include "memory.h"
 #include "outcome.h"
 #include "run.h"
+#include "timers.h"
 #include <stdio.h>
 #include <string.h>
 
 struct places *places;
 static uint32_t since[MOST_OBJECTS], anew[MOST_OBJECTS], events_so_far; /* when a task began to wait, and was last given a priority */
-/* The processor where a task or handler is assigned, and that of a queued activation, as far as calls have named them. */
+/* The processor of a queued activation, as far as calls have named it. */
 enum { NOWHERE = 255 };
-static unsigned char assigned[MOST_OBJECTS], queued_for[MOST_OBJECTS];
+static unsigned char queued_for[MOST_OBJECTS];
 static uint64_t handed_out[MOST_OBJECTS];                               /* a sum over a pool's blocks that are */
 
 void places_make(void) {
@@ -47,26 +48,17 @@ static void note_blocks(const struct context *caller, const struct answer *answe
         handed_out[caller->named] -= block_part(caller->argument[1]);
 }
 
-/* A task that is on a processor is assigned there: the state tells it then, and what calls named before is no longer asked. */
-static void note_processors(const struct context *caller, bool accepted) {
-    for (int t = 0; t < fmphost_object_count; t++)
-        if (fmphost_objects[t].kind == FMPHOST_TASK && !state.sleeps[t] && state.last_on[t] != before.last_on[t])
-            assigned[t] = (unsigned char)state.last_on[t];
-    if (!accepted)
-        return;
-    unsigned does = caller->call->does;
-    int to = does & MOVES ? (int)caller->argument[call_argument(caller->call, A_PROCESSOR)] : NOWHERE;
-    if (does & ACTIVATES)
-        queued_for[caller->named] = (unsigned char)to;
-    else if (does & MOVES)
-        assigned[caller->named] = (unsigned char)to;
+static void note_queued(const struct context *caller, bool accepted) {
+    int at = accepted ? call_argument(caller->call, A_PROCESSOR) : -1;
+    if (accepted && (caller->call->does & ACTIVATES))
+        queued_for[caller->named] = (unsigned char)(at >= 0 ? caller->argument[at] : NOWHERE);
 }
 
 void places_event(const struct context *caller, const struct answer *answer) {
-    bool accepted = caller != NULL && answer->said == CODE && answer->code == 0 && caller->named >= 0;
+    bool accepted = is_accepted(caller, answer) && caller->named >= 0;
     events_so_far++;
     note_blocks(caller, answer, accepted);
-    note_processors(caller, accepted);
+    note_queued(caller, accepted);
     if (caller != NULL && answer->said == WAIT)
         since[caller->object] = anew[caller->object] = events_so_far;
     if (accepted && (caller->call->does & SETS_PRIORITY))
@@ -101,7 +93,7 @@ static uint64_t kernel_part(uint64_t sum) {
             sum = mix(sum, (uint64_t)run_ticks(p));
     }
     for (int i = 0; i < fmphost_object_count; i++)
-        sum = mix(mix(mix(sum, state.told[i]), (uint64_t)(assigned[i] * 256 + queued_for[i])), handed_out[i]);
+        sum = mix(mix(mix(sum, state.told[i]), (uint64_t)(assigned_to(i) * 256 + queued_for[i])), handed_out[i]);
     return mix(mix(sum, order_of(since)), order_of(anew));
 }
 
@@ -154,10 +146,10 @@ void places_anew(void) {
 }
 
 /* Marks the places from which some order leads to one where this task does not wait, and says whether there is one from which none does. */
-static bool mark_goes_on(bool *goes_on, uint64_t task) {
+static bool mark_goes_on(bool *goes_on, uint64_t task, bool ticks_may_help) {
     bool more = true, any = false;
     for (long i = 0; i < places->count; i++) {
-        goes_on[i] = !(places->place[i].waits & task);
+        goes_on[i] = !(places->place[i].waits & task) || (ticks_may_help && places->place[i].cut_ticks);
         any |= !goes_on[i];
     }
     while (any && more) {
@@ -171,12 +163,12 @@ static bool mark_goes_on(bool *goes_on, uint64_t task) {
 
 /*
  * A place from which no order lets a task go on that waits there, or -1. That is more than that it waits for long: it is so however lucky the
- * order is; and less than that all has come to an end: the rest may go on for ever.
+ * order is; and less than that all has come to an end: the rest may go on for ever. Where ticks were cut off, one more might help.
  */
-long places_stuck(int *task) {
+long places_stuck(int *task, bool ticks_may_help) {
     static bool goes_on[MOST_PLACES];
     for (int t = 0; t < MOST_TASKS; t++)
-        if (mark_goes_on(goes_on, (uint64_t)1 << t))
+        if (mark_goes_on(goes_on, (uint64_t)1 << t, ticks_may_help))
             for (long i = 0; i < places->count; i++)
                 if (!goes_on[i]) {
                     *task = t;

@@ -8,7 +8,8 @@ struct place {
     uint64_t hash, waits; /* the tasks that wait there without a timeout */
     long from;            /* the place that it was first come to from */
     int action;
-    uint32_t enabled;     /* what may happen there */
+    uint32_t enabled;     /* what may happen there, */
+    bool cut_ticks;       /* and whether a tick could, but for --ticks */
 };
 struct step { uint32_t from, to; };
 struct places {
@@ -23,6 +24,6 @@ void places_make(void);
 void places_event(const struct context *caller, const struct answer *answer); /* keeps what no state tells */
 long places_here(long from, int action, bool *is_new);
 void places_anew(void);
-long places_stuck(int *task);
+long places_stuck(int *task, bool ticks_may_help);
 long places_path(long place, unsigned char *actions, long room);
 #endif

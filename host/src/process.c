@@ -1,6 +1,7 @@
 #define _GNU_SOURCE
 #include "process.h"
 #include "choices.h"
+#include "coverage.h"
 #include "memory.h"
 #include "outcome.h"
 #include <errno.h>
@@ -56,6 +57,7 @@ void add_quoted(char *command, uint64_t size, const char *text) {
 
 /* The bounds of the program, and of the host's own code in it: the linker has them. */
 extern char __executable_start[], etext[], __start_fmphost_text[] __attribute__((weak)), __stop_fmphost_text[] __attribute__((weak));
+extern char __start_fmphost_project[] __attribute__((weak)), __stop_fmphost_project[] __attribute__((weak));
 
 /* Where the program's code is. What the host or the C library did was for the last access or call. */
 static uintptr_t crashing_code(const void *context) {
@@ -65,9 +67,10 @@ static uintptr_t crashing_code(const void *context) {
 #else
     (void)context;
 #endif
+    bool project = code >= (uintptr_t)__start_fmphost_project && code < (uintptr_t)__stop_fmphost_project;
     bool own = code >= (uintptr_t)__start_fmphost_text && code < (uintptr_t)__stop_fmphost_text;
     bool outside = code < (uintptr_t)__executable_start || code >= (uintptr_t)etext;
-    return own || outside ? outcome->last : code + 1;
+    return !project && (own || outside) ? outcome->last : code + 1;
 }
 
 static void crashed(int number, siginfo_t *info, void *context) {
@@ -121,6 +124,8 @@ void process_run(chooser *choose) {
     outcome->ending = UNENDED;
     outcome->turns = outcome->events = outcome->trace_length = 0;
     outcome->crash = outcome->last = outcome->end = outcome->trace_hash = 0;
+    for (int kind = 0; kind < LEFT_KINDS; kind++)
+        outcome->left[kind][0] = '\0';
     learned_before = learned->count;
     pid_t child = fork();
     if (child < 0)
@@ -155,5 +160,6 @@ void learn_words(void) {
             break;
     }
     options = asked;
+    coverage_forget();
     learned->learns = options.mode != BY_SEEDS && options.mode != BY_REPLAY;
 }

@@ -169,6 +169,10 @@ void proved_start(void) {
     next_answer(&none, 0);
 }
 
+bool proved_full(void) {
+    return answers > MOST_EVENTS - 2 || kept->used > ANSWER_ROOM - ROOM_LEFT || trace_length > ANSWER_ROOM - ROOM_LEFT;
+}
+
 void proved_stop(void) {
     machine_stop();
 }

@@ -5,7 +5,7 @@
 #include <stdbool.h>
 #include <stdint.h>
 
-enum { MOST_PROCESSORS = 8, MOST_TASKS = 64, MOST_OBJECTS = 64 + 7 * 32, MOST_EVENTS = 1 << 16 };
+enum { MOST_PROCESSORS = 8, MOST_TASKS = 64, MOST_OBJECTS = 64 + 7 * 32, MOST_EVENTS = 1 << 17 };
 enum said { CODE, WAIT, SPIN, GONE, IDLE, HELD, TAKEN, NONE };
 
 struct release {
@@ -33,7 +33,7 @@ struct state {
     bool counting[MOST_OBJECTS];     /* a task or handler that has ticks left */
     bool stopped[MOST_OBJECTS];      /* a cyclic handler that was started at boot */
     signed char held[MOST_OBJECTS];  /* of a spin lock, the processor that holds it */
-    signed char last_on[MOST_OBJECTS]; /* the processor on which a task was last seen to run or to be ready */
+    signed char on[MOST_OBJECTS];    /* the processor on which a task runs or is ready, or 0 */
 };
 
 extern struct state state, before; /* now, and before the last event */
@@ -44,12 +44,13 @@ extern long answers;               /* how many came so far, that at boot among t
 void proved_check(const char *program, const char *configuration); /* gives up where kernel_cfg.c was made of something else */
 void proved_start(void);
 void proved_stop(void);
+bool proved_full(void);            /* there is no room for the answers to many more events */
 const struct answer *proved_event(int processor, const char *event);
 int object_of(int kind, int number);
 int object_named(const char *name, uint64_t length);
 
 /* What the last run was told, so that a run that begins alike asks again for nothing before it parts from it. */
-enum { ANSWER_ROOM = 64 << 20 };
+enum { ANSWER_ROOM = 256 << 20, ROOM_LEFT = 1 << 20 };
 struct kept_answers {
     long count, valid;         /* the answers that are kept, and how many of them the next run begins with */
     long at[MOST_EVENTS];

@@ -44,14 +44,14 @@ static int known_object(const char *name, size_t length, const char *line) {
     return object;
 }
 
-/* A task that is on a processor now is the one thing that tells where it is assigned, once it waits. */
+/* That a task is on a processor is the one thing that tells where it is assigned. */
 static void seen_on(const char *names, const char *end, int processor, const char *line) {
     while (names < end) {
         size_t length = strcspn(names, ", ");
         if (length > (size_t)(end - names))
             length = (size_t)(end - names);
         if (*names != '-')
-            state.last_on[known_object(names, length, line)] = (signed char)processor;
+            state.on[known_object(names, length, line)] = (signed char)processor;
         names += length + 1;
     }
 }
@@ -123,6 +123,7 @@ void state_begin(void) {
     memset(state.counting, 0, sizeof state.counting);
     memset(state.stopped, 0, sizeof state.stopped);
     memset(state.held, 0, sizeof state.held);
+    memset(state.on, 0, sizeof state.on);
     for (int i = 0; i < MOST_OBJECTS; i++)
         state.waits[i] = -1;
 }

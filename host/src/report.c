@@ -1,5 +1,6 @@
 #define _GNU_SOURCE
 #include "report.h"
+#include "coverage.h"
 #include "memory.h"
 #include "names.h"
 #include "options.h"
@@ -7,6 +8,7 @@
 #include "process.h"
 #include "search.h"
 #include <errno.h>
+#include <stdarg.h>
 #include <stdatomic.h>
 #include <stdio.h>
 #include <stdlib.h>
@@ -23,12 +25,18 @@ struct finding {
     struct access race[2];
     uintptr_t crash, last;
 };
+struct untried { /* of one kind: how many runs left something, and the first of them what */
+    long count;
+    uint64_t number;
+    char words[1024];
+};
 /* Shared by those that play seeds side by side. */
 static struct tally {
     atomic_flag taken;
     long runs, cut, findings, turns, events, end_count, kinds;
     uint64_t ends_sum, ends[MOST_ENDS];
     struct finding finding[MOST_FINDINGS];
+    struct untried untried[LEFT_KINDS];
 } *tally;
 static double began;
 
@@ -77,6 +85,27 @@ static void note_finding(uint64_t number) {
         tally->finding[tally->kinds++] = found;
 }
 
+static void note_left(uint64_t number) {
+    for (int kind = 0; kind < LEFT_KINDS; kind++) {
+        struct untried *untried = &tally->untried[kind];
+        if (outcome->left[kind][0] == '\0')
+            continue;
+        if (untried->count++ == 0 || number < untried->number) {
+            untried->number = number;
+            memcpy(untried->words, outcome->left[kind], sizeof untried->words);
+        }
+    }
+}
+
+void leave_untried(enum left kind, const char *form, ...) {
+    va_list values;
+    if (tally->untried[kind].count++ > 0)
+        return;
+    va_start(values, form);
+    vsnprintf(tally->untried[kind].words, sizeof tally->untried[kind].words, form, values);
+    va_end(values);
+}
+
 /* The second machine of fmpsim, which shares no queue and no timer with the one that the program ran on, has to say yes. */
 static void judge(void) {
     char path[] = "/tmp/fmphost.XXXXXX", command[9000] = "", verdict[64] = "nothing\n";
@@ -112,6 +141,7 @@ void note_run(uint64_t number, bool counts_end) {
         note_finding(number);
     if (counts_end)
         note_end();
+    note_left(number);
     atomic_flag_clear(&tally->taken);
 }
 
@@ -170,8 +200,70 @@ void tell_findings(const char *what) {
         fprintf(stderr, "fmphost: and perhaps other kinds: there is room for %d\n", MOST_FINDINGS);
 }
 
+static const char *where_left(enum left kind, char *into, size_t room) {
+    if (kind == LEFT_TICKS)
+        snprintf(into, room, "what comes after %ld tick%s of a processor: ", options.ticks, options.ticks == 1 ? "" : "s");
+    else if (kind == LEFT_TURNS)
+        snprintf(into, room, "what comes after %ld turns: ", options.turns);
+    else
+        snprintf(into, room, kind == LEFT_EVENTS ? "what comes after the events that there is room for: " : "");
+    return into;
+}
+
+static bool tell_untried_of(const char *what, enum left kind) {
+    const struct untried *untried = &tally->untried[kind];
+    char where[128];
+    if (untried->count == 0)
+        return false;
+    fprintf(stderr, "fmphost: not looked at: %s%s", where_left(kind, where, sizeof where), untried->words);
+    if (untried->number > 0)
+        fprintf(stderr, " (%s %llu", what, (unsigned long long)untried->number);
+    if (untried->number > 0 && untried->count > 1)
+        fprintf(stderr, ", and %ld more", untried->count - 1);
+    fputs(untried->number > 0 ? ")\n" : "\n", stderr);
+    return true;
+}
+
+/* What was cut off, by name. */
+static bool tell_untried(const char *what, bool complete) {
+    bool any = false;
+    char handlers[1024];
+    for (int kind = 0; kind < LEFT_KINDS; kind++)
+        any |= tell_untried_of(what, (enum left)kind);
+    if (!options.ticks_any && options.mode != BY_REPLAY && coverage_waited(handlers, sizeof handlers) && (any = true))
+        fprintf(stderr, "fmphost: not looked at: handlers that had ticks left and never ran: %s\n", handlers);
+    if (options.mode == BY_PREEMPTIONS && search_limited() && (any = true))
+        fprintf(stderr, "fmphost: not looked at: orders in which a processor that could go on is left more than %ld times\n", options.preemptions);
+    if (learned->full && (any = true))
+        fprintf(stderr, "fmphost: not looked at: orders of accesses to more than %d words that are shared\n", MOST_LEARNED);
+    if (!complete && tally->runs >= options.most_runs)
+        fprintf(stderr, "fmphost: not looked at: %ss after the first %ld\n", what, tally->runs);
+    return any;
+}
+
+/* What was looked at, where all of it was. */
+static void tell_extent(void) {
+    static const char *const ways[] = {[EVERY_ORDER] = "every order", [ALL_ORDERS] = "all orders", [BY_PREEMPTIONS] = "every order",
+                                       [BY_PLACES] = "every place", [BY_REPLAY] = "in this order"};
+    fputs(": nothing found", stderr);
+    if (coverage_counted() && options.mode != BY_REPLAY)
+        options.ticks_any ? fputs(" within any ticks", stderr) : fprintf(stderr, " within %ld tick%s", options.ticks, options.ticks == 1 ? "" : "s");
+    if (options.mode == BY_SEEDS)
+        fprintf(stderr, ", each of %ld seeds to its end\n", tally->runs);
+    else
+        fprintf(stderr, ", %s\n", ways[options.mode]);
+}
+
 int tell_summary(const char *what, bool complete) {
     double took = seconds() - began;
+    bool told = !tally->findings || options.goes_on; /* else the search stopped at what it found */
+    bool all = complete;
+    if (told)
+        all &= !tell_untried(what, complete);
+    if (told && options.mode != BY_REPLAY)
+        coverage_tell();
+    if (!outcome->instrumented)
+        fputs("fmphost: the program was not compiled with -fsanitize=thread, so no race was looked for\n", stderr);
     fprintf(stderr, "fmphost: %ld %s%s, %ld turns, %ld events, %.2f s", tally->runs, what, tally->runs == 1 ? "" : "s", tally->turns, tally->events, took);
     if (options.mode == BY_PLACES)
         fprintf(stderr, ", %ld places", places->count);
@@ -183,10 +275,12 @@ int tell_summary(const char *what, bool complete) {
         fprintf(stderr, ", %ld ends %016llx", tally->end_count, (unsigned long long)tally->ends_sum);
     if (options.goes_on && tally->findings > 1)
         fprintf(stderr, ", %ld findings", tally->findings);
-    bool all = complete && (!tally->cut || options.mode == BY_SEEDS);
-    fputs(tally->findings ? (all ? "\n" : ", not all\n") : all ? ": nothing found\n" : ": nothing found, but not all was looked at\n", stderr);
-    if (!outcome->instrumented)
-        fputs("fmphost: the program was not compiled with -fsanitize=thread, so no race was looked for\n", stderr);
+    if (!complete && tally->runs >= options.most_runs)
+        fprintf(stderr, ", cut at %ld %ss", tally->runs, what);
+    if (!tally->findings && all)
+        tell_extent();
+    else
+        fputs(tally->findings ? (all ? "\n" : ", not all\n") : ": nothing found, but not all was looked at\n", stderr);
     return tally->findings ? 5 : all ? 0 : 6;
 }
 
@@ -219,7 +313,7 @@ void turn_text(long number, char *into, uint64_t size) {
     const struct turn *turn = &outcome->turn[number];
     char record[2048];
     if (turn->record > 0 && record_text(turn->record, record, sizeof record))
-        snprintf(into, size, "%s", strchr(record, ' ') + 1);
+        snprintf(into, size, turn->ticks > 1 ? "%s   (%ld ticks)" : "%s", strchr(record, ' ') + 1, turn->ticks);
     else if (turn->size != 0)
         snprintf(into, size, "%s %s %s", context_name(turn->context), turn->writes ? "writes" : "reads", variable_name(turn->at));
     else
@@ -232,7 +326,7 @@ static void write_order(const char *path) {
     FILE *file = fopen(path, "w");
     if (file == NULL)
         unwritten(path);
-    fprintf(file, "# fmphost order: ticks %ld, timed %d, points", options.ticks, ticks_from_boot);
+    fprintf(file, "# fmphost order: ticks %ld, points", options.ticks);
     for (long i = 0; i < learned_before; i++)
         fprintf(file, " %lx", (unsigned long)learned->word[i]);
     fputc('\n', file);

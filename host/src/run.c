@@ -1,21 +1,23 @@
 #include "run.h"
 #include "clocks.h"
+#include "coverage.h"
 #include "memory.h"
 #include "outcome.h"
 #include "places.h"
+#include "timers.h"
 #include <stdarg.h>
 #include <stdio.h>
 #include <string.h>
 #include <unistd.h>
 
-bool instrumented, ticks_from_boot;
+bool instrumented, every_tick;
 static struct footprint unused;
 struct footprint *footprint = &unused;
 struct outcome *outcome;
-static long ticks[MOST_PROCESSORS + 1];
+static long ticks[MOST_PROCESSORS + 1], tick_turns[MOST_PROCESSORS + 1];
+static bool began[MOST_OBJECTS];                /* a handler that ran in this run */
 static bool spins[MOST_CONTEXTS];               /* its lock was held, and is still */
 static long waits_since[MOST_CONTEXTS];
-static bool ticks_began;
 
 void give_up(const char *form, ...) {
     char line[1024];
@@ -79,7 +81,7 @@ struct context *run_current(int processor) {
 }
 
 long run_ticks(int processor) {
-    return ticks[processor];
+    return tick_turns[processor];
 }
 
 bool run_spins(int context) {
@@ -93,13 +95,6 @@ int run_processor(const struct context *who) {
     return 0;
 }
 
-static bool something_counts(void) {
-    for (int i = 0; i < fmphost_object_count; i++)
-        if (state.counting[i] || (fmphost_objects[i].counts && !state.stopped[i]))
-            return true;
-    return false;
-}
-
 /* Each that runs and stands before nothing goes on until it does: what it does so far nobody can see. */
 static void settle(void) {
     for (int p = 1; p <= fmphost_processors; p++) {
@@ -107,12 +102,27 @@ static void settle(void) {
         if (who == NULL || who->next != NOTHING)
             continue;
         if (!who->lives) {
-            who->lives = true;
+            who->lives = began[who->object] = true;
+            coverage_object(who->object);
             clocks_begin(who, p);
         } else if (!who->answered)
             give_up("%s runs and was not answered", context_name((int)(who - contexts)));
         context_resume(who);
     }
+}
+
+/* A tick that lowers nothing is no turn. */
+static bool tick_fits(int processor) {
+    const struct processor *now = &state.processor[processor];
+    bool has_timer = fmphost_master == 0 || fmphost_master == processor;
+    return !now->locked && now->due < 0 && has_timer && (every_tick || counts_on(processor));
+}
+
+bool run_cut_ticks(void) {
+    for (int p = 1; p <= fmphost_processors; p++)
+        if (tick_turns[p] >= options.ticks && tick_fits(p) && counts_on(p))
+            return true;
+    return false;
 }
 
 static uint32_t may_happen(void) {
@@ -124,7 +134,7 @@ static uint32_t may_happen(void) {
             may |= 1u << ((p - 1) * ACTS + GO);
         if (now->latch && !now->locked && !now->disabled && now->due < 0)
             may |= 1u << ((p - 1) * ACTS + IPI);
-        if (ticks_began && ticks[p] < options.ticks && !now->locked && now->due < 0 && (fmphost_master == 0 || fmphost_master == p))
+        if (tick_turns[p] < options.ticks && tick_fits(p))
             may |= 1u << ((p - 1) * ACTS + TICK);
     }
     return may;
@@ -140,15 +150,21 @@ static void answered(struct context *who, int code, int64_t value) {
     who->next = NOTHING;
 }
 
+static void note_counting(void) {
+    for (int i = 0; i < fmphost_object_count; i++)
+        if (counts(i))
+            coverage_counts(i);
+}
+
 static void after_event(struct context *caller, int processor, const struct answer *answer, struct turn *turn) {
     turn->record = answers - 1;
     for (int i = 0; i < answer->releases; i++)
         answered(context_of_task(answer->release[i].task), answer->release[i].code, answer->release[i].value);
+    timers_event(caller, is_accepted(caller, answer) && caller->named >= 0);
     clocks_event(caller, processor, answer);
     places_event(caller, answer);
     footprint_changes(footprint);
-    if (!ticks_began && something_counts())
-        ticks_began = learned->timed = true;
+    note_counting();
 }
 
 static void make_call(struct context *who, int processor, struct turn *turn) {
@@ -173,13 +189,29 @@ static void make_call(struct context *who, int processor, struct turn *turn) {
         context_end(context_of_task(ended));
 }
 
-static void make_interrupt(int processor, bool tick, struct turn *turn) {
-    ticks[processor] += tick;
-    footprint_interrupt(footprint, processor, tick);
-    const struct answer *answer = proved_event(processor, tick ? "tick" : "ipi");
+static const struct answer *taken(int processor, const char *event, struct turn *turn) {
+    const struct answer *answer = proved_event(processor, event);
     if (answer->said != TAKEN)
-        give_up("fmpsim does not take what was thought to be possible: P%d %s", processor, tick ? "tick" : "ipi");
+        give_up("fmpsim does not take what was thought to be possible: P%d %s", processor, event);
     after_event(NULL, processor, answer, turn);
+    return answer;
+}
+
+static void make_interrupt(int processor, struct turn *turn) {
+    footprint_interrupt(footprint, processor, false);
+    taken(processor, "ipi", turn);
+}
+
+/* On to the tick at which something is due: those before it change nothing that anybody sees. */
+static void make_ticks(int processor, struct turn *turn) {
+    const struct answer *answer;
+    tick_turns[processor]++;
+    footprint_interrupt(footprint, processor, true);
+    do {
+        ticks[processor]++;
+        turn->ticks++;
+        answer = taken(processor, "tick", turn);
+    } while (!every_tick && answer->releases == 0 && state.processor[processor].due < 0 && counts_on(processor) && !proved_full());
 }
 
 static void make_turn(int action) {
@@ -189,10 +221,12 @@ static void make_turn(int action) {
     *turn = (struct turn){.action = (unsigned char)action, .context = (short)(who ? who - contexts : -1), .answers_before = answers};
     outcome->turns++;
     footprint_begin(footprint, processor);
-    if (who == NULL) {
-        make_interrupt(processor, action % ACTS == TICK, turn);
+    if (action % ACTS == TICK)
+        make_ticks(processor, turn);
+    else if (action % ACTS == IPI)
+        make_interrupt(processor, turn);
+    if (who == NULL)
         return;
-    }
     footprint_access(footprint, who);
     turn->place = who->place;
     if (who->next == CALL) {
@@ -231,11 +265,58 @@ static void end_at_sleepers(bool ended) {
         end_run(ASLEEP, "%s", words);
 }
 
-/* Where nothing may happen any more, or a chooser ends at a place where nothing but ticks that nobody counts may. */
+static size_t add_left(enum left kind, const char *form, ...) {
+    char *words = outcome->left[kind];
+    size_t length = strlen(words), room = sizeof outcome->left[kind] - length;
+    va_list values;
+    va_start(values, form);
+    if (room > 300)
+        vsnprintf(words + length, room, form, values);
+    va_end(values);
+    return room;
+}
+
+static const char *comma(enum left kind) {
+    return outcome->left[kind][0] != '\0' ? ", " : "";
+}
+
+void run_leaves_ticks(bool ended) {
+    for (int i = 0; i < context_count; i++) {
+        const struct context *who = &contexts[i];
+        bool waits = who->processor == 0 && who->waits && !options.may_wait[who->object];
+        if ((waits && (ended || state.counting[who->object])) || (ended && is_stuck(i, true)))
+            add_left(LEFT_TICKS, "%s%s %s in %s", comma(LEFT_TICKS), context_name(i), waits ? "waits" : "spins", who->request);
+    }
+    for (int i = 0; i < fmphost_object_count && ended; i++)
+        if (fmphost_objects[i].kind != FMPHOST_TASK && counts(i) && !began[i])
+            add_left(LEFT_TICKS, "%s%s has not run", comma(LEFT_TICKS), fmphost_objects[i].name);
+}
+
+static bool may_tick(void) {
+    for (int p = 1; p <= fmphost_processors; p++)
+        if (tick_fits(p) && counts_on(p))
+            return true;
+    return false;
+}
+
+/* Where nothing may happen any more, or nothing but ticks. Where a tick could still come this is no end: whoever waits may go on then. */
 static _Noreturn void end_quiet(void) {
-    if (!something_counts() || options.ticks == 0)
+    if (may_tick())
+        run_leaves_ticks(true);
+    else
         end_at_sleepers(true);
     end_run(QUIET, " ");
+}
+
+/* A run that is cut off, and who could have gone on there. */
+static _Noreturn void end_cut(enum left kind) {
+    settle();
+    for (int p = 1; p <= fmphost_processors; p++)
+        if (run_current(p) != NULL)
+            add_left(kind, "%s%s goes on", comma(kind), context_name((int)(run_current(p) - contexts)));
+    if (outcome->left[kind][0] == '\0')
+        add_left(kind, "interrupts may come");
+    end_run(LIMIT, " ");
 }
 
 static bool only_ticks(uint32_t may) {
@@ -247,10 +328,10 @@ static bool only_ticks(uint32_t may) {
 void run(chooser *choose) {
     alarm((unsigned)options.seconds);
     proved_start();
-    ticks_began = ticks_from_boot || something_counts();
-    learned->timed |= ticks_began;
+    timers_begin();
+    note_counting();
     outcome->turns = 0;
-    while (outcome->turns < options.turns) {
+    while (outcome->turns < options.turns && !proved_full()) {
         alarm((unsigned)options.seconds); /* for each turn anew: code that comes to nothing in that time hangs */
         settle();
         uint32_t may = may_happen();
@@ -263,5 +344,5 @@ void run(chooser *choose) {
         if (options.patience >= 0 && action % ACTS == TICK)
             end_at_sleepers(false);
     }
-    end_run(LIMIT, " ");
+    end_cut(outcome->turns < options.turns ? LEFT_EVENTS : LEFT_TURNS);
 }

@@ -17,5 +17,7 @@ void say_words(const char *form, ...) __attribute__((format(printf, 1, 2))); /* 
 void seal_outcome(enum ending ending);        /* all that is known of the run so far */
 extern bool instrumented;                     /* the program was compiled with -fsanitize=thread */
 extern struct footprint *footprint;           /* where that of the turn that is made is written */
-extern bool ticks_from_boot;                  /* ticks may come from the beginning, and not only from when something counts them */
+extern bool every_tick;                       /* each tick is a turn, whatever it lowers: as a trace has them */
+bool run_cut_ticks(void);                     /* a tick could come here, but for --ticks */
+void run_leaves_ticks(bool ended);            /* keeps who waits here, and at an end which handlers never ran */
 #endif

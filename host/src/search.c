@@ -19,7 +19,7 @@ struct node {
     uint16_t clock[ACTIONS];            /* for each actor its last turn that comes before the chosen one, from 1 */
     struct footprint footprint[ACTIONS]; /* of what was done here, or sleeps */
 };
-static struct tree { long depth, length; bool left_off; struct node node[MOST_TURNS]; } *tree;
+static struct tree { long depth, length; bool left_off, limited; struct node node[MOST_TURNS]; } *tree;
 long search_pruned;
 
 void search_make(void) {
@@ -63,8 +63,10 @@ static void put_to_sleep(struct node *node, int last) {
 
 static uint32_t within_preemptions(const struct node *node, int last, uint32_t set) {
     for (int a = 0; a < ACTIONS && options.preemptions >= 0 && node->spent >= options.preemptions; a++)
-        if (preempts(node, last, a))
+        if ((set & 1u << a) && preempts(node, last, a)) {
             set &= ~(1u << a);
+            tree->limited = true;
+        }
     return set;
 }
 
@@ -210,7 +212,12 @@ long search_common(void) {
     return tree->depth > 0 ? tree->node[tree->depth - 1].answers_before : 0;
 }
 
+bool search_limited(void) {
+    return tree->limited;
+}
+
 void search_anew(void) {
     tree->depth = tree->length = 0;
+    tree->limited = false;
     search_pruned = 0;
 }

@@ -9,4 +9,5 @@ bool search_next(void);         /* after a run: is there another order, and whic
 void search_anew(void);         /* points were learned: all orders again */
 long search_common(void);       /* how many answers the next run has in common with the last */
 extern long search_pruned;      /* runs that were left off, as all that could happen is in others */
+bool search_limited(void);      /* --preemptions left orders out */
 #endif

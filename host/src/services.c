@@ -4,7 +4,8 @@
 #include "options.h"
 #include "outcome.h"
 #include "syssvc/serial.h"
-#include "t_syslog.h"
+#include "syssvc/syslog.h"
+#include "t_stdlib.h"
 #include <stdarg.h>
 #include <stdio.h>
 
@@ -48,6 +49,14 @@ void fmphost_log(uint_t priority, const char *form, ...) {
     fputc('\n', stderr);
     va_end(values);
 }
+
+ER t_perror(uint_t prio, const char *file, int_t line, const char *expr, ER ercd) {
+    if (ercd < 0)
+        fmphost_log(prio, "%s reported by `%s' in line %d of `%s'.", ercd == E_TMOUT ? "E_TMOUT" : "error", expr, line, file);
+    return ercd;
+}
+
+ER syslog_msk_log(uint_t logmask, uint_t lowmask) { (void)logmask, (void)lowmask; return E_OK; }
 
 /* --- the serial port --- */
 

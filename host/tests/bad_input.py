@@ -25,7 +25,7 @@ HOW = {
     "exit": (5, "the program called exit(0)"), "abort": (5, "Aborted in BAD"), "out": (5, "Segmentation fault in BAD, at address 0x0: bad_task bad.c:"),
     "jump": (5, "BAD has jumped to the stack of OTHER"), "claim": (5, "n == 2 is false, in BAD"), "claim of C": (5, "claims.c:6: n == 3 is false, in BAD"),
     "handler aborts": (5, "Aborted in CLOCK"),
-    "handler waits": (0, "nothing found"), "handler ends": (0, "nothing found"), "poll": (0, "3 cut at 2000 turns: nothing found"),
+    "handler waits": (0, "nothing found"), "handler ends": (0, "nothing found"), "poll": (6, "what comes after 2000 turns: BAD goes on (seed 1, and 2 more)"),
     "time": (3, "does not do the same again"),
 }
 
@@ -144,4 +144,4 @@ def all_of_it(test):
     fmpsim_at_fault(test)
     generator_at_fault(test)
     project(test, "a project", "queue", "FMPHOST_CFG = machine.cfg", ["--every-order"], "nothing found")
-    project(test, "a project of TOPPERS", "sample1", "FMPHOST_TOPPERS = sample1.cfg -I target", ["--seeds", "1..3", "--serial", "caQ", "--races", "none"], "3 seeds")
+    project(test, "a project of TOPPERS", "sample1", "FMPHOST_TOPPERS = sample1.cfg -I target", ["--seeds", "1..3", "--serial", "caQ", "--races", "none", "--ticks", "100"], "3 seeds")

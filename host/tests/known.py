@@ -41,14 +41,16 @@ def rows():
     yield "one_message_behind", ["--seeds", "1..100"], 5, ["DISPLAY waits for ever in slp_tsk()"]
     yield "one_message_behind", ["--every-order", "--may-wait", "DISPLAY"], 0, ["nothing found"]
     yield "ring", ["--seeds", "1..20", "--ticks", "4"], 5, ["race on count, 4 bytes", "UART on P1", "READER on P1"]
-    yield "ring", ["--seeds", "1..60", "--ticks", "4", "--races", "none"], 0, ["nothing found"]
+    yield "ring", ["--seeds", "1..60", "--ticks", "4", "--races", "none"], 6, ["what comes after 4 ticks of a processor: READER waits in wai_sem(1) (seed 1, and 59 more)"]
+    yield "ring", ["--seeds", "1..60", "--ticks", "4", "--races", "none", "--may-wait", "READER"], 0, ["nothing found within 4 ticks, each of 60 seeds to its end"]
     yield "philosophers:two", ["--every-order"], 5, [deadlock]
     yield "philosophers:two", ["--all-orders"], 5, [deadlock]
     yield "philosophers:three", ["--places"], 5, ["PHIL1 waits for ever in wai_sem(2); PHIL2 waits for ever in wai_sem(3); PHIL3 waits for ever in wai_sem(1)"]
     yield "philosophers:five", ["--every-order"], 5, ["PHIL5 waits for ever in wai_sem(1)"]
     yield "philosophers:two+POLITE", ["--every-order"], 0, ["nothing found"]
     yield "philosophers:three+POLITE", ["--places"], 0, ["nothing found"]
-    yield "philosophers:two", ["--preemptions", "0"], 0, ["nothing found"]
+    yield "philosophers:two", ["--preemptions", "0"], 6, ["orders in which a processor that could go on is left more than 0 times", "but not all was looked at"]
+    yield "queue", ["--preemptions", "100"], 0, ["nothing found, every order"]
     yield "philosophers:two", ["--preemptions", "1"], 5, [deadlock]
     yield "producer", ["--every-order"], 0, ["nothing found"]
     yield "queue", ["--all-orders"], 0, ["nothing found"]
@@ -56,12 +58,41 @@ def rows():
     yield "signatures", ["--every-order", "--ticks", "1"], 0, ["nothing found"]
     yield "endless:DEADLOCK", ["--places"], 5, ["COMM waits for ever, whatever the order is from here on"]
     yield "endless", ["--places"], 0, ["nothing found"]
-    yield "endless", ["--seeds", "1..5"], 0, ["5 cut at 2000 turns: nothing found"]
-    yield "endless", ["--every-order", "--turns", "40", "--runs", "10"], 6, ["nothing found, but not all was looked at"]
+    yield "endless", ["--seeds", "1..5"], 6, ["what comes after 2000 turns: COMM goes on, LOG goes on, IDLE goes on (seed 1, and 4 more)", "5 cut at 2000 turns: nothing found, but"]
+    yield "endless", ["--every-order", "--turns", "40", "--runs", "10"], 6, ["what comes after 40 turns: COMM goes on", "nothing found, but not all was looked at"]
+    yield "producer", ["--every-order", "--runs", "3"], 6, ["orders after the first 3", "cut at 3 orders: nothing found, but not all was looked at"]
     yield "sample1", ["--seeds", "1..20", "--serial", "cas3sQ", "--ticks", "12"], 5, ["race on message", "MAIN_TASK on P1 writes it: main_task sample1.c"]
-    yield "sample1", ["--seeds", "1..20", "--serial", "caAGwWQ", "--ticks", "12", "--races", "between"], 0, ["nothing found"]
+    yield "sample1", ["--seeds", "1..20", "--serial", "caAGwWQ", "--ticks", "12", "--races", "between"], 6, ["MAIN_TASK waits in dly_tsk(0)"]
+    yield "sample1", ["--seeds", "1..20", "--serial", "caAGwWQ", "--ticks", "100", "--races", "between"], 0, ["nothing found"]
     yield "signatures", ["--seeds", "1..40", "--stalls", "30", "--late", "20"], 0, ["nothing found"]
     yield "one_message_behind", ["--seeds", "1..300", "--stalls", "50", "--late", "10"], 5, ["DISPLAY waits for ever in slp_tsk()"]
+
+
+# Programs that end as far as was looked, and whether that is all: what time brings later, a handler or a wait that is left, what was cut. A place
+# where ticks were cut off is no end, so nobody waits for ever there.
+def extents():
+    worker = ": WORKER waits in dly_tsk(100)"
+    yield "later:wait", ["--every-order"], 5, ["waited == 0 is false, in WORKER", "order 1\n"]
+    yield "later:wait", ["--seeds", "1..5"], 5, ["waited == 0 is false, in WORKER"]
+    yield "later:wait", ["--every-order", "--ticks", "0"], 6, ["what comes after 0 ticks of a processor" + worker]
+    yield "later:two", ["--every-order"], 6, ["what comes after 3 ticks of a processor" + worker]
+    yield "later:two", ["--seeds", "1..5"], 6, ["what comes after 3 ticks of a processor" + worker + " (seed 1, and 4 more)"]
+    yield "later:two", ["--every-order", "--ticks", "101"], 5, ["waited == 0 is false, in WORKER"]
+    yield "later:period", ["--every-order", "--ticks", "3"], 0, ["nothing found within 3 ticks, every order"]
+    yield "later:period", ["--every-order", "--ticks", "4"], 5, ["++periods < 4 is false, in CLOCK"]
+    yield "later:wakes", ["--every-order", "--ticks", "0"], 6, ["WORKER waits in slp_tsk(), CLOCK has not run", "handlers that had ticks left and never ran: CLOCK"]
+    yield "later:wakes", ["--every-order", "--ticks", "4"], 0, ["nothing found within 4 ticks, every order"]
+    yield "later:wakes", ["--places"], 6, ["what comes after 3 ticks of a processor: WORKER waits in slp_tsk()"]
+    yield "later:wakes", ["--places", "--ticks", "any"], 0, ["nothing found within any ticks, every place"]
+    yield "later:wakes", ["--every-order", "--patience", "15"], 5, ["WORKER waits for ever in slp_tsk()"]
+    yield "later:deadlock", ["--every-order", "--ticks", "1"], 6, ["ONE waits in wai_sem(2), TWO waits in wai_sem(1)"]
+    yield "later:deadlock", ["--places", "--ticks", "any"], 5, ["ONE waits for ever, whatever the order is from here on"]
+    yield "later:deadlock", ["--every-order", "--ticks", "1", "--may-wait", "ONE,TWO"], 0, ["nothing found within 1 tick, every order"]
+    yield "later:alarm", ["--every-order"], 6, ["LATE has not run", "handlers that had ticks left and never ran: LATE"]
+    yield "later:memory", ["--seeds", "1"], 0, ["nothing found, each of 1 seeds to its end"]
+    yield "later:large", ["--seeds", "1"], 6, ["accesses beyond the first 131072 words of memory"]
+    yield "later:unused", ["--every-order", "--may-wait", "WORKER"], 0, ["never ran: tasks SPARE; handlers LATE; functions long_wait_task, ", "never_called", "spare_task"]
+    yield "count:LOCKED", ["--seeds", "1..3"], 0, ["nothing found, each of 3 seeds to its end"]
 
 
 # clang calls no hook for a field of a function's own structure, though its address is given away.
@@ -70,7 +101,7 @@ GCC_ALONE = ["race on a variable on CLIENT's stack"]
 
 def findings(test):
     for cc in test.compilers:
-        for program, words, status, wanted in rows():
+        for program, words, status, wanted in [*rows(), *extents()]:
             if cc == "clang" and wanted[0] in GCC_ALONE:
                 continue
             ended, told = test.run(cc, program, *words)
@@ -101,7 +132,7 @@ def all_calls(test):
 JUDGED = {
     "sample1": (60, ["--serial", "cas3sbwlumQ"]), "producer": (100, []), "count:LOCKED": (100, []), "count:SEMAPHORE": (100, []), "suspend:one": (100, []),
     "suspend:two": (100, []), "stale_wakeup": (100, []), "ring": (100, []), "handler:LOCKED": (40, []), "philosophers:three": (100, []),
-    "one_message_behind": (60, []), "calls77": (60, []),
+    "one_message_behind": (60, []), "calls77": (60, []), "later:wait": (20, []), "later:two": (20, []), "later:wakes": (20, []),
 }
 
 
@@ -112,7 +143,7 @@ def judged(test):
         for program, (most, words) in JUDGED.items():
             seeds = most if test.full else 4
             ended, told = test.run(cc, program, "--seeds", "1..%d" % seeds, "--races", "none", "--all", "--check", "--ticks", "12", *words)
-            test.check(ended in (0, 5) and "%d seeds" % seeds in told, "%s: fmpsim check on %s" % (cc, program), told)
+            test.check(ended in (0, 5, 6) and "%d seeds" % seeds in told, "%s: fmpsim check on %s" % (cc, program), told)
             runs += seeds
     print("judged: the traces of %d runs" % runs)
     liar = test.out / "liar"
@@ -141,7 +172,8 @@ def again(test):
     for cc in test.compilers:
         for program, words in (("suspend:two", ["--seeds", "1..200"]), ("stale_wakeup", ["--seeds", "1..200", "--races", "none"]), ("queue", ["--seeds", "7"]),
                                ("one_message_behind", ["--every-order"]), ("count", ["--every-order", "--races", "none"]), ("philosophers:three", ["--places"]),
-                               ("suspend:two", ["--every-order", "--ticks", "1", "--races", "none"]), ("endless:DEADLOCK", ["--places"])):
+                               ("suspend:two", ["--every-order", "--ticks", "1", "--races", "none"]), ("endless:DEADLOCK", ["--places"]),
+                               ("later:period", ["--every-order", "--ticks", "4"])):
             name = "%s: %s %s" % (cc, program, " ".join(words))
             ended, told, one = files(test, cc, program, words, ["one.trace", "one.order", "one.html"])
             beside = ["--jobs", "3"] if words[0] == "--seeds" else []
@@ -152,5 +184,8 @@ def again(test):
             whole = "whatever the order" not in told and "cut at" not in told
             test.check(replayed == one and (not whole or ended_again == ended), name + " replayed", told_again)
             configuration = PROGRAMS / program.split(":")[0] / ("machine.cfg" if not re.search(":[a-z]", program) else re.search(":([a-z]+)", program)[1] + ".cfg")
+            if program.startswith("later"):  # a trace has each tick by itself
+                ended_again, told_again, replayed = files(test, cc, program, ["--replay", test.out / "one.trace"], ["other.trace", "other.order", "other.html"])
+                test.check(replayed[0] == one[0] and ended_again == ended, name + ", its trace replayed", told_again)
             page = subprocess.run([test.fmpsim, "view", str(configuration), str(test.out / "one.trace")], capture_output=True).stdout
             test.check(page == one[2] and page.startswith(b"<!"), name + " viewed")

@@ -31,7 +31,7 @@ def ends(test, cc, way, text, words):
     found = re.search(r"(\d+) (?:order|step)s?, .*?(\d+) ends ([0-9a-f]+)", last)
     if not found:
         return None, False, told
-    return (int(found.group(2)), found.group(3)), "not all" not in last and "cut at" not in last, told
+    return (int(found.group(2)), found.group(3)), "cut at" not in last, told
 
 
 def same_ends(test, cc, way, text, ticks, mode, most):
