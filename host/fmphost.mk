@@ -31,6 +31,8 @@ fmphost_own := -I'$(FMPHOST)/../include' -O2 -fvisibility=hidden -Wall -Wextra $
 # section of its own, so that its functions are known.
 fmphost_seen := -O0 -fno-optimize-sibling-calls -finstrument-functions -fsanitize=thread \
     $(if $(fmphost_clang),-mllvm -tsan-distinguish-volatile=1 -mllvm -tsan-instrument-read-before-write=1,--param tsan-distinguish-volatile=1)
+# what of the C library the project's files call by way of the host
+fmphost_wrapped := memcpy memmove memset malloc calloc realloc free strdup strndup
 fmphost_objects := $(patsubst %.c,$(FMPHOST_OUT)/%.o,$(notdir $(FMPHOST_SOURCES)))
 fmphost_kernel := $(if $(FMPHOST_FMP),pipes,in_process)
 fmphost_parts := $(patsubst $(FMPHOST)/src/%.c,$(fmphost_room)/%.o,$(filter-out %/$(fmphost_kernel).c,$(wildcard $(FMPHOST)/src/*.c)))
@@ -41,12 +43,12 @@ fmphost: $(FMPHOST_RUN)
 
 # Addresses of variables are the same in each start of the program (-no-pie), since they may be in a trace and are in an order.
 $(FMPHOST_RUN): $(fmphost_objects) $(FMPHOST_OUT)/kernel_cfg.o $(FMPHOST_LIBRARY)
-	$(CC) $(FMPHOST_SANITIZERS) -no-pie -o $@ $^ -Wl,--wrap=memcpy,--wrap=memmove,--wrap=memset
+	$(CC) $(FMPHOST_SANITIZERS) -no-pie -o $@ $^ $(fmphost_wrapped:%=-Wl,--wrap=%)
 $(fmphost_objects): $(FMPHOST_OUT)/%.o: %.c $(FMPHOST_OUT)/kernel_cfg.h
 	$(fmphost_c) $(fmphost_seen) $(FMPHOST_FLAGS) -c -o $@ $<
+	$(OBJCOPY) --rename-section .text=fmphost_project,alloc,load,readonly,code,contents $@
 $(FMPHOST_OUT)/kernel_cfg.o: $(FMPHOST_OUT)/kernel_cfg.c
 	$(fmphost_c) $(FMPHOST_SANITIZERS) -O1 -I. $(addprefix -I,$(sort $(dir $(FMPHOST_SOURCES) $(FMPHOST_CFG)))) $(FMPHOST_FLAGS) -c -o $@ $<
-	$(OBJCOPY) --rename-section .text=fmphost_project,alloc,load,readonly,code,contents $@
 $(FMPHOST_OUT)/kernel_cfg.c: $(FMPHOST_OUT)/kernel_cfg.h
 	@touch $@
 $(FMPHOST_OUT)/kernel_cfg.h: $(FMPHOST_CFG) $(FMPHOST)/gen/fmphost-cfg
@@ -60,7 +62,7 @@ endif
 
 # One object whose own names are hidden, so that a program may have a function `run` or a variable `state`; and its code in a section of its
 # own, so that a crash in it is known to be that of the access for which it was called. Its copies of memory are no accesses of the program.
-fmphost_real := $(foreach name,memcpy memmove memset,--redefine-sym $(name)=__real_$(name))
+fmphost_real := $(foreach name,$(fmphost_wrapped),--redefine-sym $(name)=__real_$(name))
 $(FMPHOST_LIBRARY): $(fmphost_parts) $(FMPHOST_FMP)
 	$(LD) -r -o $(fmphost_room)/all.o $(fmphost_parts) $(if $(FMPHOST_FMP),--whole-archive $(FMPHOST_FMP) --no-whole-archive)
 	$(OBJCOPY) --localize-hidden --rename-section .text=fmphost_text,alloc,load,readonly,code,contents $(fmphost_real) $(fmphost_room)/all.o

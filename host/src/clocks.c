@@ -7,22 +7,29 @@
  *   - a lock comes before the next one that takes it: a spin lock, the CPU lock of a processor, its disabled dispatching;
  *   - a handler begins with its processor's CPU lock free, and its return frees it; a task that is dispatched does so with both free.
  *     So what a task does within loc_cpu is ordered with handlers of its processor, and what it does without is not;
- *   - a task that waits or ends comes before the task that its processor runs next.
+ *   - a task that waits or ends comes before the task that its processor runs next;
+ *   - a handler that is stopped on its own processor has done what it did: it does not run there, as its caller does. On another it may;
+ *   - C11's atomic variables and fences. With fences, volatile variables are as relaxed atomic ones.
  * An interrupt or a tick that takes the processor from a task is not among them: it could have come at any place.
  */
 #include "clocks.h"
 #include "outcome.h"
+#include "timers.h"
 #include <string.h>
 
 typedef uint32_t Clock[MOST_CONTEXTS];
 static Clock *own;                    /* of each context */
 static Clock *given, *taken;          /* of each object: what its givers knew, and what its takers did (a data queue's places) */
 static Clock cpu[MOST_PROCESSORS + 1], dispatch[MOST_PROCESSORS + 1];
+static Clock *fenced, *read_so_far;   /* of each context: what its last release fence gives, and what an acquire fence would take */
+static bool any_fence;
 
 void clocks_make(void) {
     own = own_room((uint64_t)context_count * sizeof *own);
     given = own_room(((uint64_t)fmphost_object_count + 1) * sizeof *given);
     taken = own_room(((uint64_t)fmphost_object_count + 1) * sizeof *taken);
+    fenced = own_room((uint64_t)context_count * sizeof *fenced);
+    read_so_far = own_room((uint64_t)context_count * sizeof *read_so_far);
     for (int i = 0; i < context_count; i++)
         own[i][i] = 1;
 }
@@ -58,11 +65,26 @@ void clocks_begin(struct context *who, int processor) {
         acquire(who, dispatch[processor]);
 }
 
-void clocks_atomic(int context, uint32_t *kept_clock, bool acquires, bool releases) {
-    if (acquires)
-        acquire(&contexts[context], kept_clock);
+void clocks_read(int context, const uint32_t *kept, bool acquires) {
+    join(acquires ? own[context] : read_so_far[context], kept);
+}
+
+void clocks_write(int context, uint32_t *kept, bool releases) {
+    join(kept, fenced[context]);
     if (releases)
-        release(&contexts[context], kept_clock);
+        release(&contexts[context], kept);
+}
+
+void clocks_fence(int context, bool acquires, bool releases) {
+    if (acquires)
+        join(own[context], read_so_far[context]);
+    if (releases)
+        release(&contexts[context], fenced[context]);
+    any_fence = true;
+}
+
+bool clocks_fences(void) {
+    return any_fence;
 }
 
 /* The caller gave way of itself: whoever runs next comes after all that it did. */
@@ -108,6 +130,8 @@ static void processor_orders(struct context *caller, int processor) {
     /* one that ends or is suspended stands still from then on, unless another processor still runs it: the interrupt has not come there */
     if (object >= 0 && object != caller->object && ((does & TERMINATES) || ((does & SUSPENDS) && !runs_elsewhere(object, processor))))
         acquire(caller, own[context_of_task(object) - contexts]);
+    if ((does & STOPS) && assigned_to(object) == processor)
+        acquire(caller, own[context_of_handler(object, processor) - contexts]);
     if (does & LOCKS_CPU)
         acquire(caller, cpu[processor]);
     if (does & UNLOCKS_CPU)

@@ -8,5 +8,9 @@ void clocks_begin(struct context *who, int processor);   /* a task's or handler'
 void clocks_event(struct context *caller, int processor, const struct answer *answer); /* after an event; NULL: a tick or an interrupt */
 uint32_t clock_now(int context);                         /* its own count */
 bool clock_knows(int context, int other, uint32_t count);
-void clocks_atomic(int context, uint32_t *kept, bool acquires, bool releases); /* an atomic access: its address keeps a clock */
+/* Atomic accesses: their address keeps a clock. Where they do not order, fences after the read and before the write may. */
+void clocks_read(int context, const uint32_t *kept, bool acquires);
+void clocks_write(int context, uint32_t *kept, bool releases);
+void clocks_fence(int context, bool acquires, bool releases);
+bool clocks_fences(void); /* there was one in this run */
 #endif

@@ -14,10 +14,10 @@
     PUBLIC void __tsan_unaligned_read##n(void *at) { memory_touch((uintptr_t)at, n, false, false, PLACE); } \
     PUBLIC void __tsan_unaligned_write##n(void *at) { memory_touch((uintptr_t)at, n, true, false, PLACE); } \
     PUBLIC void __tsan_read_write##n(void *at) { memory_touch((uintptr_t)at, n, false, false, PLACE), memory_touch((uintptr_t)at, n, true, false, PLACE); } \
-    PUBLIC void __tsan_volatile_read##n(void *at) { memory_touch((uintptr_t)at, n, false, !options.volatiles, PLACE); } \
-    PUBLIC void __tsan_volatile_write##n(void *at) { memory_touch((uintptr_t)at, n, true, !options.volatiles, PLACE); } \
-    PUBLIC void __tsan_unaligned_volatile_read##n(void *at) { memory_touch((uintptr_t)at, n, false, !options.volatiles, PLACE); } \
-    PUBLIC void __tsan_unaligned_volatile_write##n(void *at) { memory_touch((uintptr_t)at, n, true, !options.volatiles, PLACE); }
+    PUBLIC void __tsan_volatile_read##n(void *at) { memory_volatile((uintptr_t)at, n, false, PLACE); } \
+    PUBLIC void __tsan_volatile_write##n(void *at) { memory_volatile((uintptr_t)at, n, true, PLACE); } \
+    PUBLIC void __tsan_unaligned_volatile_read##n(void *at) { memory_volatile((uintptr_t)at, n, false, PLACE); } \
+    PUBLIC void __tsan_unaligned_volatile_write##n(void *at) { memory_volatile((uintptr_t)at, n, true, PLACE); }
 ACCESSES(1)
 ACCESSES(2)
 ACCESSES(4)
@@ -52,19 +52,19 @@ PUBLIC void *__wrap_memset(void *to, int byte, size_t size) {
 
 /* --- C11 atomics --- */
 
-static void touch(const volatile void *at, unsigned size, bool writes, int order, uintptr_t place) {
-    memory_atomic((uintptr_t)at, size, writes, order, place);
+static void touch(const volatile void *at, unsigned size, enum atomic kind, int order, uintptr_t place) {
+    memory_atomic((uintptr_t)at, size, kind, order, place);
 }
 #define CHANGE(n, t, name, expression) \
     PUBLIC t __tsan_atomic##n##_##name(volatile t *at, t value, int order) { \
-        touch(at, n / 8, true, order, PLACE); \
+        touch(at, n / 8, CHANGE, order, PLACE); \
         t old = *at; \
         *at = (t)(expression); \
         return old; \
     }
 #define ATOMICS(n, t) \
-    PUBLIC t __tsan_atomic##n##_load(const volatile t *at, int order) { touch(at, n / 8, false, order, PLACE); return *at; } \
-    PUBLIC void __tsan_atomic##n##_store(volatile t *at, t value, int order) { touch(at, n / 8, true, order, PLACE); *at = value; } \
+    PUBLIC t __tsan_atomic##n##_load(const volatile t *at, int order) { touch(at, n / 8, LOAD, order, PLACE); return *at; } \
+    PUBLIC void __tsan_atomic##n##_store(volatile t *at, t value, int order) { touch(at, n / 8, STORE, order, PLACE); *at = value; } \
     CHANGE(n, t, exchange, value) \
     CHANGE(n, t, fetch_add, old + value) \
     CHANGE(n, t, fetch_sub, old - value) \
@@ -74,7 +74,7 @@ static void touch(const volatile void *at, unsigned size, bool writes, int order
     CHANGE(n, t, fetch_nand, ~(old & value)) \
     PUBLIC int __tsan_atomic##n##_compare_exchange_strong(volatile t *at, t *wanted, t value, int order, int failed) { \
         (void)failed; \
-        touch(at, n / 8, true, order, PLACE); \
+        touch(at, n / 8, CHANGE, order, PLACE); \
         if (*at == *wanted) { *at = value; return 1; } \
         *wanted = *at; \
         return 0; \
@@ -90,5 +90,5 @@ ATOMICS(8, uint8_t)
 ATOMICS(16, uint16_t)
 ATOMICS(32, uint32_t)
 ATOMICS(64, uint64_t)
-PUBLIC void __tsan_atomic_thread_fence(int order) { (void)order; }
+PUBLIC void __tsan_atomic_thread_fence(int order) { memory_fence(order); }
 PUBLIC void __tsan_atomic_signal_fence(int order) { (void)order; }

@@ -5,11 +5,11 @@
 #include <stdio.h>
 #include <string.h>
 
-enum { WORD = 8, MOST_SEEN = 12, MOST_WORDS = 1 << 17, WORD_SLOTS = 1 << 18, MOST_ATOMIC = 1 << 10 };
+enum { WORD = 8, MOST_SEEN = 12, MOST_WORDS = 1 << 17, WORD_SLOTS = 1 << 18, MOST_CELLS = 1 << 12, CELL_SLOTS = 1 << 13 };
 struct seen { /* an access that was made, of one context */
     short context;
     unsigned char bytes; /* which of the word's */
-    bool writes, atomic;
+    bool writes, atomic, frees;
     unsigned char processor;
     uint32_t count;
     uintptr_t place;
@@ -21,19 +21,24 @@ struct word {
     uint64_t at_first;    /* what it was before it was touched */
     int seen_count;
     struct seen seen[MOST_SEEN];
-    int clock;            /* of atomic accesses, from 1 */
+};
+struct cell { /* of atomic and volatile accesses: what whoever reads it may take from who wrote it */
+    uintptr_t at;
+    short giver;          /* the context that wrote it last, or -1 */
 };
 /* In rooms of their own, not from malloc: what the program gets of malloc has to be the same in each order. */
 static struct word *words;
 static uint32_t *slots;               /* the words by their hashes, from 1 */
-static uint32_t (*atomic_clock)[MOST_CONTEXTS];
-static long word_count, atomic_count;
+static uint32_t (*cell_clock)[MOST_CONTEXTS];
+static struct cell *cells;            /* by their hashes: at is 0 where there is none */
+static long word_count, cell_count;
 struct learned *learned;
 
 void memory_make(void) {
     words = own_room(MOST_WORDS * sizeof *words);
     slots = own_room(WORD_SLOTS * sizeof *slots);
-    atomic_clock = own_room(MOST_ATOMIC * sizeof *atomic_clock);
+    cells = own_room(CELL_SLOTS * sizeof *cells);
+    cell_clock = own_room(CELL_SLOTS * sizeof *cell_clock);
 }
 
 static size_t slot_of(uintptr_t number, size_t slot_count) {
@@ -119,8 +124,8 @@ static unsigned char bytes_in(uintptr_t number, uintptr_t at, unsigned size) {
 }
 
 static _Noreturn void end_at_race(const struct seen *seen, const struct seen *now, uintptr_t at, unsigned size) {
-    outcome->race[0] = (struct access){at, seen->place, size, seen->context, seen->writes, seen->processor};
-    outcome->race[1] = (struct access){at, now->place, size, now->context, now->writes, now->processor};
+    outcome->race[0] = (struct access){at, seen->place, size, seen->context, seen->writes, seen->frees, seen->processor};
+    outcome->race[1] = (struct access){at, now->place, size, now->context, now->writes, now->frees, now->processor};
     end_run(RACE, " ");
 }
 
@@ -131,23 +136,27 @@ static bool races(const struct seen *seen, const struct seen *now) {
 }
 
 /* Looks whether one that was made before is not ordered with it, and keeps it in the place of the context's own like it. */
-static void record(struct context *me, uintptr_t number, const struct context *access) {
-    struct word *word = word_at(number, false);
-    if (word == NULL)
-        return;
-    int id = (int)(me - contexts), mine = -1;
-    struct seen now = {(short)id, bytes_in(number, access->at, access->size), access->writes, access->atomic, (unsigned char)run_processor(me),
-                       clock_now(id), access->place};
+static void look_and_keep(struct word *word, struct seen now, uintptr_t at, unsigned size) {
+    int mine = -1;
     for (int i = 0; i < word->seen_count; i++) {
         struct seen *seen = &word->seen[i];
-        if (seen->context != id && races(seen, &now))
-            end_at_race(seen, &now, access->at, access->size);
-        if (seen->context == id && seen->writes == now.writes && seen->bytes == now.bytes)
+        if (seen->context != now.context && races(seen, &now) && !is_shared_variable(at))
+            end_at_race(seen, &now, at, size);
+        if (seen->context == now.context && seen->writes == now.writes && seen->bytes == now.bytes)
             mine = i;
     }
     if (mine < 0)
         mine = word->seen_count < MOST_SEEN ? word->seen_count++ : (int)(now.place % MOST_SEEN);
     word->seen[mine] = now;
+}
+
+static void record(struct context *me, uintptr_t number, const struct context *access) {
+    struct word *word = word_at(number, false);
+    int id = (int)(me - contexts);
+    struct seen now = {.context = (short)id, .bytes = bytes_in(number, access->at, access->size), .writes = access->writes, .atomic = access->atomic,
+                       .processor = (unsigned char)run_processor(me), .count = clock_now(id), .place = access->place};
+    if (word != NULL)
+        look_and_keep(word, now, access->at, access->size);
 }
 
 void memory_touch(uintptr_t at, unsigned size, bool writes, bool atomic, uintptr_t place) {
@@ -167,19 +176,78 @@ void memory_touch(uintptr_t at, unsigned size, bool writes, bool atomic, uintptr
         record(me, number, me);
 }
 
-/* One processor's turn at a time is made, so a plain access does for an atomic one; the order that it gives is kept in its word's clock. */
-void memory_atomic(uintptr_t at, unsigned size, bool writes, int order, uintptr_t place) {
-    memory_touch(at, size, writes, true, place);
-    struct word *word = running != NULL ? word_at(at / WORD, true) : NULL;
-    if (word == NULL)
-        return;
-    if (word->clock == 0 && atomic_count == MOST_ATOMIC)
-        give_up("the program has more than %d atomic variables", MOST_ATOMIC);
-    if (word->clock == 0)
-        word->clock = (int)++atomic_count;
+/* --- what is atomic or volatile, and fences --- */
+
+static size_t cell_at(uintptr_t at) {
+    size_t i = slot_of(at, CELL_SLOTS);
+    while (cells[i].at != 0 && cells[i].at != at)
+        i = (i + 1) & (CELL_SLOTS - 1);
+    if (cells[i].at == 0 && cell_count++ == MOST_CELLS)
+        give_up("the program has more than %d atomic and volatile variables that fences order", MOST_CELLS);
+    if (cells[i].at == 0)
+        cells[i] = (struct cell){at, -1};
+    return i;
+}
+
+/* What C11 says of a write that others read, in one order of all: a store ends what another one's store gave, and a change goes on with it. */
+static void order_cell(uintptr_t at, enum atomic kind, int order) {
+    int id = (int)(running - contexts);
+    size_t i = cell_at(at);
     bool acquires = order != __ATOMIC_RELAXED && order != __ATOMIC_RELEASE;
-    bool releases = writes && order != __ATOMIC_RELAXED && order != __ATOMIC_ACQUIRE && order != __ATOMIC_CONSUME;
-    clocks_atomic((int)(running - contexts), atomic_clock[word->clock - 1], acquires, releases);
+    bool releases = order != __ATOMIC_RELAXED && order != __ATOMIC_ACQUIRE && order != __ATOMIC_CONSUME;
+    if (kind != STORE)
+        clocks_read(id, cell_clock[i], acquires);
+    if (kind == LOAD)
+        return;
+    if (kind == STORE && cells[i].giver != id)
+        memset(cell_clock[i], 0, sizeof cell_clock[i]);
+    cells[i].giver = (short)id;
+    clocks_write(id, cell_clock[i], releases);
+}
+
+/* One processor's turn at a time is made, so a plain access does for an atomic one; the order that it gives is kept by its address. */
+void memory_atomic(uintptr_t at, unsigned size, enum atomic kind, int order, uintptr_t place) {
+    memory_touch(at, size, kind != LOAD, true, place);
+    if (running != NULL)
+        order_cell(at, kind, order);
+}
+
+/* With fences, a volatile variable orders as a relaxed atomic one does. */
+void memory_volatile(uintptr_t at, unsigned size, bool writes, uintptr_t place) {
+    memory_touch(at, size, writes, !options.volatiles, place);
+    if (running != NULL && clocks_fences())
+        order_cell(at, writes ? STORE : LOAD, __ATOMIC_RELAXED);
+}
+
+void memory_fence(int order) {
+    if (running != NULL)
+        clocks_fence((int)(running - contexts), order != __ATOMIC_RELAXED && order != __ATOMIC_RELEASE,
+                     order != __ATOMIC_RELAXED && order != __ATOMIC_ACQUIRE && order != __ATOMIC_CONSUME);
+}
+
+/* --- memory that is handed over --- */
+
+void memory_given(uintptr_t at, uint64_t size) {
+    for (uintptr_t number = at / WORD; size > 0 && number <= (at + size - 1) / WORD; number++) {
+        struct word *word = word_at(number, false);
+        if (word != NULL) {
+            word->first = -1;
+            word->shared = word->written = false;
+            word->seen_count = 0;
+        }
+    }
+}
+
+void memory_freed(uintptr_t at, uint64_t size, uintptr_t place) {
+    int id = (int)(running - contexts);
+    running->place = place;
+    for (uintptr_t number = at / WORD; size > 0 && number <= (at + size - 1) / WORD; number++) {
+        struct word *word = word_at(number, false);
+        struct seen now = {.context = (short)id, .bytes = 0xff, .writes = true, .frees = true, .processor = (unsigned char)run_processor(running),
+                           .count = clock_now(id), .place = place};
+        if (word != NULL)
+            look_and_keep(word, now, number * WORD, WORD);
+    }
 }
 
 /* --- hashes of what the program has in its memory --- */

@@ -1,5 +1,6 @@
 /* The command line. */
 #include "options.h"
+#include "names.h"
 #include "outcome.h"
 #include <errno.h>
 #include <limits.h>
@@ -29,6 +30,7 @@ static const char usage[] =
     "  --races none|between|all   races: none, between processors, or on one too (all)\n"
     "  --volatile          accesses of volatile variables race too\n"
     "  --may-wait T[,T]..  these tasks may wait for ever\n"
+    "  --shared V[,V]..    these variables are shared on purpose: no race on them is one\n"
     "  --patience N        a wait without a timeout that lasts more than N ticks is one\n"
     "  --no-points         others go on at service calls alone, and not at accesses of what is shared\n"
     "  --all               goes on after a finding\n"
@@ -100,6 +102,25 @@ static void read_sleepers(const char *text) {
     }
 }
 
+static void read_shared(const char *text) {
+    for (; *text != '\0'; text += strcspn(text, ","), text += *text == ',') {
+        char name[256];
+        snprintf(name, sizeof name, "%.*s", (int)strcspn(text, ","), text);
+        if (options.shared_count == MOST_SHARED)
+            misused("--shared", "too many variables");
+        if (!variable_range(name, &options.shared[options.shared_count].at, &options.shared[options.shared_count].size))
+            misused("--shared", "no variable has that name, or several have");
+        options.shared_count++;
+    }
+}
+
+bool is_shared_variable(uintptr_t at) {
+    for (int i = 0; i < options.shared_count; i++)
+        if (at - options.shared[i].at < options.shared[i].size)
+            return true;
+    return false;
+}
+
 static void read_ticks(const char *text) {
     options.ticks_named = true;
     options.ticks_any = !strcmp(text, "any");
@@ -134,7 +155,7 @@ static const struct { const char *word; long *value, least, most; } numbers[] = 
     {"--turns", &options.turns, 1, MOST_TURNS - 1}, {"--runs", &options.most_runs, 1, LONG_MAX}, {"--patience", &options.patience, 0, 1000000},
     {"--seconds", &options.seconds, 1, 1000000}, {"--jobs", &options.jobs, 1, 256}, {"--stalls", &options.stalls, 1, 1000}, {"--late", &options.late, 1, 1000000}};
 static const struct { const char *word; void (*read)(const char *text); } readers[] = {
-    {"--seeds", read_seeds}, {"--ticks", read_ticks}, {"--races", read_races}, {"--may-wait", read_sleepers},
+    {"--seeds", read_seeds}, {"--ticks", read_ticks}, {"--races", read_races}, {"--may-wait", read_sleepers}, {"--shared", read_shared},
     {"--preemptions", read_preemptions}, {"--replay", read_replay}};
 static const struct { const char *word; bool *flag, value; } flags[] = {
     {"--volatile", &options.volatiles, true}, {"--no-points", &options.points, false}, {"--log", &options.logs, true}, {"--all", &options.goes_on, true},

@@ -5,6 +5,7 @@
 
 enum races { RACES_NONE, RACES_BETWEEN, RACES_ALL };
 enum mode { BY_SEEDS, EVERY_ORDER, ALL_ORDERS, BY_PREEMPTIONS, BY_PLACES, BY_REPLAY };
+enum { MOST_SHARED = 32 };
 struct options {
     enum mode mode;
     enum races races;
@@ -12,9 +13,12 @@ struct options {
     uint64_t first_seed, last_seed;
     bool points, volatiles, goes_on, tells_ends, judged, logs;
     bool ticks_any, ticks_named, may_wait[MOST_OBJECTS];
+    int shared_count;         /* variables that race on purpose */
+    struct { uintptr_t at; uint64_t size; } shared[MOST_SHARED];
     long ticks, turns, preemptions, patience, most_runs, jobs, seconds, stalls, late;
 };
 extern struct options options;
 
+bool is_shared_variable(uintptr_t at);      /* one that --shared names */
 void read_options(int count, char **words); /* does not return where they are wrong */
 #endif

@@ -26,7 +26,7 @@ struct access {
     uintptr_t at, place;
     unsigned size;
     short context;
-    bool writes;
+    bool writes, frees;
     int processor;
 };
 struct outcome {

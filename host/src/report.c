@@ -170,7 +170,7 @@ uint64_t first_finding(uint64_t *trace_hash) {
 /* --- telling --- */
 
 static void tell_access(const struct access *access) {
-    fprintf(stderr, "fmphost:   %s on P%d %s it: %s\n", context_name(access->context), access->processor, access->writes ? "writes" : "reads", place_name(access->place));
+    fprintf(stderr, "fmphost:   %s on P%d %s it: %s\n", context_name(access->context), access->processor, access->frees ? "frees" : access->writes ? "writes" : "reads", place_name(access->place));
 }
 
 static void tell_finding(const struct finding *found) {

@@ -150,6 +150,21 @@ static void answered(struct context *who, int code, int64_t value) {
     who->next = NOTHING;
 }
 
+/* Who gives to what, and who has to give back what it took: seen in the first runs and in this one. */
+static bool gave_here[MOST_OBJECTS][MOST_OBJECTS];
+
+static void note_giver(const struct context *caller, const struct answer *answer) {
+    if (caller == NULL || caller->named < 0)
+        return;
+    int kind = fmphost_objects[caller->named].kind;
+    bool returns = kind == FMPHOST_SEM || kind == FMPHOST_MPF || kind == FMPHOST_DTQ;
+    if (is_accepted(caller, answer) && ((caller->call->does & GIVES) || ((caller->call->does & TAKES) && returns))) {
+        gave_here[caller->object][caller->named] = true;
+        if (learned->learns)
+            learned->gave[caller->object][caller->named] = true;
+    }
+}
+
 static void note_counting(void) {
     for (int i = 0; i < fmphost_object_count; i++)
         if (counts(i))
@@ -163,6 +178,7 @@ static void after_event(struct context *caller, int processor, const struct answ
     timers_event(caller, is_accepted(caller, answer) && caller->named >= 0);
     clocks_event(caller, processor, answer);
     places_event(caller, answer);
+    note_giver(caller, answer);
     footprint_changes(footprint);
     note_counting();
 }
@@ -254,15 +270,42 @@ static bool is_stuck(int i, bool ended) {
     return (waits || turns) && (ended || (options.patience >= 0 && most_ticks() - waits_since[i] > options.patience));
 }
 
+static bool may_give(int giver, int object) {
+    return gave_here[giver][object] || learned->gave[giver][object];
+}
+
+/* Nobody who lives may end its wait: so it may be a server without a request. */
+static bool may_only_serve(int i) {
+    int task = contexts[i].object, object = state.waits[task] >= 0 ? state.waits[task] : task;
+    if (!contexts[i].waits)
+        return false;
+    for (int j = 0; j < context_count; j++) {
+        bool lives = contexts[j].lives || (contexts[j].processor != 0 && counts(contexts[j].object));
+        if (j != i && lives && (may_give(contexts[j].object, object) || may_give(contexts[j].object, task)))
+            return false;
+    }
+    return true;
+}
+
+static size_t add_servers(char *words, size_t room, bool ended) {
+    size_t length = 0;
+    for (int i = 0; i < context_count && length + 300 < room; i++)
+        if (is_stuck(i, ended) && may_only_serve(i))
+            length += (size_t)snprintf(words + length, room - length, "%s%s", length ? "," : "; right if it only serves: --may-wait ", context_name(i));
+    return length;
+}
+
 static void end_at_sleepers(bool ended) {
     char words[2048];
     size_t length = 0;
-    for (int i = 0; i < context_count && length < sizeof words - 300; i++)
+    for (int i = 0; i < context_count && length < sizeof words - 600; i++)
         if (is_stuck(i, ended))
             length += (size_t)snprintf(words + length, sizeof words - length, "%s%s %s for ever in %s", length ? "; " : "", context_name(i),
                                        contexts[i].waits ? "waits" : "spins", contexts[i].request);
-    if (length > 0)
+    if (length > 0) {
+        add_servers(words + length, sizeof words - length, ended);
         end_run(ASLEEP, "%s", words);
+    }
 }
 
 static size_t add_left(enum left kind, const char *form, ...) {

@@ -15,7 +15,7 @@ WORDS = [
     (["--ticks", "any"], 2, "goes with --places alone"), (["--turns", "0"], 2, "--turns: expected a number from 1"),
     (["--every-order", "--places"], 2, "--places: says another way"), (["--races", "some"], 2, "--races: expected none"),
     (["--may-wait", "NOBODY"], 2, "--may-wait: no task has that name"), (["--jobs", "2", "--every-order"], 2, "--jobs: goes with --seeds alone"),
-    (["--replay", "/nowhere/it"], 3, "/nowhere/it: No such file"), (["--trace", "/nowhere/it"], 3, "/nowhere/it: No such file"),
+    (["--shared", "nothing_of_this"], 2, "--shared: no variable has that name"), (["--replay", "/nowhere/it"], 3, "/nowhere/it: No such file"), (["--trace", "/nowhere/it"], 3, "/nowhere/it: No such file"),
     (["--order", "/dev/full"], 3, "/dev/full: No space left"), (["--view", "/nowhere/it"], 3, "/nowhere/it: fmpsim view failed"),
 ]
 # What the program `bad` does by HOW: status, and what is told. Where it is found, its seed is, too.
