@@ -12,7 +12,8 @@ struct fmphost_object {
     void (*body)(intptr_t exinf); /* of a task or a handler */
     intptr_t exinf;
     int blocks;         /* of a pool */
-    size_t size;        /* of a block */
+    size_t size;        /* from one block to the next */
+    size_t length;      /* of a block */
     unsigned char *memory;
     int counts;         /* a cyclic handler that counts ticks from boot */
     int processor;      /* on which a task or handler begins */
@@ -25,4 +26,5 @@ extern const int fmphost_master;          /* the processor whose ticks count for
 extern const char fmphost_configuration[]; /* the path of its text */
 extern const char fmphost_version[];       /* of the fmpsim that read it, */
 extern const uint64_t fmphost_listed;      /* and a hash of what that said of it */
+extern const char fmphost_outside[] __attribute__((weak)); /* functions that the project calls, and whose accesses are not seen */
 #endif

@@ -11,6 +11,7 @@ enum operation { NOTHING, CALL, ACCESS, POINT };
 struct context {
     int object, processor;      /* a handler has one context for each processor, since it may be due on two; a task's is 0 */
     bool lives, started, answered, waits;
+    uint32_t ended;             /* how often another ended its life */
     enum operation next;        /* what it stands before */
     const struct call *call;    /* CALL: the call, */
     int64_t argument[MOST_ARGUMENTS];

@@ -4,6 +4,7 @@
  */
 #include "memory.h"
 #include "run.h"
+#include "c_library.h"
 #include <malloc.h>
 #include <stddef.h>
 #include <string.h>
@@ -52,7 +53,7 @@ void __wrap_free(void *block) {
 }
 
 static char *copied(const char *text, size_t length, uintptr_t place) {
-    memory_touch((uintptr_t)text, (unsigned)length, false, false, place);
+    string_reads(text, length, place);
     char *copy = given(__real_malloc(length + 1));
     if (copy == NULL)
         return NULL;

@@ -31,25 +31,6 @@ PUBLIC void __cyg_profile_func_exit(void *function, void *caller) { (void)functi
 PUBLIC void __tsan_func_entry(void *place) { (void)place; }
 PUBLIC void __tsan_func_exit(void) { }
 
-/* memcpy and the like are left to a library by the compiler: the linker's --wrap brings the program's own here. */
-void *__real_memcpy(void *to, const void *from, size_t size);
-void *__real_memmove(void *to, const void *from, size_t size);
-void *__real_memset(void *to, int byte, size_t size);
-PUBLIC void *__wrap_memcpy(void *to, const void *from, size_t size) {
-    memory_touch((uintptr_t)from, (unsigned)size, false, false, PLACE);
-    memory_touch((uintptr_t)to, (unsigned)size, true, false, PLACE);
-    return __real_memcpy(to, from, size);
-}
-PUBLIC void *__wrap_memmove(void *to, const void *from, size_t size) {
-    memory_touch((uintptr_t)from, (unsigned)size, false, false, PLACE);
-    memory_touch((uintptr_t)to, (unsigned)size, true, false, PLACE);
-    return __real_memmove(to, from, size);
-}
-PUBLIC void *__wrap_memset(void *to, int byte, size_t size) {
-    memory_touch((uintptr_t)to, (unsigned)size, true, false, PLACE);
-    return __real_memset(to, byte, size);
-}
-
 /* --- C11 atomics --- */
 
 static void touch(const volatile void *at, unsigned size, enum atomic kind, int order, uintptr_t place) {

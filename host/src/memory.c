@@ -1,12 +1,14 @@
 #include "memory.h"
 #include "clocks.h"
 #include "outcome.h"
+#include "pools.h"
 #include "run.h"
 #include <stdio.h>
 #include <string.h>
 
-enum { WORD = 8, MOST_SEEN = 12, MOST_WORDS = 1 << 17, WORD_SLOTS = 1 << 18, MOST_CELLS = 1 << 12, CELL_SLOTS = 1 << 13 };
-struct seen { /* an access that was made, of one context */
+enum { WORD = 8, MOST_SEEN = 1 << 20, MOST_WORDS = 1 << 17, WORD_SLOTS = 1 << 18, MOST_CELLS = 1 << 12, CELL_SLOTS = 1 << 13 };
+struct seen { /* an access that was made, of one context: the last of its kind */
+    uint32_t next;       /* of the same word, or 0 */
     short context;
     unsigned char bytes; /* which of the word's */
     bool writes, atomic, frees;
@@ -16,11 +18,11 @@ struct seen { /* an access that was made, of one context */
 };
 struct word {
     uintptr_t number;
-    short first;          /* the context that touched it first */
+    short first;          /* the context that touched it first, */
+    uint32_t life;        /* and in which of its lives */
     bool shared, written;
     uint64_t at_first;    /* what it was before it was touched */
-    int seen_count;
-    struct seen seen[MOST_SEEN];
+    uint32_t seen;        /* the first of what was seen, or 0 */
 };
 struct cell { /* of atomic and volatile accesses: what whoever reads it may take from who wrote it */
     uintptr_t at;
@@ -31,12 +33,15 @@ static struct word *words;
 static uint32_t *slots;               /* the words by their hashes, from 1 */
 static uint32_t (*cell_clock)[MOST_CONTEXTS];
 static struct cell *cells;            /* by their hashes: at is 0 where there is none */
-static long word_count, cell_count;
+static struct seen *seen_room;        /* from 1 */
+static long word_count, cell_count, seen_count;
+static uint32_t unused_seen;          /* what was given back, as a list */
 struct learned *learned;
 
 void memory_make(void) {
     words = own_room(MOST_WORDS * sizeof *words);
     slots = own_room(WORD_SLOTS * sizeof *slots);
+    seen_room = own_room(MOST_SEEN * sizeof *seen_room);
     cells = own_room(CELL_SLOTS * sizeof *cells);
     cell_clock = own_room(CELL_SLOTS * sizeof *cell_clock);
 }
@@ -98,15 +103,17 @@ void learned_only(long count) {
 
 /* Is it a place at which another may go on? Only where another one touches the word too, and one of both writes. */
 static bool is_point(struct context *me, uintptr_t number, bool writes) {
-    struct word *word = word_at(number, !own_stack(me, number * WORD));
+    struct word *word = word_at(number, true);
     if (word == NULL)
         return is_learned(number);
     int id = (int)(me - contexts);
     if (word->first < 0) {
         int owner = owner_of_stack(number * WORD);
         word->first = (short)(owner >= 0 ? owner : id);
+        word->life = me->ended;
     }
-    word->shared |= word->first != id;
+    /* a life that was ended anywhere in its code is another's to the next one, but for its stack */
+    word->shared |= word->first != id || (word->life != me->ended && !own_stack(me, number * WORD));
     word->written |= writes;
     if (word->shared && word->written && learned->learns)
         learn_word(number);
@@ -135,19 +142,49 @@ static bool races(const struct seen *seen, const struct seen *now) {
            (options.races == RACES_ALL || (options.races == RACES_BETWEEN && seen->processor != now->processor));
 }
 
+static bool is_like(const struct seen *one, const struct seen *other) {
+    return one->context == other->context && one->writes == other->writes && one->atomic == other->atomic && one->bytes == other->bytes;
+}
+
+/* Room for one more, or 0. */
+static uint32_t new_seen(void) {
+    uint32_t made = unused_seen;
+    if (made != 0)
+        unused_seen = seen_room[made].next;
+    else if (seen_count + 1 < MOST_SEEN)
+        made = (uint32_t)++seen_count;
+    else
+        snprintf(outcome->left[LEFT_MEMORY], sizeof outcome->left[LEFT_MEMORY], "races of more than %d accesses", MOST_SEEN);
+    return made;
+}
+
+static void forget_seen(struct word *word) {
+    while (word->seen != 0) {
+        uint32_t next = seen_room[word->seen].next;
+        seen_room[word->seen].next = unused_seen;
+        unused_seen = word->seen;
+        word->seen = next;
+    }
+}
+
 /* Looks whether one that was made before is not ordered with it, and keeps it in the place of the context's own like it. */
 static void look_and_keep(struct word *word, struct seen now, uintptr_t at, unsigned size) {
-    int mine = -1;
-    for (int i = 0; i < word->seen_count; i++) {
-        struct seen *seen = &word->seen[i];
+    uint32_t mine = 0;
+    for (uint32_t i = word->seen; i != 0; i = seen_room[i].next) {
+        const struct seen *seen = &seen_room[i];
         if (seen->context != now.context && races(seen, &now) && !is_shared_variable(at))
             end_at_race(seen, &now, at, size);
-        if (seen->context == now.context && seen->writes == now.writes && seen->bytes == now.bytes)
+        if (is_like(seen, &now))
             mine = i;
     }
-    if (mine < 0)
-        mine = word->seen_count < MOST_SEEN ? word->seen_count++ : (int)(now.place % MOST_SEEN);
-    word->seen[mine] = now;
+    if (mine != 0)
+        now.next = seen_room[mine].next;
+    else if ((mine = new_seen()) != 0) {
+        now.next = word->seen;
+        word->seen = mine;
+    } else
+        return;
+    seen_room[mine] = now;
 }
 
 static void record(struct context *me, uintptr_t number, const struct context *access) {
@@ -165,6 +202,7 @@ void memory_touch(uintptr_t at, unsigned size, bool writes, bool atomic, uintptr
         return;
     bool point = false;
     me->place = place; /* before memory is looked at: a crash there is that of the access */
+    pools_touch(at, size, writes);
     for (uintptr_t number = at / WORD; number <= (at + size - 1) / WORD; number++)
         point |= is_point(me, number, writes);
     me->at = at, me->size = size, me->writes = writes, me->atomic = atomic;
@@ -233,7 +271,7 @@ void memory_given(uintptr_t at, uint64_t size) {
         if (word != NULL) {
             word->first = -1;
             word->shared = word->written = false;
-            word->seen_count = 0;
+            forget_seen(word);
         }
     }
 }

@@ -5,7 +5,7 @@
 #include <stdint.h>
 
 /* Those from ASLEEP on are findings, up to BROKEN, where the host itself failed and has told why. A run that is UNENDED was left by exit(). */
-enum ending { UNENDED, QUIET, LEFT_OFF, LIMIT, CUT_SHORT, ASLEEP, CLAIM, RACE, CRASH, HANG, BROKEN };
+enum ending { UNENDED, QUIET, LEFT_OFF, LIMIT, CUT_SHORT, ASLEEP, CLAIM, RACE, BLOCK, CRASH, HANG, BROKEN };
 enum { MOST_TURNS = 1 << 15 };
 /* Why what comes after a run, or beside it, was not looked at. */
 enum left { LEFT_TICKS, LEFT_TURNS, LEFT_EVENTS, LEFT_MEMORY, LEFT_KINDS };
@@ -45,6 +45,7 @@ struct outcome {
 extern struct outcome *outcome;
 
 _Noreturn void give_up(const char *form, ...) __attribute__((format(printf, 1, 2))); /* an error of the host or of fmpsim, not of the program */
+_Noreturn void end_with_place(enum ending ending, const char *form, ...) __attribute__((format(printf, 2, 3))); /* of who runs */
 _Noreturn void end_run(enum ending ending, const char *form, ...) __attribute__((format(printf, 2, 3)));
 void *shared_room(uint64_t size); /* zeros that the processes of all runs share */
 void *own_room(uint64_t size);    /* zeros of which each run has its own */

@@ -8,6 +8,7 @@
 #include "places.h"
 #include "memory.h"
 #include "outcome.h"
+#include "pools.h"
 #include "run.h"
 #include "timers.h"
 #include <stdio.h>
@@ -18,7 +19,6 @@ static uint32_t since[MOST_OBJECTS], anew[MOST_OBJECTS], events_so_far; /* when 
 /* The processor of a queued activation, as far as calls have named it. */
 enum { NOWHERE = 255 };
 static unsigned char queued_for[MOST_OBJECTS];
-static uint64_t handed_out[MOST_OBJECTS];                               /* a sum over a pool's blocks that are */
 
 void places_make(void) {
     places = shared_room(sizeof *places);
@@ -27,25 +27,6 @@ void places_make(void) {
 static uint64_t mix(uint64_t sum, uint64_t part) {
     sum = (sum ^ part) * 0x9e3779b97f4a7c15u;
     return sum ^ sum >> 32;
-}
-
-static uint64_t block_part(int64_t block) {
-    return mix((uint64_t)block + 1, 0x94d049bb133111ebu);
-}
-
-/* Blocks are handed out by a call's answer or by the release of one that waited for it, and given back where nobody waits. */
-static void note_blocks(const struct context *caller, const struct answer *answer, bool accepted) {
-    for (int i = 0; i < answer->releases; i++) {
-        const struct context *released = context_of_task(answer->release[i].task);
-        if ((released->call->does & GETS_BLOCK) && answer->release[i].code == 0 && released->named >= 0)
-            handed_out[released->named] += block_part(answer->release[i].value);
-    }
-    if (!accepted)
-        return;
-    if (caller->call->does & GETS_BLOCK)
-        handed_out[caller->named] += block_part(answer->value);
-    if (caller->call->does & RETURNS_BLOCK)
-        handed_out[caller->named] -= block_part(caller->argument[1]);
 }
 
 static void note_queued(const struct context *caller, bool accepted) {
@@ -57,7 +38,6 @@ static void note_queued(const struct context *caller, bool accepted) {
 void places_event(const struct context *caller, const struct answer *answer) {
     bool accepted = is_accepted(caller, answer) && caller->named >= 0;
     events_so_far++;
-    note_blocks(caller, answer, accepted);
     note_queued(caller, accepted);
     if (caller != NULL && answer->said == WAIT)
         since[caller->object] = anew[caller->object] = events_so_far;
@@ -93,7 +73,7 @@ static uint64_t kernel_part(uint64_t sum) {
             sum = mix(sum, (uint64_t)run_ticks(p));
     }
     for (int i = 0; i < fmphost_object_count; i++)
-        sum = mix(mix(mix(sum, state.told[i]), (uint64_t)(assigned_to(i) * 256 + queued_for[i])), handed_out[i]);
+        sum = mix(mix(mix(sum, state.told[i]), (uint64_t)(assigned_to(i) * 256 + queued_for[i])), fmphost_objects[i].kind == FMPHOST_MPF ? pools_hash(i) : 0);
     return mix(mix(sum, order_of(since)), order_of(anew));
 }
 

@@ -262,6 +262,8 @@ int tell_summary(const char *what, bool complete) {
         all &= !tell_untried(what, complete);
     if (told && options.mode != BY_REPLAY)
         coverage_tell();
+    if (told && fmphost_outside != NULL && fmphost_outside[0] != '\0')
+        fprintf(stderr, "fmphost: not seen: what these do with memory: %s\n", fmphost_outside);
     if (!outcome->instrumented)
         fputs("fmphost: the program was not compiled with -fsanitize=thread, so no race was looked for\n", stderr);
     fprintf(stderr, "fmphost: %ld %s%s, %ld turns, %ld events, %.2f s", tally->runs, what, tally->runs == 1 ? "" : "s", tally->turns, tally->events, took);

@@ -4,6 +4,7 @@
 #include "memory.h"
 #include "outcome.h"
 #include "places.h"
+#include "pools.h"
 #include "timers.h"
 #include <stdarg.h>
 #include <stdio.h>
@@ -71,6 +72,16 @@ void end_run(enum ending ending, const char *form, ...) {
     running = NULL;
     proved_stop();
     _exit(0);
+}
+
+void end_with_place(enum ending ending, const char *form, ...) {
+    char words[1024];
+    va_list values;
+    va_start(values, form);
+    vsnprintf(words, sizeof words, form, values);
+    va_end(values);
+    outcome->crash = running->place;
+    end_run(ending, "%s", words);
 }
 
 /* --- who runs, and what may happen --- */
@@ -178,6 +189,7 @@ static void after_event(struct context *caller, int processor, const struct answ
     timers_event(caller, is_accepted(caller, answer) && caller->named >= 0);
     clocks_event(caller, processor, answer);
     places_event(caller, answer);
+    pools_event(caller, answer);
     note_giver(caller, answer);
     footprint_changes(footprint);
     note_counting();
@@ -201,8 +213,10 @@ static void make_call(struct context *who, int processor, struct turn *turn) {
     after_event(who, processor, answer, turn);
     if (ends)
         context_end(who);
-    if (ended >= 0)
+    if (ended >= 0) {
         context_end(context_of_task(ended));
+        context_of_task(ended)->ended++;
+    }
 }
 
 static const struct answer *taken(int processor, const char *event, struct turn *turn) {
@@ -342,12 +356,28 @@ static bool may_tick(void) {
     return false;
 }
 
+/* A block that is still handed out where nobody who lives has to do with its pool. */
+static void end_at_kept_block(void) {
+    int block, who;
+    for (int pool = 0; pool < fmphost_object_count; pool++) {
+        if (fmphost_objects[pool].kind != FMPHOST_MPF || !pools_kept(pool, &block, &who))
+            continue;
+        bool used = false;
+        for (int i = 0; i < context_count; i++)
+            used |= contexts[i].lives && may_give(contexts[i].object, pool);
+        if (!used)
+            end_run(BLOCK, "block %d of %s, which %s got, is never given back", block, fmphost_objects[pool].name, context_name(who));
+    }
+}
+
 /* Where nothing may happen any more, or nothing but ticks. Where a tick could still come this is no end: whoever waits may go on then. */
 static _Noreturn void end_quiet(void) {
     if (may_tick())
         run_leaves_ticks(true);
-    else
+    else {
         end_at_sleepers(true);
+        end_at_kept_block();
+    }
     end_run(QUIET, " ");
 }
 

@@ -3,6 +3,7 @@
 #include "kernel.h"
 #include "options.h"
 #include "outcome.h"
+#include "c_library.h"
 #include "syssvc/serial.h"
 #include "syssvc/syslog.h"
 #include "t_stdlib.h"
@@ -40,9 +41,12 @@ ER ext_ker(void) {
 
 void fmphost_log(uint_t priority, const char *form, ...) {
     (void)priority;
+    va_list values;
+    va_start(values, form);
+    format_reads(form, values, (uintptr_t)__builtin_return_address(0));
+    va_end(values);
     if (!options.logs)
         return;
-    va_list values;
     va_start(values, form);
     fprintf(stderr, "[%ld %s] ", answers - 1, runner_name());
     vfprintf(stderr, form, values);
@@ -68,10 +72,12 @@ ER serial_ctl_por(ID portid, uint_t ioctl) { (void)portid, (void)ioctl; return E
 
 ER_UINT serial_rea_dat(ID portid, char *buf, uint_t len) {
     (void)portid;
+    uintptr_t place = (uintptr_t)__builtin_return_address(0);
     for (uint_t i = 0; i < len; i++) {
         ER ercd = options.serial[read_so_far] != '\0' ? dly_tsk(0) : slp_tsk(); /* a port from which nothing more comes */
         if (ercd != E_OK)
             return i > 0 ? (ER_UINT)i : ercd;
+        string_writes(&buf[i], 1, place);
         buf[i] = options.serial[read_so_far++];
     }
     return (ER_UINT)len;
@@ -79,6 +85,7 @@ ER_UINT serial_rea_dat(ID portid, char *buf, uint_t len) {
 
 ER_UINT serial_wri_dat(ID portid, const char *buf, uint_t len) {
     (void)portid;
+    string_reads(buf, len, (uintptr_t)__builtin_return_address(0));
     if (options.logs)
         fwrite(buf, 1, len, stderr);
     return (ER_UINT)len;

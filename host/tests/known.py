@@ -119,6 +119,38 @@ def no_false():
     yield "philosophers:two", ["--every-order"], 5, ["PHIL1 waits for ever in wai_sem(2); PHIL2 waits for ever in wai_sem(1)\n", "not: right if"]
 
 
+# What is seen of memory: blocks of pools, what a task that was ended left half done, a local variable whose address is given away.
+def seen():
+    yield "pools", ["--every-order"], 0, ["nothing found, every order"]
+    yield "pools:KEPT", ["--every-order"], 5, ["block 1 of POOL, which GIVER got, is never given back"]
+    yield "pools:AFTER", ["--every-order"], 5, ["TAKER writes block 0 of POOL, which is not handed out: take_task pools.c"]
+    yield "pools:BEYOND", ["--every-order"], 5, ["GIVER writes beyond block 0 of POOL, byte 20 of 20: give_task pools.c"]
+    yield "ended", ["--every-order", "--ticks", "1"], 5, ["first == second is false, in WORKER"]
+    yield "ended", ["--places", "--ticks", "1"], 5, ["first == second is false, in WORKER"]
+    yield "ended:RIGHT", ["--every-order", "--ticks", "1"], 0, ["nothing found within 1 tick, every order"]
+    yield "locals", ["--every-order", "--may-wait", "GIVER"], 5, ["race on a variable on GIVER's stack", "GIVER on P1 writes it", "TAKER on P2 reads it"]
+    yield "locals:STATIC", ["--every-order", "--may-wait", "GIVER"], 5, ["race on number", "GIVER on P1 writes it", "TAKER on P2 reads it"]
+    yield "count:LOCKED", ["--seeds", "1"], 0, ["not: not seen"]
+
+
+WRITE = ["memcpy", "memmove", "memset", "strcpy", "stpcpy", "strncpy", "strcat", "strncat", "sprintf", "snprintf", "vsnprintf", "strtol"]
+READ = ["memcmp", "memchr", "strlen", "strnlen", "strcmp", "strncmp", "strcasecmp", "strncasecmp", "strchr", "strrchr", "strstr", "strspn", "strcspn", "strpbrk",
+        "atoi", "strtoul", "strdup", "strndup", "strcpy from", "memcpy from", "snprintf of", "syslog"]
+
+
+def texts(test):
+    """Each function of the C library that reads or writes a text races as an access of the calling line does; and what is not seen is named."""
+    for cc in test.compilers:
+        for how in WRITE + READ:
+            ended, told = test.run(cc, "texts", "--every-order", env={"HOW": how})
+            wanted = ["race on text", "WRITER on P1 writes it: %s texts.c" % ("writes" if how in WRITE else "write_task")] + ["READER on P2 reads it"]
+            if how == "vsnprintf":
+                wanted[1] = "WRITER on P1 writes it: printed texts.c"
+            test.check(ended == 5 and all(text in told for text in wanted), "%s: texts, HOW=%s: status %s" % (cc, how, ended), told)
+        ended, told = test.run(cc, "texts", "--every-order", "--all", env={"HOW": "strlen"})
+        test.check("fmphost: not seen: what these do with memory: qsort\n" in told, "%s: what is not seen" % cc, told)
+
+
 # clang calls no hook for a field of a function's own structure, though its address is given away.
 GCC_ALONE = ["race on a variable on CLIENT's stack"]
 
@@ -130,7 +162,7 @@ def is_told(text, told):
 
 def findings(test):
     for cc in test.compilers:
-        for program, words, status, wanted in [*rows(), *extents(), *no_false()]:
+        for program, words, status, wanted in [*rows(), *extents(), *no_false(), *seen()]:
             if cc == "clang" and wanted[0] in GCC_ALONE:
                 continue
             ended, told = test.run(cc, program, *words)

@@ -1,0 +1,1 @@
+#define BLOCK_SIZE 20
