@@ -115,14 +115,15 @@ static int action_of_line(void) {
     return (processor - 1) * ACTS + act;
 }
 
-/* `# fmphost order: ticks 3, points 4068 4070`: what the run that wrote it was asked and knew. */
+/* `# fmphost order: ticks 3, joined 1, points 4068 4070`: what the run that wrote it was asked and knew. */
 static void read_head(void) {
     long ticks;
-    int used;
+    int joined, used;
     has_points = false;
-    if (sscanf(line, "# fmphost order: ticks %ld, points%n", &ticks, &used) != 1)
+    if (sscanf(line, "# fmphost order: ticks %ld, joined %d, points%n", &ticks, &joined, &used) != 2)
         return;
     has_points = true;
+    joins_returns = joined != 0;
     if (!options.ticks_named)
         options.ticks = ticks;
     for (char *at = line + used, *end; *at == ' '; at = end)

@@ -68,6 +68,13 @@ void footprint_interrupt(struct footprint *f, int processor, bool tick) {
         set(f->writes, QUEUE + processor - 1);
 }
 
+/* It may come before or after whatever does not set or read its timer, also where that holds it back for a while. */
+void footprint_quiet_tick(struct footprint *f, int processor) {
+    memset(f, 0, sizeof *f);
+    set(f->writes, TIMER + processor - 1);
+    f->quiet = true;
+}
+
 void footprint_access(struct footprint *f, const struct context *who) {
     if (who->next == ACCESS) {
         f->at = who->at;

@@ -11,12 +11,14 @@ struct footprint {
     uintptr_t at; /* an access of memory, where size is not 0 */
     unsigned size;
     bool stores;
+    bool quiet;  /* a tick that nobody sees but by what its timer has left */
 };
 struct context;
 
 void footprint_begin(struct footprint *f, int processor);
 void footprint_call(struct footprint *f, int processor, const struct context *caller);
 void footprint_interrupt(struct footprint *f, int processor, bool tick);
+void footprint_quiet_tick(struct footprint *f, int processor);
 void footprint_access(struct footprint *f, const struct context *who);
 void footprint_changes(struct footprint *f); /* by the states before and after the event */
 bool dependent(const struct footprint *a, const struct footprint *b);

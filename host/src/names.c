@@ -96,7 +96,7 @@ static void ask_symbol(uintptr_t address, char *name, size_t room) {
         pclose(tool);
 }
 
-/* A local static variable has a number behind its name. */
+/* A local static variable has a number behind its name (gcc) or its function before it (clang). */
 bool variable_range(const char *name, uintptr_t *from, uint64_t *bytes) {
     FILE *tool = ask_tool("nm -nS --defined-only", " 2>/dev/null");
     char line[700], symbol[512], type;
@@ -104,8 +104,9 @@ bool variable_range(const char *name, uintptr_t *from, uint64_t *bytes) {
     while (tool != NULL && fgets(line, sizeof line, tool)) {
         if (sscanf(line, "%lx %lx %c %511s", &at, &size, &type, symbol) != 4 || strchr("bBdDsSvV", type) == NULL)
             continue;
-        symbol[strcspn(symbol, ".")] = '\0';
-        if (strcmp(symbol, name) == 0) {
+        const char *behind = strrchr(symbol, '.');
+        size_t length = strcspn(symbol, ".");
+        if ((strlen(name) == length && strncmp(symbol, name, length) == 0) || (behind != NULL && strcmp(behind + 1, name) == 0)) {
             found++;
             *from = at + load_address(), *bytes = size;
         }

@@ -2,6 +2,7 @@
 #include "options.h"
 #include "names.h"
 #include "outcome.h"
+#include "run.h"
 #include <errno.h>
 #include <limits.h>
 #include <stdio.h>
@@ -34,6 +35,7 @@ static const char usage[] =
     "  --patience N        a wait without a timeout that lasts more than N ticks is one\n"
     "  --no-points         others go on at service calls alone, and not at accesses of what is shared\n"
     "  --all               goes on after a finding\n"
+    "  --progress          how far it is, on standard error, once a second: as at a terminal\n"
     "What is written:\n"
     "  --trace FILE        the trace of the first finding, or of the last run\n"
     "  --order FILE        its order, turn by turn\n"
@@ -159,7 +161,7 @@ static const struct { const char *word; void (*read)(const char *text); } reader
     {"--preemptions", read_preemptions}, {"--replay", read_replay}};
 static const struct { const char *word; bool *flag, value; } flags[] = {
     {"--volatile", &options.volatiles, true}, {"--no-points", &options.points, false}, {"--log", &options.logs, true}, {"--all", &options.goes_on, true},
-    {"--ends", &options.tells_ends, true}, {"--check", &options.judged, true}};
+    {"--ends", &options.tells_ends, true}, {"--progress", &options.progress, true}, {"--check", &options.judged, true}};
 static const struct { const char *word; enum mode mode; } modes[] = {
     {"--every-order", EVERY_ORDER}, {"--all-orders", ALL_ORDERS}, {"--places", BY_PLACES}};
 #define COUNT(list) (sizeof list / sizeof *list)
@@ -197,6 +199,7 @@ static bool read_value(const char *word, const char *value) {
 /* Words that say nothing together are refused, and none is passed over. */
 static void look_together(void) {
     options.goes_on |= options.tells_ends; /* or not all ends would be counted */
+    joins_returns = options.mode == EVERY_ORDER;
     if (options.ticks_any && options.mode != BY_PLACES)
         misused("--ticks any", "goes with --places alone");
     if ((options.jobs > 1 || options.stalls || options.late) && options.mode != BY_SEEDS)

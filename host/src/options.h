@@ -11,7 +11,7 @@ struct options {
     enum races races;
     const char *fmpsim, *configuration, *serial, *trace, *order, *view, *replay;
     uint64_t first_seed, last_seed;
-    bool points, volatiles, goes_on, tells_ends, judged, logs;
+    bool progress, points, volatiles, goes_on, tells_ends, judged, logs;
     bool ticks_any, ticks_named, may_wait[MOST_OBJECTS];
     int shared_count;         /* variables that race on purpose */
     struct { uintptr_t at; uint64_t size; } shared[MOST_SHARED];

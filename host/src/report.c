@@ -1,5 +1,6 @@
 #define _GNU_SOURCE
 #include "report.h"
+#include "run.h"
 #include "coverage.h"
 #include "memory.h"
 #include "names.h"
@@ -34,6 +35,7 @@ struct untried { /* of one kind: how many runs left something, and the first of 
 static struct tally {
     atomic_flag taken;
     long runs, cut, findings, turns, events, end_count, kinds;
+    double told_at;
     uint64_t ends_sum, ends[MOST_ENDS];
     struct finding finding[MOST_FINDINGS];
     struct untried untried[LEFT_KINDS];
@@ -127,6 +129,24 @@ static void judge(void) {
     unlink(path);
 }
 
+/* At a terminal one line that changes, else one a second. */
+static void tell_progress(void) {
+    static const char *const runs[] = {[BY_SEEDS] = "seeds", [BY_PLACES] = "steps", [BY_REPLAY] = "orders"};
+    double now = seconds();
+    bool changes = isatty(STDERR_FILENO);
+    if ((!changes && !options.progress) || now - tally->told_at < 1 || now - began < 1)
+        return;
+    tally->told_at = now;
+    fprintf(stderr, "%sfmphost: %ld %s so far, %ld turns, %.0f s%s", changes ? "\r" : "", tally->runs, runs[options.mode] ? runs[options.mode] : "orders",
+            tally->turns, now - began, changes ? "\033[K" : "\n");
+}
+
+static void end_progress(void) {
+    if (tally->told_at > 0 && isatty(STDERR_FILENO))
+        fputs("\r\033[K", stderr);
+    tally->told_at = 0;
+}
+
 void note_run(uint64_t number, bool counts_end) {
     if (options.judged)
         judge();
@@ -142,6 +162,7 @@ void note_run(uint64_t number, bool counts_end) {
     if (counts_end)
         note_end();
     note_left(number);
+    tell_progress();
     atomic_flag_clear(&tally->taken);
 }
 
@@ -188,6 +209,7 @@ static void tell_finding(const struct finding *found) {
 
 /* The first one; with --all one of each kind. What seeds beside the first one found is not told without it, as that is chance. */
 void tell_findings(const char *what) {
+    end_progress();
     for (int i = earliest(0); i >= 0; i = options.goes_on ? earliest(tally->finding[i].number + 1) : -1) {
         const struct finding *found = &tally->finding[i];
         fprintf(stderr, "fmphost: %s %llu", what, (unsigned long long)found->number);
@@ -256,6 +278,7 @@ static void tell_extent(void) {
 
 int tell_summary(const char *what, bool complete) {
     double took = seconds() - began;
+    end_progress();
     bool told = !tally->findings || options.goes_on; /* else the search stopped at what it found */
     bool all = complete;
     if (told)
@@ -328,7 +351,7 @@ static void write_order(const char *path) {
     FILE *file = fopen(path, "w");
     if (file == NULL)
         unwritten(path);
-    fprintf(file, "# fmphost order: ticks %ld, points", options.ticks);
+    fprintf(file, "# fmphost order: ticks %ld, joined %d, points", options.ticks, joins_returns);
     for (long i = 0; i < learned_before; i++)
         fprintf(file, " %lx", (unsigned long)learned->word[i]);
     fputc('\n', file);

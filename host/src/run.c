@@ -11,7 +11,7 @@
 #include <string.h>
 #include <unistd.h>
 
-bool instrumented, every_tick;
+bool instrumented, every_tick, joins_returns;
 static struct footprint unused;
 struct footprint *footprint = &unused;
 struct outcome *outcome;
@@ -232,9 +232,34 @@ static void make_interrupt(int processor, struct turn *turn) {
     taken(processor, "ipi", turn);
 }
 
+/* Handlers that come to their end before anything that others see. */
+static void join_returns(int processor, struct turn *turn) {
+    long record = turn->record;
+    while (state.processor[processor].due >= 0) {
+        settle();
+        struct context *who = run_current(processor);
+        if (who->next != CALL || !(who->call->does & RETURNS))
+            break;
+        make_call(who, processor, turn);
+    }
+    turn->record = record;
+}
+
+static bool is_as_before(const struct processor *then) {
+    for (int p = 1; p <= fmphost_processors; p++) {
+        const struct processor *a = &then[p], *b = &state.processor[p];
+        if (a->run != b->run || a->due != b->due || a->dues != b->dues || a->ready != b->ready || a->locked != b->locked || a->disabled != b->disabled ||
+            a->latch != b->latch)
+            return false;
+    }
+    return true;
+}
+
 /* On to the tick at which something is due: those before it change nothing that anybody sees. */
 static void make_ticks(int processor, struct turn *turn) {
     const struct answer *answer;
+    struct processor then[MOST_PROCESSORS + 1];
+    memcpy(then, state.processor, sizeof then);
     tick_turns[processor]++;
     footprint_interrupt(footprint, processor, true);
     do {
@@ -242,6 +267,11 @@ static void make_ticks(int processor, struct turn *turn) {
         turn->ticks++;
         answer = taken(processor, "tick", turn);
     } while (!every_tick && answer->releases == 0 && state.processor[processor].due < 0 && counts_on(processor) && !proved_full());
+    if (!joins_returns || answer->releases > 0)
+        return;
+    join_returns(processor, turn);
+    if (instrumented && is_as_before(then))
+        footprint_quiet_tick(footprint, processor);
 }
 
 static void make_turn(int action) {

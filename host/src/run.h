@@ -18,6 +18,7 @@ void seal_outcome(enum ending ending);        /* all that is known of the run so
 extern bool instrumented;                     /* the program was compiled with -fsanitize=thread */
 extern struct footprint *footprint;           /* where that of the turn that is made is written */
 extern bool every_tick;                       /* each tick is a turn, whatever it lowers: as a trace has them */
+extern bool joins_returns;                    /* a tick's turn takes the returns of handlers along that do nothing that others see */
 bool run_cut_ticks(void);                     /* a tick could come here, but for --ticks */
 void run_leaves_ticks(bool ended);            /* keeps who waits here, and at an end which handlers never ran */
 #endif

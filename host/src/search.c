@@ -159,13 +159,28 @@ static bool go_back(long earlier, long later) {
     return false;
 }
 
+/* Ticks that only come later, and are quiet there: they would have been so here. */
+static uint32_t quiet_later(long turn) {
+    uint32_t met = 0, quiet = 0;
+    for (long i = turn + 1; i < tree->length; i++) {
+        const struct node *node = &tree->node[i];
+        if (node->chosen % ACTS == TICK && !(met & 1u << node->chosen)) {
+            met |= 1u << node->chosen;
+            quiet |= node->footprint[node->chosen].quiet ? 1u << node->chosen : 0;
+        }
+    }
+    return quiet;
+}
+
 /* What a turn made impossible never shows as a turn of this run: it is gone back to at once. */
 static void find_lost(void) {
     for (long i = tree->depth > 0 ? tree->depth - 1 : 0; i < tree->length; i++) {
         struct node *node = &tree->node[i];
         bool last = i + 1 == tree->length;
-        if (!last || outcome->ending == QUIET || outcome->ending == ASLEEP)
-            node->backtrack |= node->enabled & ~(last ? 0 : node[1].enabled) & ~(1u << node->chosen);
+        if (last && outcome->ending != QUIET && outcome->ending != ASLEEP)
+            continue;
+        uint32_t lost = node->enabled & ~(last ? 0 : node[1].enabled) & ~(1u << node->chosen);
+        node->backtrack |= lost == 0 ? 0 : lost & ~quiet_later(i);
     }
 }
 

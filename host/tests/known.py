@@ -1,4 +1,5 @@
 """Programs whose findings are known: by the rules, and by the lines of C that stand in them."""
+import os
 import re
 import subprocess
 from pathlib import Path
@@ -129,7 +130,8 @@ def seen():
     yield "ended", ["--places", "--ticks", "1"], 5, ["first == second is false, in WORKER"]
     yield "ended:RIGHT", ["--every-order", "--ticks", "1"], 0, ["nothing found within 1 tick, every order"]
     yield "locals", ["--every-order", "--may-wait", "GIVER"], 5, ["race on a variable on GIVER's stack", "GIVER on P1 writes it", "TAKER on P2 reads it"]
-    yield "locals:STATIC", ["--every-order", "--may-wait", "GIVER"], 5, ["race on number", "GIVER on P1 writes it", "TAKER on P2 reads it"]
+    yield "locals:STATIC", ["--every-order", "--may-wait", "GIVER"], 5, ["race on ", "number", "GIVER on P1 writes it", "TAKER on P2 reads it"]
+    yield "locals:STATIC", ["--every-order", "--may-wait", "GIVER", "--shared", "number"], 0, ["nothing found, every order"]
     yield "count:LOCKED", ["--seeds", "1"], 0, ["not: not seen"]
 
 
@@ -168,6 +170,51 @@ def findings(test):
             ended, told = test.run(cc, program, *words)
             well = ended == status and all(is_told(text, told) for text in wanted) and ("race on" in told) == ("race on" in wanted[0])
             test.check(well, "%s: %s %s: status %s in place of %d" % (cc, program, " ".join(words), ended, status), told)
+
+
+# Clean programs with a timer, and how many orders they may have at most: a tick that nobody sees makes none.
+FEW = [("first", [], 400), ("first:SPIN", [], 400), ("first:SPIN", ["--ticks", "10"], 400)]
+
+
+def few(test):
+    for cc in test.compilers[:1]:
+        for program, words, most in FEW:
+            ended, told = test.run(cc, program, "--every-order", *words)
+            orders = re.search(r"fmphost: (\d+) orders?, ", told)
+            well = ended == 0 and "nothing found within" in told and orders and int(orders[1]) <= most
+            test.check(well, "%s: %s %s in at most %d orders: status %s" % (cc, program, " ".join(words), most, ended), told)
+
+
+def at_terminal(test, cc, program, *words):
+    """What a program writes on standard error where that is a terminal."""
+    here, there = os.openpty()
+    path = str(test.room(cc) / program / "run")
+    with subprocess.Popen([path, *words], env=dict(os.environ, FMPSIM=test.fmpsim), stderr=there, stdout=subprocess.DEVNULL) as run:
+        os.close(there)
+        told = b""
+        while True:
+            try:
+                some = os.read(here, 4096)
+            except OSError:  # the terminal is closed on its other side
+                break
+            told += some
+            if not some:
+                break
+        run.wait()
+    os.close(here)
+    return told.decode()
+
+
+def progress(test):
+    """Where a search takes seconds it says how far it is: at a terminal, and elsewhere where that is asked."""
+    for cc in test.compilers[:1]:
+        words = ["--seeds", "1..40"]
+        _, told = test.run(cc, "endless", *words, "--progress")
+        test.check(re.search(r"^fmphost: \d+ seeds so far, \d+ turns, \d+ s$", told, re.M), "%s: --progress" % cc, told)
+        _, told = test.run(cc, "endless", *words)
+        test.check("so far" not in told, "%s: no progress without a terminal" % cc, told)
+        told = at_terminal(test, cc, "endless", *words)
+        test.check(re.search(r"\rfmphost: \d+ seeds so far, [^\n\r]*\x1b\[K", told) and "\r\x1b[Kfmphost: not looked at" in told, "%s: progress at a terminal" % cc, told)
 
 
 def all_calls(test):
