@@ -37,24 +37,24 @@ static void begin_anew(void) {
     forget_runs();
 }
 
-/* The first finding is told of a run that is made again, so that it is known to be so: its trace and its order are of that one. */
+/* The run that is told is made again, so that it is known to be so: the first finding's, or the last one. Its trace and its order are of that. */
 static int tell(const char *what, bool complete) {
-    uint64_t hash;
-    int again = 0;
+    uint64_t hash = outcome->trace_hash;
     if (found_so_far()) {
         tell_findings(what);
         first_finding(&hash);
         learned_only(first_learned);
         path = first_path;
-        kept->valid = 0;
-        process_run(by_path);
-        again = outcome->trace_hash != hash;
-        if (again)
-            fputs("fmphost: it does not do the same again: does the program use the time, a random number, or what it left in a file?\n", stderr);
-    }
+    } else
+        path_of_outcome();
+    kept->valid = 0;
+    process_run(by_path);
+    int again = outcome->trace_hash != hash;
+    if (again)
+        fputs("fmphost: it does not do the same again: does the program use the time, a random number, or what it left in a file?\n", stderr);
     if (!again)
         write_files();
-    int status = tell_summary(what, complete);
+    int status = tell_summary(what, complete && !again);
     return again ? 3 : status;
 }
 
