@@ -26,5 +26,6 @@ extern const int fmphost_master;          /* the processor whose ticks count for
 extern const char fmphost_configuration[]; /* the path of its text */
 extern const char fmphost_version[];       /* of the fmpsim that read it, */
 extern const uint64_t fmphost_listed;      /* and a hash of what that said of it */
+extern const char fmphost_folder[] __attribute__((weak));  /* where the project was compiled: paths of its files are from there */
 extern const char fmphost_outside[] __attribute__((weak)); /* functions that the project calls, and whose accesses are not seen */
 #endif

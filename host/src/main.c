@@ -7,6 +7,7 @@
 #include "machine.h"
 #include "places.h"
 #include "process.h"
+#include "refused.h"
 #include "report.h"
 #include "search.h"
 #include "searches.h"
@@ -41,6 +42,7 @@ __attribute__((visibility("default"))) int main(int count, char **words) {
     places_make();
     search_make();
     report_make();
+    refused_make();
     coverage_make();
     proved_check(options.fmpsim, options.configuration);
     machine_prepare(options.fmpsim, options.configuration);

@@ -55,6 +55,21 @@ static void ask_place(uintptr_t code, char *name, size_t room) {
         snprintf(name, room, "%s %s", function, place);
 }
 
+bool place_in_source(uintptr_t code, char *file, uint64_t room, int *line) {
+    char behind[64];
+    snprintf(behind, sizeof behind, " 0x%lx 2>/dev/null", (unsigned long)(code - load_address() - 1));
+    FILE *tool = ask_tool("addr2line -e", behind);
+    bool told = tool != NULL && fgets(file, (int)room, tool) != NULL;
+    char *colon = told ? strrchr(file, ':') : NULL;
+    if (tool != NULL)
+        pclose(tool);
+    if (colon == NULL)
+        return false;
+    *line = atoi(colon + 1);
+    *colon = '\0';
+    return *line > 0;
+}
+
 const char *place_name(uintptr_t code) {
     enum { MOST_KNOWN = 256 }; /* an order names few places often */
     static struct { uintptr_t code; char name[1024]; } known[MOST_KNOWN];

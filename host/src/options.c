@@ -32,6 +32,8 @@ static const char usage[] =
     "  --volatile          accesses of volatile variables race too\n"
     "  --may-wait T[,T]..  these tasks may wait for ever\n"
     "  --shared V[,V]..    these variables are shared on purpose: no race on them is one\n"
+    "  --refused none|own|all|E_..[,E_..]   a call that is refused with such a code, at which nothing looks: E_CTX, E_ID, E_PAR,\n"
+    "                      E_ILUSE, and whatever reaches t_perror (own)\n"
     "  --patience N        a wait without a timeout that lasts more than N ticks is one\n"
     "  --no-points         others go on at service calls alone, and not at accesses of what is shared\n"
     "  --all               goes on after a finding\n"
@@ -123,6 +125,29 @@ bool is_shared_variable(uintptr_t at) {
     return false;
 }
 
+static void read_refused(const char *text) {
+    static const char *const names[] = {"none", "own", "all"};
+    for (int i = 0; i < 3; i++)
+        if (!strcmp(text, names[i])) {
+            options.refused = (enum refused)i;
+            return;
+        }
+    options.refused = REFUSED_NAMED;
+    for (; *text != '\0'; text += strcspn(text, ","), text += *text == ',') {
+        int code = code_named(text, strcspn(text, ","));
+        if (code >= 0 || options.named_count == MOST_NAMED)
+            misused("--refused", "expected none, own, all or codes: E_ID,E_OBJ");
+        options.named[options.named_count++] = code;
+    }
+}
+
+bool is_refused_named(int code) {
+    for (int i = 0; i < options.named_count; i++)
+        if (options.named[i] == code)
+            return true;
+    return false;
+}
+
 static void read_ticks(const char *text) {
     options.ticks_named = true;
     options.ticks_any = !strcmp(text, "any");
@@ -157,7 +182,7 @@ static const struct { const char *word; long *value, least, most; } numbers[] = 
     {"--turns", &options.turns, 1, MOST_TURNS - 1}, {"--runs", &options.most_runs, 1, LONG_MAX}, {"--patience", &options.patience, 0, 1000000},
     {"--seconds", &options.seconds, 1, 1000000}, {"--jobs", &options.jobs, 1, 256}, {"--stalls", &options.stalls, 1, 1000}, {"--late", &options.late, 1, 1000000}};
 static const struct { const char *word; void (*read)(const char *text); } readers[] = {
-    {"--seeds", read_seeds}, {"--ticks", read_ticks}, {"--races", read_races}, {"--may-wait", read_sleepers}, {"--shared", read_shared},
+    {"--seeds", read_seeds}, {"--ticks", read_ticks}, {"--races", read_races}, {"--may-wait", read_sleepers}, {"--shared", read_shared}, {"--refused", read_refused},
     {"--preemptions", read_preemptions}, {"--replay", read_replay}};
 static const struct { const char *word; bool *flag, value; } flags[] = {
     {"--volatile", &options.volatiles, true}, {"--no-points", &options.points, false}, {"--log", &options.logs, true}, {"--all", &options.goes_on, true},
@@ -213,7 +238,7 @@ static void look_together(void) {
 void read_options(int count, char **words) {
     options = (struct options){.fmpsim = getenv("FMPSIM") ? getenv("FMPSIM") : "fmpsim", .configuration = fmphost_configuration, .serial = "",
                                .first_seed = 1, .last_seed = 100, .ticks = 3, .turns = 2000, .preemptions = -1, .patience = -1, .most_runs = LONG_MAX,
-                               .races = RACES_ALL, .seconds = 10, .jobs = 1, .points = true};
+                               .races = RACES_ALL, .refused = REFUSED_OWN, .seconds = 10, .jobs = 1, .points = true};
     for (int i = 1; i < count; i++) {
         if (!strcmp(words[i], "--help")) {
             fputs(usage, stdout);

@@ -5,10 +5,13 @@
 
 enum races { RACES_NONE, RACES_BETWEEN, RACES_ALL };
 enum mode { BY_SEEDS, EVERY_ORDER, ALL_ORDERS, BY_PREEMPTIONS, BY_PLACES, BY_REPLAY };
-enum { MOST_SHARED = 32 };
+enum refused { REFUSED_NONE, REFUSED_OWN, REFUSED_ALL, REFUSED_NAMED };
+enum { MOST_SHARED = 32, MOST_NAMED = 16 };
 struct options {
     enum mode mode;
     enum races races;
+    enum refused refused;
+    int named_count, named[MOST_NAMED]; /* the codes that --refused names */
     const char *fmpsim, *configuration, *serial, *trace, *order, *view, *replay;
     uint64_t first_seed, last_seed;
     bool progress, points, volatiles, goes_on, tells_ends, judged, logs;
@@ -19,6 +22,7 @@ struct options {
 };
 extern struct options options;
 
+bool is_refused_named(int code);
 bool is_shared_variable(uintptr_t at);      /* one that --shared names */
 void read_options(int count, char **words); /* does not return where they are wrong */
 #endif

@@ -5,7 +5,7 @@
 #include <stdint.h>
 
 /* Those from ASLEEP on are findings, up to BROKEN, where the host itself failed and has told why. A run that is UNENDED was left by exit(). */
-enum ending { UNENDED, QUIET, LEFT_OFF, LIMIT, CUT_SHORT, ASLEEP, CLAIM, RACE, BLOCK, CRASH, HANG, BROKEN };
+enum ending { UNENDED, QUIET, LEFT_OFF, LIMIT, CUT_SHORT, ASLEEP, CLAIM, RACE, BLOCK, REFUSED, CRASH, HANG, BROKEN };
 enum { MOST_TURNS = 1 << 15 };
 /* Why what comes after a run, or beside it, was not looked at. */
 enum left { LEFT_TICKS, LEFT_TURNS, LEFT_EVENTS, LEFT_MEMORY, LEFT_KINDS };

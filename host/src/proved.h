@@ -46,6 +46,8 @@ void proved_start(void);
 void proved_stop(void);
 bool proved_full(void);            /* there is no room for the answers to many more events */
 const struct answer *proved_event(int processor, const char *event);
+const char *code_name(int code);
+int code_named(const char *name, uint64_t length); /* 1 where there is none */
 int object_of(int kind, int number);
 int object_named(const char *name, uint64_t length);
 

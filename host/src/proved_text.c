@@ -12,6 +12,20 @@ static const struct { const char *name; int code; } codes[] = {
 static const struct { const char *word; enum said said; } words[] = {
     {"wait", WAIT}, {"spin", SPIN}, {"gone", GONE}, {"idle", IDLE}, {"held", HELD}, {"taken", TAKEN}, {"none", NONE}};
 
+const char *code_name(int code) {
+    for (size_t i = 0; i < sizeof codes / sizeof *codes; i++)
+        if (codes[i].code == code)
+            return codes[i].name;
+    return "an unknown code";
+}
+
+int code_named(const char *name, uint64_t length) {
+    for (size_t i = 0; i < sizeof codes / sizeof *codes; i++)
+        if (strlen(codes[i].name) == length && memcmp(codes[i].name, name, length) == 0)
+            return codes[i].code;
+    return 1;
+}
+
 int object_of(int kind, int number) {
     for (int i = 0; i < fmphost_object_count; i++)
         if (fmphost_objects[i].kind == kind && fmphost_objects[i].number == number)
@@ -130,11 +144,8 @@ void state_begin(void) {
 
 static const char *read_code(const char *at, int *code, int64_t *value, const char *line) {
     size_t length = strcspn(at, ": ");
-    *code = 1;
+    *code = code_named(at, length);
     *value = 0;
-    for (size_t i = 0; i < sizeof codes / sizeof *codes; i++)
-        if (strlen(codes[i].name) == length && !memcmp(codes[i].name, at, length))
-            *code = codes[i].code;
     if (*code == 1)
         not_understood(line);
     at += length;

@@ -2,6 +2,7 @@
 #include "contexts.h"
 #include "memory.h"
 #include "outcome.h"
+#include "refused.h"
 #include <stdlib.h>
 #include <string.h>
 
@@ -47,6 +48,7 @@ void request(const void *place, enum call_number number, const int64_t *argument
 
 ER reply(void) {
     context_stop();
+    refused_call(running->code);
     return running->code;
 }
 

@@ -3,6 +3,7 @@
 #include "kernel.h"
 #include "options.h"
 #include "outcome.h"
+#include "refused.h"
 #include "c_library.h"
 #include "syssvc/serial.h"
 #include "syssvc/syslog.h"
@@ -56,7 +57,10 @@ void fmphost_log(uint_t priority, const char *form, ...) {
 
 ER t_perror(uint_t prio, const char *file, int_t line, const char *expr, ER ercd) {
     if (ercd < 0)
-        fmphost_log(prio, "%s reported by `%s' in line %d of `%s'.", ercd == E_TMOUT ? "E_TMOUT" : "error", expr, line, file);
+        fmphost_log(prio, "%s reported by `%s' in line %d of `%s'.", code_name(ercd), expr, line, file);
+    if (running != NULL)
+        running->place = (uintptr_t)__builtin_return_address(0);
+    refused_told(ercd, file, line);
     return ercd;
 }
 

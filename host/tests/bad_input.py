@@ -15,7 +15,7 @@ WORDS = [
     (["--ticks", "any"], 2, "goes with --places alone"), (["--turns", "0"], 2, "--turns: expected a number from 1"),
     (["--every-order", "--places"], 2, "--places: says another way"), (["--races", "some"], 2, "--races: expected none"),
     (["--may-wait", "NOBODY"], 2, "--may-wait: no task has that name"), (["--jobs", "2", "--every-order"], 2, "--jobs: goes with --seeds alone"),
-    (["--shared", "nothing_of_this"], 2, "--shared: no variable has that name"), (["--replay", "/nowhere/it"], 3, "/nowhere/it: No such file"), (["--trace", "/nowhere/it"], 3, "/nowhere/it: No such file"),
+    (["--refused", "E_NOTHING"], 2, "--refused: expected none, own, all or codes"), (["--shared", "nothing_of_this"], 2, "--shared: no variable has that name"), (["--replay", "/nowhere/it"], 3, "/nowhere/it: No such file"), (["--trace", "/nowhere/it"], 3, "/nowhere/it: No such file"),
     (["--order", "/dev/full"], 3, "/dev/full: No space left"), (["--view", "/nowhere/it"], 3, "/nowhere/it: fmpsim view failed"),
 ]
 # What the program `bad` does by HOW: status, and what is told. Where it is found, its seed is, too.
@@ -144,4 +144,4 @@ def all_of_it(test):
     fmpsim_at_fault(test)
     generator_at_fault(test)
     project(test, "a project", "queue", "FMPHOST_CFG = machine.cfg", ["--every-order"], "nothing found")
-    project(test, "a project of TOPPERS", "sample1", "FMPHOST_TOPPERS = sample1.cfg -I target", ["--seeds", "1..3", "--serial", "caQ", "--races", "none", "--ticks", "100"], "3 seeds")
+    project(test, "a project of TOPPERS", "sample1", "FMPHOST_TOPPERS = sample1.cfg -I target", ["--seeds", "1..3", "--serial", "caQ", "--races", "none", "--refused", "none", "--ticks", "100"], "3 seeds")

@@ -63,8 +63,10 @@ def rows():
     yield "endless", ["--every-order", "--turns", "40", "--runs", "10"], 6, ["what comes after 40 turns: COMM goes on", "nothing found, but not all was looked at"]
     yield "producer", ["--every-order", "--runs", "3"], 6, ["orders after the first 3", "cut at 3 orders: nothing found, but not all was looked at"]
     yield "sample1", ["--seeds", "1..20", "--serial", "cas3sQ", "--ticks", "12"], 5, ["race on message", "MAIN_TASK on P1 writes it: main_task sample1.c"]
-    yield "sample1", ["--seeds", "1..20", "--serial", "caAGwWQ", "--ticks", "12", "--races", "between"], 6, ["MAIN_TASK waits in dly_tsk(0)"]
-    yield "sample1", ["--seeds", "1..20", "--serial", "caAGwWQ", "--ticks", "100", "--races", "between"], 0, ["nothing found"]
+    words = ["--seeds", "1..20", "--serial", "caAGwWQ", "--races", "between"]
+    yield "sample1", [*words, "--ticks", "12", "--refused", "none"], 6, ["MAIN_TASK waits in dly_tsk(0)"]
+    yield "sample1", [*words, "--ticks", "100", "--refused", "none"], 0, ["nothing found"]
+    yield "sample1", [*words, "--ticks", "100"], 5, ["wup_tsk(2) answers E_OBJ in MAIN_TASK, which has it logged: svc_perror sample1.c:"]
     yield "signatures", ["--seeds", "1..40", "--stalls", "30", "--late", "20"], 0, ["nothing found"]
     yield "one_message_behind", ["--seeds", "1..300", "--stalls", "50", "--late", "10"], 5, ["DISPLAY waits for ever in slp_tsk()"]
 
@@ -133,6 +135,28 @@ def seen():
     yield "locals:STATIC", ["--every-order", "--may-wait", "GIVER"], 5, ["race on ", "number", "GIVER on P1 writes it", "TAKER on P2 reads it"]
     yield "locals:STATIC", ["--every-order", "--may-wait", "GIVER", "--shared", "number"], 0, ["nothing found, every order"]
     yield "count:LOCKED", ["--seeds", "1"], 0, ["not: not seen"]
+
+
+# What refused does by HOW, what --refused says, and what is told: where nothing, the status is 0.
+REFUSED = [
+    ("id", [], "wai_sem(99) answers E_ID in TRY, which does not look at it: try_task refused.c:"), ("void", [], "sig_sem(99) answers E_ID"),
+    ("can", [], "can_wup(99) answers E_ID"), ("parameter", [], "chg_pri(0, 99) answers E_PAR"), ("use", [], "unl_spn(1) answers E_ILUSE"),
+    ("locked", [], "dly_tsk(1) answers E_CTX in TRY, which does not look at it"), ("object", [], None), ("object", ["all"], "rel_wai(2) answers E_OBJ"),
+    ("object", ["E_PAR,E_OBJ"], "rel_wai(2) answers E_OBJ"), ("object", ["E_PAR"], None), ("id", ["none"], None), ("id", ["E_OBJ"], None),
+    ("logged object", [], "rel_wai(2) answers E_OBJ in TRY, which has it logged: svc_perror refused.c:"), ("logged object", ["none"], None),
+    ("logged timeout", [], "pol_sem(1) answers E_TMOUT in TRY, which has it logged"), ("logged well", [], None), ("logged expected", [], None),
+    ("compared", [], None), ("negative", [], None), ("kept", [], None), ("returned", [], None), ("counted", [], None), ("asserted", [], None),
+    ("compared", ["all"], None), ("expected", [], None), ("expected", ["all"], None), ("expected otherwise", [], "wai_sem(99) answers E_ID"),
+]
+
+
+def refused(test):
+    for cc in test.compilers:
+        for how, said, wanted in REFUSED:
+            words = ["--every-order"] + (["--refused", *said] if said else [])
+            ended, told = test.run(cc, "refused", *words, env={"HOW": how})
+            well = ended == 5 and wanted in told if wanted else ended == 0
+            test.check(well, "%s: refused, HOW=%s %s: status %s" % (cc, how, " ".join(said), ended), told)
 
 
 WRITE = ["memcpy", "memmove", "memset", "strcpy", "stpcpy", "strncpy", "strcat", "strncat", "sprintf", "snprintf", "vsnprintf", "strtol"]
@@ -226,7 +250,7 @@ def all_calls(test):
     trace = test.out / "calls77.trace"
     for mix in range(24 if cc else 0):
         for seed in range(1, 4):
-            test.run(cc, "calls77", "--seeds", seed, "--races", "none", "--ticks", "12", "--trace", trace, env={"MIX": str(mix)})
+            test.run(cc, "calls77", "--seeds", seed, "--races", "none", "--refused", "none", "--ticks", "12", "--trace", trace, env={"MIX": str(mix)})
             text = trace.read_text()
             made |= set(re.findall(r"^\d+ P\d \S+ (\w+)", text, re.M))
             refused |= set(re.findall(r"^\d+ P\d \S+ (\w+)\([^)]*\) E_(?:ID|PAR|CTX|OBJ|NOEXS|ILUSE)", text, re.M))
@@ -250,7 +274,7 @@ def judged(test):
     for cc in test.compilers:
         for program, (most, words) in JUDGED.items():
             seeds = most if test.full else 4
-            ended, told = test.run(cc, program, "--seeds", "1..%d" % seeds, "--races", "none", "--all", "--check", "--ticks", "12", *words)
+            ended, told = test.run(cc, program, "--seeds", "1..%d" % seeds, "--races", "none", "--refused", "none", "--all", "--check", "--ticks", "12", *words)
             test.check(ended in (0, 5, 6) and "%d seeds" % seeds in told, "%s: fmpsim check on %s" % (cc, program), told)
             runs += seeds
     print("judged: the traces of %d runs" % runs)

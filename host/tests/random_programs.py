@@ -26,7 +26,7 @@ def steps(chance, letters, most):
 
 def ends(test, cc, way, text, words):
     """How many orders, how many ends and their sum; whether that is all; and what was told."""
-    _, told = test.run(cc, "steps" + way, "--races", "none", "--ends", "--turns", "300", *words, env={"OPS": text})
+    _, told = test.run(cc, "steps" + way, "--races", "none", "--refused", "none", "--ends", "--turns", "300", *words, env={"OPS": text})
     last = told.strip().splitlines()[-1] if told.strip() else ""
     found = re.search(r"(\d+) (?:order|step)s?, .*?(\d+) ends ([0-9a-f]+)", last)
     if not found:
@@ -76,7 +76,7 @@ def no_race_within_a_lock(test, cc, seed, programs):
         way = chance.choice(WAYS)
         for words in (["--every-order", "--runs", "150" if test.full else "40", "--ticks", "1"],
                       ["--seeds", "1..20" if test.full else "1..5", "--all", "--ticks", "3"]):
-            ended, told = test.run(cc, "steps" + way, "--turns", "300", *words, env={"OPS": text})
+            ended, told = test.run(cc, "steps" + way, "--turns", "300", "--refused", "none", *words, env={"OPS": text})
             test.check("race on" not in told and ended in (0, 5, 6), "%s: steps%s, OPS='%s' %s has no race" % (cc, way, text, words[0]), told)
             runs += int(re.search(r"(\d+) (?:order|seed)s?,", told).group(1)) if ended in (0, 5, 6) else 0
     print("no race in %d runs of %d programs within a lock" % (runs, programs), flush=True)

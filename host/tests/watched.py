@@ -5,8 +5,8 @@ import shutil
 import subprocess
 
 RUNS = [("suspend:two", ["--seeds", "1..30", "--races", "none", "--all"]), ("stale_wakeup", ["--every-order", "--ticks", "1", "--races", "none", "--runs", "60"]),
-        ("signatures", ["--every-order", "--ticks", "1"]), ("endless:DEADLOCK", ["--places"]), ("sample1", ["--seeds", "1..5", "--serial", "cas3sbwlumQ", "--all"]),
-        ("calls77", ["--seeds", "1..10", "--races", "none", "--all"])]
+        ("signatures", ["--every-order", "--ticks", "1"]), ("endless:DEADLOCK", ["--places"]), ("sample1", ["--seeds", "1..5", "--serial", "cas3sbwlumQ", "--all", "--refused", "none"]),
+        ("calls77", ["--seeds", "1..10", "--races", "none", "--refused", "none", "--all"])]
 
 
 def sanitized(test, cc):
