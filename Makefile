@@ -1,17 +1,19 @@
 # Builds fmpsim without a proof, and installs it with its manual, completions, tools, pages, examples and the library that runs C on it. `make install` builds nothing: PROGRAM
-# is what `rt run` leaves in crates/fmpsim, or ./test.sh, or `make unproved`.
+# is what `rt run` leaves in crates/fmpsim, or ./test.sh, or `make unproved`; in an archive of `make dist` it is bin/fmpsim.
 #
 #     make unproved
 #     make library            out/libfmp.a, the machine in process (docs/HOST.md): what is not proved yet is proved first
 #     make install PREFIX=$HOME/.local [PROGRAM=out/fmpsim-unproved]
 #     make uninstall PREFIX=$HOME/.local
+#     make dist [PROGRAM=out/fmpsim-unproved] [GATE=LOG]      out/fmpsim-VERSION-linux-x86_64.tar.gz, for machines without `rt`: see tools/dist
 
 PREFIX = /usr/local
-PROGRAM = crates/fmpsim/out/fmpsim
+PROGRAM = $(firstword $(wildcard bin/fmpsim) crates/fmpsim/out/fmpsim)
 UNPROVED = out/fmpsim-unproved
 LIBRARY = out/libfmp.a
 INSTALL = install
 AR = ar
+DIST = out
 
 bin = $(DESTDIR)$(PREFIX)/bin
 share = $(DESTDIR)$(PREFIX)/share
@@ -32,7 +34,7 @@ pages = GUIDE.md HOST.md FORMATS.md PROFILE.md DECISIONS.md view.png wave.png
 files = LICENSE include/fmp.h $(tools:%=tools/%) $(modules:%=tools/%) $(pages:%=docs/%) host/README.md host/fmphost.mk \
     $(shell find tools/toppers-stub docs/formats examples host/include host/src host/gen host/programs -type f)
 
-.PHONY: unproved library install uninstall
+.PHONY: unproved library install uninstall dist
 
 unproved:
 	@tests/unproved '$(UNPROVED)'
@@ -47,6 +49,10 @@ library:
 	    $(AR) x "$$from/crates/fmp_c/out/libfmp_c.a" && $(AR) x "$$kit/c/liblibc_c.a"
 	@$(AR) rc '$(LIBRARY)' '$(LIBRARY).parts'/*.o && rm -rf '$(LIBRARY).parts'
 	@echo 'the library: $(LIBRARY), with include/fmp.h'
+
+# GATE is a file whose last lines are those of the gate that made the program.
+dist:
+	@tools/dist --program '$(PROGRAM)' --library '$(LIBRARY)' --gate '$(GATE)' --into '$(DIST)'
 
 # The library is installed where there is one.
 install:
