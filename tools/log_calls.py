@@ -1,6 +1,6 @@
 """What stands in the log of a TOPPERS/FMP kernel: calls with their arguments, codes, and the objects of a configuration.
 
-tools/from-log reads logs by these tables, and tools/to-log writes them.
+tools/from-log reads logs by these tables, and tools/to-log writes them; tools/to-perfetto reads configurations by them.
 """
 import re
 

@@ -44,9 +44,9 @@ found_in() {
 
 # What is installed.
 wanted() {
-    printf '%s\n' bin/fmpsim bin/fmphost-cfg bin/fmpsim-{from-{toppers,log,trace},to-log,run-list} share/man/man1/fmpsim.1 share/bash-completion/completions/fmpsim \
+    printf '%s\n' bin/fmpsim bin/fmphost-cfg bin/fmpsim-{from-{toppers,log,trace},to-log,to-perfetto,run-list} share/man/man1/fmpsim.1 share/bash-completion/completions/fmpsim \
         share/fish/vendor_completions.d/fmpsim.fish share/zsh/site-functions/_fmpsim \
-        share/fmpsim/{LICENSE,include/fmp.h,tools/{from-toppers,from-log,to-log,from-trace,run-list,{c_numbers,log_calls,log_lines,log_tasks,log_written,toppers_settings}.py},host/{README.md,fmphost.mk},docs/{GUIDE.md,HOST.md,FORMATS.md,PROFILE.md,DECISIONS.md,view.png,wave.png}}
+        share/fmpsim/{LICENSE,include/fmp.h,tools/{from-toppers,from-log,to-log,from-trace,to-perfetto,run-list,{c_numbers,log_calls,log_lines,log_tasks,log_written,perfetto_tracks,toppers_settings,trace_lines}.py},host/{README.md,fmphost.mk},docs/{GUIDE.md,HOST.md,FORMATS.md,PROFILE.md,DECISIONS.md,view.png,wave.png}}
     [ ! -e "$top/out/libfmp.a" ] || printf '%s\n' include/fmp.h lib/libfmp.a
     (cd "$top" && find tools/toppers-stub docs/formats examples host/{include,src,gen,programs} -type f | sed 's|^|share/fmpsim/|')
 }
@@ -95,6 +95,9 @@ tools_run() {
     well=no
     "$1/fmpsim-from-trace" "$late/trace.txt" > made && "$1/fmpsim" calls "$late/machine.cfg" made | cmp - "$late/trace.txt" && well=yes
     count "$well" "# $1/fmpsim-from-trace"
+    well=no
+    "$1/fmpsim-to-perfetto" "$late/machine.cfg" "$late/trace.txt" > made 2> told && "$top/tools/to-perfetto" "$late/machine.cfg" "$late/trace.txt" 2> told | cmp - made && [ -s made ] && well=yes
+    count "$well" "# $1/fmpsim-to-perfetto"
     well=no
     "$1/fmphost-cfg" "$top/host/programs/queue/machine.cfg" -o . --fmpsim "$1/fmpsim" && grep -q '#define QUEUE 1' kernel_cfg.h && [ -s kernel_cfg.c ] && well=yes
     count "$well" "# $1/fmphost-cfg"
