@@ -14,6 +14,7 @@ archive() {
     tells_what_it_is
     pages_stay_inside
     without_rt
+    workflow_runs
     names_what_is_linked
     tells_of_the_gate
     makes_no_archive
@@ -108,6 +109,24 @@ without_rt() {
     well=no
     mv "$name/bin/fmpsim" away && ! "$name/tests/play" "$name/tests/cases/waves" > played 2>&1 && mv away "$name/bin/fmpsim" && well=yes
     count "$well" "# $name/tests/play, without bin/fmpsim"
+}
+
+# The commands of the workflow in the examples, one after the other in a folder as it describes: the archive in tools, and the example's files at the top.
+workflow_runs() {
+    local well=no example=$name/examples/explore-timeout
+    mkdir -p pushed/tools && cp "one/$name.tar.gz" pushed/tools && cp "$example"/{machine.cfg,mended.txt,ci.questions} pushed
+    python3 - "$example/workflow.yml" > steps.sh <<- 'END'
+	import re, sys
+	for step in re.findall(r"^        run: (?:\|\n((?: {10}.*\n)+)|(.*\n))", open(sys.argv[1]).read(), re.M):
+	    print(re.sub(r"^ {10}", "", step[0], flags=re.M) + step[1], end="")
+	END
+    (
+        cd pushed && export HOME=$PWD/home GITHUB_PATH=$PWD/path PATH=$PWD/home/.local/bin:$PATH
+        bash -e ../steps.sh > said 2>&1 && [ "$(tail -n 2 said)" = "$(printf '%s\n' 'ok given-back-twice: never' 'ok asks-again: shown in 11 lines')" ] &&
+            grep -q '<testsuite' report.xml && [ "$(ls traces)" = asks-again.trace ] && [ "$(cat path)" = "$HOME/.local/bin" ] &&
+            [ "$(command -v fmpsim)" = "$HOME/.local/bin/fmpsim" ]
+    ) && well=yes || cat pushed/said
+    count "$well" "# $example/workflow.yml"
 }
 
 # Each library of the kit that a crate stands on.
