@@ -17,6 +17,7 @@ archive() {
     workflow_runs
     names_what_is_linked
     tells_of_the_gate
+    has_the_library
     makes_no_archive
 }
 
@@ -152,6 +153,15 @@ tells_of_the_gate() {
     refuses_to "$PWD/gate.log: the last line of a gate that passed is 'N passed, 0 failed'" "GATE=$PWD/gate.log"
     [ -n "$proved" ] || { echo '7 passed, 0 failed: nothing was proved' >> gate.log && refuses_to "$PWD/gate.log: in this gate nothing was proved" "GATE=$PWD/gate.log"; }
     refuses_to "$PWD/nowhere cannot be read: No such file or directory" "GATE=$PWD/nowhere"
+}
+
+# The library, where there is one.
+has_the_library() {
+    local well=no
+    echo library > lib.a
+    dist "$top" "DIST=$PWD/library" "LIBRARY=$PWD/lib.a" && tar xzf "library/$name.tar.gz" -C library && cmp lib.a "library/$name/out/libfmp.a" &&
+        grep -q 'The library `out/libfmp.a` is here, for `include/fmp.h`\.' "library/$name/ABOUT.md" && grep -q '  out/libfmp\.a$' "library/$name/SHA256SUMS" && well=yes || cat said
+    count "$well" '# make dist LIBRARY=lib.a'
 }
 
 makes_no_archive() {
