@@ -111,6 +111,8 @@ def no_false():
         yield "fences" + way, ["--every-order"], 5, ["race on data, 4 bytes", "WRITER on P1 writes it", "READER on P2 reads it"]
     yield "stopped:own", ["--every-order", "--ticks", "2"], 0, ["nothing found within 2 ticks, every order"]
     yield "stopped:own+ALARM", ["--every-order", "--ticks", "2"], 0, ["nothing found within 2 ticks, every order"]
+    yield "stopped:own+ALARM+SEEN", ["--every-order", "--ticks", "2"], 0, ["nothing found within 2 ticks, every order"]
+    yield "stopped:other+ALARM+SEEN", ["--every-order", "--ticks", "2"], 5, ["race on beats, 4 bytes", "BELL on P1 writes it", "MAIN on P2"]
     yield "stopped:other", ["--every-order", "--ticks", "2"], 5, ["race on beats, 4 bytes", "CLOCK on P1 writes it", "MAIN on P2"]
     yield "stopped:own+NOT_STOPPED", ["--every-order", "--ticks", "2"], 5, ["race on beats, 4 bytes"]
     yield "count", ["--every-order", "--shared", "total"], 5, ["total == 4 is false, in JUDGE", "not: race"]

@@ -28,8 +28,8 @@ static atomic_int flag;
 #endif
 #endif
 
-#ifdef CHANGED
-#define SEEN 2 /* the store, and what was added to it */
+#if defined CHANGED || defined OVERWRITTEN
+#define SEEN 2 /* the store, and what was added to it or stored after it */
 #else
 #define SEEN 1
 #endif
@@ -66,6 +66,7 @@ void between_task(intptr_t exinf)
 #ifdef CHANGED
     atomic_fetch_add_explicit(&flag, 1, memory_order_relaxed);
 #elif defined OVERWRITTEN
-    atomic_store_explicit(&flag, 2, memory_order_relaxed);
+    if (READ() == 1)
+        atomic_store_explicit(&flag, 2, memory_order_relaxed);
 #endif
 }
