@@ -234,7 +234,7 @@ def at_terminal(test, cc, program, *words):
 def progress(test):
     """Where a search takes seconds it says how far it is: at a terminal, and elsewhere where that is asked."""
     for cc in test.compilers[:1]:
-        words = ["--seeds", "1..40"]
+        words = ["--seeds", "1..200"]  # some four seconds where nothing else runs
         _, told = test.run(cc, "endless", *words, "--progress")
         test.check(re.search(r"^fmphost: \d+ seeds so far, \d+ turns, \d+ s$", told, re.M), "%s: --progress" % cc, told)
         _, told = test.run(cc, "endless", *words)
