@@ -30,7 +30,7 @@ library = $(DESTDIR)$(PREFIX)/lib/libfmp.a
 own = $(share)/fmpsim
 tools = from-toppers from-log to-log from-trace to-perfetto run-list
 modules = c_numbers.py log_calls.py log_lines.py log_tasks.py log_written.py perfetto_tracks.py toppers_settings.py trace_lines.py
-pages = GUIDE.md HOST.md FORMATS.md PROFILE.md DECISIONS.md view.png wave.png
+pages = GUIDE.md GUIDE.ja.md HOST.md FORMATS.md PROFILE.md DECISIONS.md view.png wave.png
 files = LICENSE include/fmp.h $(tools:%=tools/%) $(modules:%=tools/%) $(pages:%=docs/%) host/README.md host/fmphost.mk editors/README.md \
     $(shell find editors/vim editors/vscode tools/toppers-stub docs/formats examples host/include host/src host/gen host/programs -type f)
 

@@ -46,7 +46,7 @@ found_in() {
 wanted() {
     printf '%s\n' bin/fmpsim bin/fmphost-cfg bin/fmpsim-{from-{toppers,log,trace},to-log,to-perfetto,run-list} share/man/man1/fmpsim.1 share/bash-completion/completions/fmpsim \
         share/fish/vendor_completions.d/fmpsim.fish share/zsh/site-functions/_fmpsim \
-        share/fmpsim/{LICENSE,include/fmp.h,tools/{from-toppers,from-log,to-log,from-trace,to-perfetto,run-list,{c_numbers,log_calls,log_lines,log_tasks,log_written,perfetto_tracks,toppers_settings,trace_lines}.py},host/{README.md,fmphost.mk},editors/README.md,docs/{GUIDE.md,HOST.md,FORMATS.md,PROFILE.md,DECISIONS.md,view.png,wave.png}}
+        share/fmpsim/{LICENSE,include/fmp.h,tools/{from-toppers,from-log,to-log,from-trace,to-perfetto,run-list,{c_numbers,log_calls,log_lines,log_tasks,log_written,perfetto_tracks,toppers_settings,trace_lines}.py},host/{README.md,fmphost.mk},editors/README.md,docs/{GUIDE.md,GUIDE.ja.md,HOST.md,FORMATS.md,PROFILE.md,DECISIONS.md,view.png,wave.png}}
     [ ! -e "$top/out/libfmp.a" ] || printf '%s\n' include/fmp.h lib/libfmp.a
     (cd "$top" && find editors/{vim,vscode} tools/toppers-stub docs/formats examples host/{include,src,gen,programs} -type f | sed 's|^|share/fmpsim/|')
 }
