@@ -15,6 +15,7 @@ searches() {
     has_places explore-migration 3600 --ticks 3
     has_places explore-philosophers 19435 --ticks 0
     places_of_each_kind
+    places_of_each_wait
     folder=$top/examples/explore-lock-order
     from=$folder/scripts.txt run 5 "$folder/trace.txt" /dev/null explore "$folder/machine.cfg" - --ticks 0 --turns 4 --find 'end & waits sem'
     unread explore "$folder/machine.cfg" missing --ticks 0 --turns 1 --find end
@@ -148,6 +149,41 @@ spin_lock|loc_spn(L@)|unl_spn(L@)
 cpu_lock|loc_cpu()|unl_cpu()
 dispatching|dis_dsp()|ena_dsp()
 end of kinds
+}
+
+# places_of_each_wait: likewise of what happens to a second task of each processor, which runs first and waits, and of requests and handlers. How many
+# places there are is worked out by hand: of each processor one more than it has events, with a tick twelve, and the product of both. Two waits that count ticks
+# at the same time are two places, since a machine keeps which of them began first.
+places_of_each_wait() {
+    local kind places options first second p
+    for p in 1 2; do
+        printf 'DEF_CLASS(C%s, %s, {%s});\nCLASS(C%s) {\n' $p $p $p $p
+        printf 'CRE_TSK(T%s, {TA_ACT, 0, main%s, 10, 4096, NULL});\nCRE_TSK(U%s, {TA_ACT, 0, other%s, 5, 4096, NULL});\n' $p $p $p $p
+        printf 'CRE_SEM(S%s, {TA_TFIFO, 0, 1});\nCRE_FLG(F%s, {TA_NULL, 0});\nCRE_DTQ(Z%s, {TA_TFIFO, 0, NULL});\n' $p $p $p
+        printf 'CRE_MPF(M%s, {TA_TFIFO, 1, 64, NULL, NULL});\nCRE_ALM(A%s, {TA_NULL, 0, alarm});\n}\n' $p $p
+    done | sed '1i PROCESSORS(2);' > waits.cfg
+    while IFS='|' read -r kind places options first second; do
+        for p in 1 2; do
+            printf 'script other%s\n%b\nend\nscript main%s\n%b\nend\n' $p "${first//@/$p}" $p "${second//@/$p}"
+        done > "$kind.scripts"
+        are_places "$places" waits.cfg "$kind.scripts" --ticks "$options" --turns 100 --find E_PAR
+    done << 'end of waits'
+sleep|25|0|slp_tsk()|wup_tsk(U@)
+delay|26|0|dly_tsk(5)|rel_wai(U@)
+semaphore_wait|25|0|wai_sem(S@)|sig_sem(S@)
+eventflag_wait|25|0|wai_flg(F@, 1, TWF_ANDW)|set_flg(F@, 1)
+send_wait|25|0|snd_dtq(Z@, 7)|rcv_dtq(Z@)
+receive_wait|25|0|rcv_dtq(Z@)|snd_dtq(Z@, 7)
+pool_wait|36|0|get_mpf(M@)\nget_mpf(M@)|rel_wai(U@)
+suspension|49|0|slp_tsk()|sus_tsk(U@)\nrsm_tsk(U@)\nwup_tsk(U@)
+queued_activation|49|0|slp_tsk()|act_tsk(U@)\ncan_act(U@)\nwup_tsk(U@)
+kept_processor|49|0|slp_tsk()|mact_tsk(U@, @)\ncan_act(U@)\nwup_tsk(U@)
+due_handler|144|1|ext_tsk()|sta_alm(A@, 0)
+end of waits
+    sed '/CRE_TSK(U/d; /CRE_TSK(T2/s/TA_ACT/TA_NULL/' waits.cfg > request.cfg
+    printf 'script main1\nact_tsk(T2)\nend\n' > request.scripts
+    # before the activation nothing is done on P2; after it the interrupt comes, and the task ends, before or after that of P1 does
+    are_places 7 request.cfg request.scripts --ticks 0 --turns 100 --find E_PAR
 }
 
 # begins_behind: a search begins where a trace ends. What it writes begins with that trace, and lines count with those of it.
