@@ -73,10 +73,7 @@ refused_lines() {
 	shrink machine.cfg events.txt --runs
 	shrink machine.cfg events.txt --find end --runs --runs
 	calls --runs machine.cfg events.txt
-	explore machine.cfg scripts.txt
 	explore machine.cfg scripts.txt --ticks 1 --turns 1
-	explore machine.cfg scripts.txt --ticks any --find end
-	explore machine.cfg scripts.txt --turns 1 --find end
 	explore machine.cfg --ticks any --turns 1 --find end
 	explore machine.cfg scripts.txt --ticks any --turns 0 --find end
 	explore machine.cfg scripts.txt --ticks all --turns 1 --find end

@@ -5,14 +5,14 @@ use Rattle.std.specs.Str.Parse.{IsNumeral, without_leading_plus}
 use Rattle.clap.specs.Words.{App, Row, Text, first_of, matches_of, one_of}
 use Rattle.fmp_cli_table.specs.Found.{IsFlag, text_of}
 use Rattle.fmp_cli_table.specs.Numbers.{number_of}
-use Rattle.fmp_cli_table.specs.Parts.{flag_rule, line_of, path_rule, value_rule, wanted_rule}
+use Rattle.fmp_cli_table.specs.Parts.{flag_rule, line_of, path_rule, value_rule}
 use Rattle.fmp_search_question.specs.Lasting.{is_lasting}
 use Rattle.fmp_cli_explore.specs.declared.ExploreRequest.{ExploreRequest}
 
 -- the whole command line, as a parse reads it
 abbrev pub explore_line : App
 explore_line = line_of (codes "explore") (
-    path_rule (codes "CFG") ∷ path_rule (codes "SCRIPTS") ∷ wanted_rule (codes "ticks") ∷ wanted_rule (codes "turns") ∷ value_rule (codes "find")
+    path_rule (codes "CFG") ∷ path_rule (codes "SCRIPTS") ∷ value_rule (codes "ticks") ∷ value_rule (codes "turns") ∷ value_rule (codes "find")
     ∷ flag_rule (codes "prompt") ∷ value_rule (codes "drift") ∷ value_rule (codes "pace") ∷ flag_rule (codes "spurious")
     ∷ value_rule (codes "places") ∷ value_rule (codes "from") ∷ value_rule (codes "layer") ∷ value_rule (codes "seconds")
     ∷ value_rule (codes "questions") ∷ flag_rule (codes "tap") ∷ value_rule (codes "junit") ∷ value_rule (codes "traces")
@@ -31,6 +31,16 @@ IsNumberWithin low high t n =
 abbrev pub IsTicks : Text → Option ℕ → Type 0
 IsTicks t None = t ≡ codes "any"
 IsTicks t (Some n) = IsNumberWithin 0 1000000 t (Some n)
+
+-- no limit without a text either
+abbrev pub IsTickLimit : Option Text → Option ℕ → Type 0
+IsTickLimit None n = n ≡ None
+IsTickLimit (Some t) n = IsTicks t n
+
+-- 1,000,000 without a text, or its number
+abbrev pub IsTurns : Option Text → ℕ → Type 0
+IsTurns None n = n ≡ 1000000
+IsTurns (Some t) n = IsNumberWithin 1 1000000 t (Some n)
 
 -- no limit without a text, or its number
 abbrev pub IsBound : Option Text → Option ℕ → Type 0
@@ -53,12 +63,14 @@ pub record Asks (rows : List Row) (r : ExploreRequest) : Type 0 where
   pub scripts : r.scripts.now ≡ text_of (codes "SCRIPTS") rows
   pub question : IsQuestion (first_of (codes "find") rows) r.question.now
   pub find : option_map (λ t. t.now) r.find ≡ first_of (codes "find") rows
-  pub ticks : IsTicks (text_of (codes "ticks") rows) r.ticks
+  pub ticks : IsTickLimit (first_of (codes "ticks") rows) r.ticks
+  pub says_ticks : r.says_ticks ≡ is_some (first_of (codes "ticks") rows)
   pub prompt : IsFlag (one_of (codes "prompt") rows) r.prompt
   pub drift : IsBound (first_of (codes "drift") rows) r.drift
   pub pace : IsBound (first_of (codes "pace") rows) r.pace
   pub spurious : IsFlag (one_of (codes "spurious") rows) r.spurious
-  pub turns : IsNumberWithin 1 1000000 (text_of (codes "turns") rows) (Some r.bounds.turns)
+  pub turns : IsTurns (first_of (codes "turns") rows) r.bounds.turns
+  pub says_turns : r.says_turns ≡ is_some (first_of (codes "turns") rows)
   pub places : IsPlaces (first_of (codes "places") rows) r.bounds.places
   pub from : option_map (λ t. t.now) r.from ≡ first_of (codes "from") rows
   pub layer : option_map (λ t. t.now) r.layer ≡ first_of (codes "layer") rows

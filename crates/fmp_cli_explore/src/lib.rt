@@ -8,12 +8,12 @@
 ghost use Rattle.std.specs.Prelude.{◌≡◌, false, IfOk, IfSome, Some, codes, is_some, map};
 ghost use Rattle.clap.specs.Words.{app_of, first_of};
 ghost use Rattle.fmp_cli_table.specs.Found.{rows_in, text_of};
-ghost use Rattle.fmp_cli_explore.specs.Explore.{Asks, IsNumberWithin, IsPlaces, explore_line, found_in, has_conflict, has_conflict_of_one};
+ghost use Rattle.fmp_cli_explore.specs.Explore.{Asks, IsPlaces, IsTurns, explore_line, found_in, has_conflict, has_conflict_of_one};
 
 mod bounds;
 mod numbers;
 
-use crate::numbers::{bound_in, number_in, places_in, question_in, ticks_in};
+use crate::numbers::{bound_in, places_in, question_in, tick_limit_in, turns_in};
 pub use bounds::Bounds;
 use clap::error::ErrorKind;
 use clap::{ArgMatches, Command, Error};
@@ -58,9 +58,9 @@ M; `or` stands between several, and `not` before a pattern. `deadlock` asks it o
 task. It is asked with `--ticks any`, and the line from which on it is so is reported on standard
 error.
 
-With `--ticks any` there is no limit and no count, so that there are fewer places: try it first.
-Where it says `never`, no order of any length shows it. Standard error says then how many steps of
-QUESTION come, and whether an event of any order has the patterns of the next one.
+With `--ticks any`, or without --ticks, there is no limit and no count, so that there are fewer
+places. Where it says `never`, no order of any length shows it. Standard error says then how many
+steps of QUESTION come, and whether an event of any order has the patterns of the next one.
 
 With `--from TRACE` only the orders are gone through that go on from those lines of a trace, which
 have to be lines of an order of these scripts. Lines count from 1 with those of TRACE, also for
@@ -120,13 +120,13 @@ const PARTS: &[Part<'static>] = &[
     SCRIPTS_PART,
     Part {
         id: "ticks",
-        form: Form::Wanted("N"),
-        about: "How many ticks each processor takes at most, 0 to 1000000, or any",
+        form: Form::Value("N"),
+        about: "How many ticks each processor takes at most, 0 to 1000000, or else any",
     },
     Part {
         id: "turns",
-        form: Form::Wanted("N"),
-        about: "How many lines the orders have at most, 1 to 1000000",
+        form: Form::Value("N"),
+        about: "How many lines the orders have at most, 1 to 1000000, or else 1000000",
     },
     Part {
         id: "find",
@@ -210,6 +210,8 @@ pub struct ExploreRequest<'a> {
     pub find: Option<&'a str>,
     /// How many ticks each processor takes at most. Without it any number.
     pub ticks: Option<u32>,
+    /// Whether the command line says something of ticks.
+    pub says_ticks: bool,
     /// Whether a request that nothing holds back is taken before its processor's next call.
     pub prompt: bool,
     /// How many ticks more than another a processor may have taken. Without it any number.
@@ -219,6 +221,8 @@ pub struct ExploreRequest<'a> {
     /// Whether interrupts come also where no request is pending, or where it is held.
     pub spurious: bool,
     pub bounds: Bounds,
+    /// Whether it says something of the number of lines.
+    pub says_turns: bool,
     /// The path of the trace where the orders begin. Without it they begin at boot.
     pub from: Option<&'a str>,
     /// The path of the folder for the traces from which to go on. Without it none are written.
@@ -248,10 +252,10 @@ pub fn explore_command<'a>(alloc: Global) -> Result<Command<'a>, AllocError>
 
 /// How far the search goes, if the numbers are within their ranges.
 fn bounds_of<'a>(matches: &ArgMatches<'a>) -> Option<Bounds>
-    ensures turns { IfSome result (λ b. IsNumberWithin 1 1000000 (text_of (codes "turns") (rows_in matches.now)) (Some b.turns)) }
+    ensures turns { IfSome result (λ b. IsTurns (first_of (codes "turns") (rows_in matches.now)) b.turns) }
     ensures places { IfSome result (λ b. IsPlaces (first_of (codes "places") (rows_in matches.now)) b.places) }
 {
-    let turns = number_in(text_in(matches, "turns"), 1, 1_000_000)?;
+    let turns = turns_in(option_in(matches, "turns"))?;
     let places = places_in(option_in(matches, "places"))?;
     Some(Bounds { turns, places })
 }
@@ -264,7 +268,10 @@ fn request_of<'a>(matches: &ArgMatches<'a>) -> Option<ExploreRequest<'a>>
     let scripts = text_in(matches, "SCRIPTS");
     let find = option_in(matches, "find");
     let question = question_in(find);
-    let ticks = ticks_in(text_in(matches, "ticks"))?;
+    let limit = option_in(matches, "ticks");
+    let ticks = tick_limit_in(limit)?;
+    let says_ticks = limit.is_some();
+    let says_turns = option_in(matches, "turns").is_some();
     let prompt = flag_in(matches, "prompt");
     let drift = bound_in(option_in(matches, "drift"))?;
     let pace = bound_in(option_in(matches, "pace"))?;
@@ -285,11 +292,13 @@ fn request_of<'a>(matches: &ArgMatches<'a>) -> Option<ExploreRequest<'a>>
         question,
         find,
         ticks,
+        says_ticks,
         prompt,
         drift,
         pace,
         spurious,
         bounds,
+        says_turns,
         from,
         layer,
         seconds,

@@ -164,7 +164,7 @@ fn put_line_or_refused(out: &mut Text, names: &Names, before: &[u8], word: &[u8]
 
 /// What is told of a question that begins with `deadlock`.
 const DEADLOCK: &[u8] =
-    b"  After `deadlock` stands nothing, or `but` and names of tasks with commas and no blanks between: `deadlock but T1,T2`.\n";
+    b"  After `deadlock` stands nothing, or `but` and names of tasks with commas and no blanks between, of some and not of all: `deadlock but T1,T2`.\n";
 
 /// What is told in a question that begins so.
 fn deadlock_hint(before: &[u8]) -> &'static [u8] {

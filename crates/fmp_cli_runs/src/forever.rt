@@ -35,7 +35,7 @@ pub fn search_forever<R: Source, S: Source, W: Sink, P: Progress>(
         (sink_ends W.written W.buffered W.failures output.old output.new) result }
 
     // What it writes: what is known of all orders by these rules.
-    ensures writes { WritesOut (λ c s old new found. IsExplored c s request.now.question.now (asked.rules_of request.now) request.now.bounds.turns old new found.lasting.items found.staying)
+    ensures writes { WritesOut (λ c s old new found. IsExplored c s request.now.question.now (asked.rules_of request.now) request.now.bounds.turns old new found.asked.question.items found.staying)
         (λ c s. IsBegun c s request.now.question.now (asked.rules_of request.now) request.now.bounds.turns) (ExploreFault.Run RunFault.Write)
         (source_ends R.left R.failures config.old config.new) (source_ends S.left S.failures scripts.old scripts.new)
         (sink_ends W.written W.buffered W.failures output.old output.new) result }

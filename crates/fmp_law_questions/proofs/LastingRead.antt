@@ -1,6 +1,7 @@
 -- What is read of what stays for ever is asked.
-use Rattle.std.proofs.Common.{◌≡◌, ℕ, ◌≤◌, eqb, inl, inr, Bool, true, false, cond, leb, not, ◌&&◌, List, [], ◌∷◌, ◌++◌, length, Some, Result, Ok, Err, refl, sym, ap, subst, ◌∙◌, append_assoc, append-nil}
+use Rattle.std.proofs.Common.{◌≡◌, ℕ, ◌≤◌, eqb, inl, inr, Bool, true, false, cond, leb, not, ◌&&◌, List, [], ◌∷◌, ◌++◌, length, Some, Result, Ok, Err, refl, sym, ap, subst, ◌∙◌, append_assoc, append-nil, arith}
 use Rattle.std.specs.Prelude.{codes}
+use Rattle.std.specs.List.{list_all}
 use Rattle.std.specs.Str.{bytes_eq}
 use Rattle.std.proofs.lemmas.Bool.{and_parts, leb-true}
 use Rattle.fmp_bytes.specs.Bytes.{pieces_of, space}
@@ -20,12 +21,12 @@ use Rattle.fmp_search_question.specs.Lasting.{Parts, after_word, are_tasks, begi
 use Rattle.fmp_search_question.specs.Resolved.{resolved_lasting}
 use Rattle.fmp_search_question.specs.WordByWord.{after_words, result_then}
 use Rattle.fmp_law_questions.specs.Rows.{SpellsRow}
-use Rattle.fmp_law_questions.specs.Grammar.{Negated, SpellsItem, SpellsPart}
-use Rattle.fmp_law_questions.specs.ForEver.{AsksForEver, AsksForEverWords, SpellsLasting, SpellsPlain, WritesForEver}
-use Rattle.fmp_law_questions.proofs.Begun.{after_item, empty_begun, item_of, item_spelled, negated_spelled, not_words}
+use Rattle.fmp_law_questions.specs.Grammar.{SpellsItem, SpellsPart}
+use Rattle.fmp_law_questions.specs.ForEver.{AsksForEver, AsksForEverWords, SpellsLasting, WritesForEver, is_end}
+use Rattle.fmp_law_questions.proofs.Begun.{after_item, empty_begun, item_of, item_spelled, not_words}
 use Rattle.fmp_law_questions.proofs.Closed.{Closed, closed_more, closed_row}
 use Rattle.fmp_law_questions.proofs.Led.{led_keeps, led_words}
-use Rattle.fmp_law_questions.proofs.LastingTaken.{IsMomentRead, TakenIn, all_more, all_wait, before_end, choose_parts, moment_moves, none_of, nothing_of_moment, of_moment, same_items, staged, taken_in}
+use Rattle.fmp_law_questions.proofs.LastingTaken.{IsMomentRead, TakenIn, all_wait, before_end, choose_parts, moment_moves, nothing_of_moment, of_moment, staged, taken_in}
 use Rattle.fmp_law_questions.proofs.Patterns.{not_parts, some_length}
 
 -- the first word is not `deadlock`
@@ -44,17 +45,16 @@ opened_so words o = ap begins_so o.are ∙ o.other
 -- which words were read, with what was kept of them
 data IsSoFar (names : NameLists) (words : List (List ℕ)) (d : Parts) : Type 0 where
   at_start : words ≡ [] → d ≡ no_parts → IsSoFar names words d
-  in_moment : (done rest : List (List ℕ)) → words ≡ done ++ (not_words d.negated ++ rest) → Closed (SpellsLasting names) (codes "or") done d.lasting → IsMomentRead names rest d.draft
-      → (d.negated ≡ true → d.draft.items ≡ []) → IsOpened words → d.stage ≡ stage.Words → IsSoFar names words d
+  in_moment : (done rest : List (List ℕ)) → words ≡ done ++ rest → Closed (SpellsLasting names) (codes "or") done d.lasting → IsMomentRead names rest d.draft
+      → IsOpened words → d.stage ≡ stage.Words → IsSoFar names words d
   at_for : (done front : List (List ℕ)) → words ≡ done ++ (front ++ codes "for" ∷ []) → Closed (SpellsLasting names) (codes "or") done d.lasting
-      → Negated (λ rest. SpellsPlain names rest d.draft.items) d.negated front → (d.negated ≡ true → length d.draft.items ≡ 1) → record d.draft { items = [] } ≡ nothing_read
-      → IsOpened words → d.stage ≡ stage.For → IsSoFar names words d
+      → SpellsPart names front d.draft.items → list_all (λ w. not (is_end w)) front ≡ true → record d.draft { items = [] } ≡ nothing_read → IsOpened words → d.stage ≡ stage.For → IsSoFar names words d
   at_ever : (done last : List (List ℕ)) (lasting : List Lasting) (l : Lasting) → words ≡ done ++ last → Closed (SpellsLasting names) (codes "or") done lasting → SpellsLasting names last l
-      → d.lasting ≡ lasting ++ l ∷ [] → d.negated ≡ false → d.draft ≡ nothing_read → IsOpened words → d.stage ≡ stage.Ever → IsSoFar names words d
+      → d.lasting ≡ lasting ++ l ∷ [] → d.draft ≡ nothing_read → IsOpened words → d.stage ≡ stage.Ever → IsSoFar names words d
   at_deadlock : words ≡ codes "deadlock" ∷ [] → d.lasting ≡ waits_but names [] → d.stage ≡ stage.Deadlock → IsSoFar names words d
   at_but : words ≡ codes "deadlock" ∷ codes "but" ∷ [] → d.stage ≡ stage.But → IsSoFar names words d
   at_named : (list : List ℕ) → words ≡ codes "deadlock" ∷ codes "but" ∷ list ∷ [] → is_printed list ≡ true → are_tasks names list ≡ true
-      → d.lasting ≡ waits_but names (pieces_of comma list) → d.stage ≡ stage.Named → IsSoFar names words d
+      → d.lasting ≡ waits_but names (pieces_of comma list) → 1 ≤ length d.lasting → d.stage ≡ stage.Named → IsSoFar names words d
 
 -- ---- where nothing was read
 
@@ -63,25 +63,29 @@ none_long [] is = refl
 none_long (x ∷ xs) is = let bad = sym (some_length x xs) ∙ is in absurd cc
 
 record FreshParts (d : Parts) : Type 0 where
-  unnegated : d.negated ≡ false
+  unnegated : d.draft.negated ≡ false
   items : d.draft.items ≡ []
   pattern : eqb (length d.draft.pattern) 0 ≡ true
 
 fresh_parts : (d : Parts) → is_fresh d ≡ true → FreshParts d
 fresh_parts d is =
-    let a = and_parts (not d.negated && eqb (length d.draft.items) 0) (eqb (length d.draft.pattern) 0) is in
-    let b = and_parts (not d.negated) (eqb (length d.draft.items) 0) a.0 in
-    record { unnegated = not_parts d.negated b.0; items = none_long d.draft.items b.1; pattern = a.1 }
+    let a = and_parts (not d.draft.negated && eqb (length d.draft.items) 0) (eqb (length d.draft.pattern) 0) is in
+    let b = and_parts (not d.draft.negated) (eqb (length d.draft.items) 0) a.0 in
+    record { unnegated = not_parts d.draft.negated b.0; items = none_long d.draft.items b.1; pattern = a.1 }
+
+some_left : {A : Type 0} (xs : List A) → eqb (length xs) 0 ≡ false → 1 ≤ length xs
+some_left [] is = absurd cc
+some_left (x ∷ xs) is = omega arith
 
 closed_none : {A : Type 0} (Spells : List (List ℕ) → A → Type 0) (between : List ℕ) (words : List (List ℕ)) (row : List A) → row ≡ [] → Closed Spells between words row → words ≡ []
 closed_none Spells between words [] none c = c
 closed_none Spells between words (x ∷ row) none c = absurd cc
 
-rest_none : (names : NameLists) (rest : List (List ℕ)) (d : Draft) → IsMomentRead names rest d → d.items ≡ [] → eqb (length d.pattern) 0 ≡ true → rest ≡ []
-rest_none names rest d s items pattern =
+rest_none : (names : NameLists) (rest : List (List ℕ)) (d : Draft) → IsMomentRead names rest d → d.negated ≡ false → d.items ≡ [] → eqb (length d.pattern) 0 ≡ true → rest ≡ []
+rest_none names rest d s unnegated items pattern =
     let none = closed_none (SpellsItem names) (codes "&") s.items d.items items s.are_items in
     let begun = empty_begun names s.has_item.rest d.pattern d.spot s.has_item.pattern pattern in
-    let last : s.last ≡ [] = s.has_item.parts ∙ ap (λ (b : Bool). not_words b ++ s.has_item.rest) s.unnegated ∙ begun in
+    let last : s.last ≡ [] = s.has_item.parts ∙ ap (λ (b : Bool). not_words b ++ s.has_item.rest) unnegated ∙ begun in
     s.whole ∙ ap (λ (ws : List (List ℕ)). ws ++ s.last) none ∙ last
 
 -- ---- one word more
@@ -94,102 +98,80 @@ module _ (names : NameLists) (words : List (List ℕ)) (d e : Parts) (word : Lis
   from_start : words ≡ [] → TakenIn names no_parts word e → So e
   unfolding with_pattern
   from_start none (before_end is_for f ends same) = absurd cc
-  from_start none (none_of is_not fresh same) =
-      let are : words ++ word ∷ [] ≡ codes "not" ∷ [] = ap (λ (ws : List (List ℕ)). ws ++ word ∷ []) none ∙ ap (λ (w : List ℕ). w ∷ []) is_not in
-      subst So same (in_moment [] [] are refl (nothing_of_moment names) (λ n. refl) (record { first = codes "not"; others = []; are = are; other = refl }) refl)
   from_start none (all_wait is_deadlock fresh empty same) =
       let are : words ++ word ∷ [] ≡ codes "deadlock" ∷ [] = ap (λ (ws : List (List ℕ)). ws ++ word ∷ []) none ∙ ap (λ (w : List ℕ). w ∷ []) is_deadlock in
       subst So same (at_deadlock are refl refl)
-  from_start none (of_moment inner joined free f is same) =
+  from_start none (of_moment inner free f is same) =
       let are : words ++ word ∷ [] ≡ word ∷ [] = ap (λ (ws : List (List ℕ)). ws ++ word ∷ []) none in
       let moment = moment_moves names [] nothing_read f word inner (nothing_of_moment names) is in
-      subst So same (in_moment [] (word ∷ []) are refl moment (λ n. absurd cc) (record { first = word; others = []; are = are; other = not_first (bytes_eq word (codes "deadlock")) free }) refl)
+      subst So same (in_moment [] (word ∷ []) are refl moment (record { first = word; others = []; are = are; other = not_first (bytes_eq word (codes "deadlock")) free }) refl)
     where
       not_first : (b : Bool) → ((b && true) && true) ≡ false → b ≡ false
       not_first true is = is
       not_first false is = refl
 
   -- in a moment
-  module _ (done rest : List (List ℕ)) (are : words ≡ done ++ (not_words d.negated ++ rest)) (closed : Closed (SpellsLasting names) (codes "or") done d.lasting)
-      (moment : IsMomentRead names rest d.draft) (one : d.negated ≡ true → d.draft.items ≡ []) (opened : IsOpened words) (at : d.stage ≡ stage.Words) where
-    longer : words ++ word ∷ [] ≡ done ++ ((not_words d.negated ++ rest) ++ word ∷ [])
-    longer = ap (λ (ws : List (List ℕ)). ws ++ word ∷ []) are ∙ append_assoc done (not_words d.negated ++ rest) (word ∷ [])
+  module _ (done rest : List (List ℕ)) (are : words ≡ done ++ rest) (closed : Closed (SpellsLasting names) (codes "or") done d.lasting)
+      (moment : IsMomentRead names rest d.draft) (opened : IsOpened words) (at : d.stage ≡ stage.Words) where
+    longer : words ++ word ∷ [] ≡ done ++ (rest ++ word ∷ [])
+    longer = ap (λ (ws : List (List ℕ)). ws ++ word ∷ []) are ∙ append_assoc done rest (word ∷ [])
 
     -- a part of one item more than the complete ones
-    part_done : (f : Draft) → with_pattern d.draft ≡ Some f → SpellsPlain names rest (d.draft.items ++ item_of d.draft ∷ []) × (after_item d.draft ≡ f)
+    part_done : (f : Draft) → with_pattern d.draft ≡ Some f → SpellsPart names rest (d.draft.items ++ item_of d.draft ∷ []) × (after_item d.draft ≡ f)
     part_done f ends =
         let p = item_spelled names moment.last d.draft f moment.has_item ends in
         let row = closed_row (SpellsItem names) (codes "&") moment.items moment.last d.draft.items (item_of d.draft) moment.are_items p.0 in
-        let none = moment.unnegated in (
-          record {
-            spelled = subst (λ (ws : List (List ℕ)). SpellsPart names ws (d.draft.items ++ item_of d.draft ∷ [])) (sym moment.whole) row;
-            there = all_more (λ (i : Item). not i.negated) d.draft.items (item_of d.draft) moment.there (rw none refl);
-            inner = moment.inner;
-          },
-          p.1,
-        )
+        (subst (λ (ws : List (List ℕ)). SpellsPart names ws (d.draft.items ++ item_of d.draft ∷ [])) (sym moment.whole) row, p.1)
 
     from_moment : TakenIn names d word e → So e
     from_moment (before_end is_for f ends same) =
         let p = part_done f ends in
         subst So (ap (λ (x : Draft). record d { draft = x; stage = stage.For }) p.1 ∙ same)
-        (at_for done (not_words d.negated ++ rest) (longer ∙ ap (λ (w : List ℕ). done ++ ((not_words d.negated ++ rest) ++ w ∷ [])) is_for) closed
-        (negated_spelled (λ (ws : List (List ℕ)). SpellsPlain names ws (d.draft.items ++ item_of d.draft ∷ [])) d.negated (not_words d.negated ++ rest) rest refl p.0)
-        (λ n. ap (λ (is : List Item). length (is ++ item_of d.draft ∷ [])) (one n)) moment.bare (opened_more words (word ∷ []) opened) refl)
-    from_moment (none_of is_not fresh same) =
-        let f = fresh_parts d fresh in
-        let none = rest_none names rest d.draft moment f.items f.pattern in
-        let before : not_words d.negated ++ rest ≡ [] = ap (λ (b : Bool). not_words b ++ rest) f.unnegated ∙ none in
-        let all : words ++ word ∷ [] ≡ done ++ (codes "not" ∷ rest) =
-        longer ∙ ap (λ (ws : List (List ℕ)). done ++ (ws ++ word ∷ [])) before ∙ ap (λ (w : List ℕ). done ++ w ∷ []) is_not ∙ sym (ap (λ (ws : List (List ℕ)). done ++ (codes "not" ∷ ws)) none) in
-        subst So same (in_moment done rest all closed moment (λ n. f.items) (opened_more words (word ∷ []) opened) at)
+        (at_for done rest (longer ∙ ap (λ (w : List ℕ). done ++ (rest ++ w ∷ [])) is_for) closed p.0 moment.inner moment.bare (opened_more words (word ∷ []) opened) refl)
     from_moment (all_wait is_deadlock fresh empty same) =
         let f = fresh_parts d fresh in
-        let none = rest_none names rest d.draft moment f.items f.pattern in
+        let none = rest_none names rest d.draft moment f.unnegated f.items f.pattern in
         let before = closed_none (SpellsLasting names) (codes "or") done d.lasting (none_long d.lasting empty) closed in
-        let nothing : words ≡ [] = are ∙ ap (λ (b : Bool). done ++ (not_words b ++ rest)) f.unnegated ∙ ap (λ (ws : List (List ℕ)). ws ++ rest) before ∙ none in
+        let nothing : words ≡ [] = are ∙ ap (λ (ws : List (List ℕ)). ws ++ rest) before ∙ none in
         let both : opened.first ∷ opened.others ≡ [] = sym opened.are ∙ nothing in
         absurd cc
-    from_moment (of_moment inner joined free f is same) =
+    from_moment (of_moment inner free f is same) =
         let next = moment_moves names rest d.draft f word inner moment is in
-        let all : words ++ word ∷ [] ≡ done ++ (not_words d.negated ++ (rest ++ word ∷ [])) = longer ∙ ap (λ (ws : List (List ℕ)). done ++ ws) (append_assoc (not_words d.negated) rest (word ∷ [])) in
-        subst So same (in_moment done (rest ++ word ∷ []) all closed next
-        (λ n. let apart : (true && bytes_eq word (codes "&")) ≡ false = subst (λ b. (b && bytes_eq word (codes "&")) ≡ false) n joined in same_items names d.draft f word inner apart is ∙ one n)
-        (opened_more words (word ∷ []) opened) at)
+        subst So same (in_moment done (rest ++ word ∷ []) longer closed next (opened_more words (word ∷ []) opened) at)
 
   same_so : (f : Parts) → ◌≡◌ {A = Result Parts QuestionFault} (Ok f) (Ok e) → f ≡ e
   same_so f is = cc
 
   -- after a moment
   from_for : (done front : List (List ℕ)) → words ≡ done ++ (front ++ codes "for" ∷ []) → Closed (SpellsLasting names) (codes "or") done d.lasting
-      → Negated (λ rest. SpellsPlain names rest d.draft.items) d.negated front → (d.negated ≡ true → length d.draft.items ≡ 1) → record d.draft { items = [] } ≡ nothing_read
+      → SpellsPart names front d.draft.items → list_all (λ w. not (is_end w)) front ≡ true → record d.draft { items = [] } ≡ nothing_read
       → IsOpened words → in_stage names d word stage.For ≡ Ok e → So e
-  from_for done front are closed moment one bare opened is = elim (choose_parts e (bytes_eq word (codes "ever")) _ _ is) [
+  from_for done front are closed part inner bare opened is = elim (choose_parts e (bytes_eq word (codes "ever")) _ _ is) [
     | inl p ↦
         let is_ever = is_word word (codes "ever") p.0 in
         let all : words ++ word ∷ [] ≡ done ++ (front ++ (codes "for" ∷ codes "ever" ∷ [])) =
         ap (λ (ws : List (List ℕ)). ws ++ word ∷ []) are ∙ append_assoc done (front ++ codes "for" ∷ []) (word ∷ [])
         ∙ ap (λ (ws : List (List ℕ)). done ++ ws) (append_assoc front (codes "for" ∷ []) (word ∷ [])) ∙ ap (λ (w : List ℕ). done ++ (front ++ (codes "for" ∷ w ∷ []))) is_ever in
-        let l : Lasting = record { negated = d.negated; moments = (d.draft.items ∷ []) ∷ [] } in
-        let spelled : SpellsLasting names (front ++ (codes "for" ∷ codes "ever" ∷ [])) l = record { front = front; part = d.draft.items; parts = refl; moment = moment; one = one; is = refl } in
+        let l : Lasting = d.draft.items ∷ [] in
+        let spelled : SpellsLasting names (front ++ (codes "for" ∷ codes "ever" ∷ [])) l = record { front = front; part = d.draft.items; parts = refl; spelled = part; inner = inner; is = refl } in
         subst So (same_so (with_part d) p.1)
-        (at_ever done (front ++ (codes "for" ∷ codes "ever" ∷ [])) d.lasting l all closed spelled refl refl bare (opened_more words (word ∷ []) opened) refl)
+        (at_ever done (front ++ (codes "for" ∷ codes "ever" ∷ [])) d.lasting l all closed spelled refl bare (opened_more words (word ∷ []) opened) refl)
     | inr other ↦ let bad = other.1 in absurd cc
   ]
 
   from_ever : (done last : List (List ℕ)) (lasting : List Lasting) (l : Lasting) → words ≡ done ++ last → Closed (SpellsLasting names) (codes "or") done lasting → SpellsLasting names last l
-      → d.lasting ≡ lasting ++ l ∷ [] → d.negated ≡ false → d.draft ≡ nothing_read → IsOpened words → in_stage names d word stage.Ever ≡ Ok e → So e
-  from_ever done last lasting l are closed spelled rest unnegated draft opened is = elim (choose_parts e (bytes_eq word (codes "or")) _ _ is) [
+      → d.lasting ≡ lasting ++ l ∷ [] → d.draft ≡ nothing_read → IsOpened words → in_stage names d word stage.Ever ≡ Ok e → So e
+  from_ever done last lasting l are closed spelled rest draft opened is = elim (choose_parts e (bytes_eq word (codes "or")) _ _ is) [
     | inl p ↦
         let is_or = is_word word (codes "or") p.0 in
         let whole = done ++ (last ++ codes "or" ∷ []) in
-        let all : words ++ word ∷ [] ≡ whole ++ (not_words d.negated ++ []) =
+        let all : words ++ word ∷ [] ≡ whole ++ [] =
         ap (λ (ws : List (List ℕ)). ws ++ word ∷ []) are ∙ append_assoc done last (word ∷ []) ∙ ap (λ (w : List ℕ). done ++ (last ++ w ∷ [])) is_or
-        ∙ sym (append-nil whole) ∙ sym (ap (λ (b : Bool). whole ++ (not_words b ++ [])) unnegated) in
+        ∙ sym (append-nil whole) in
         let more = closed_more (SpellsLasting names) (codes "or") done last lasting l closed spelled in
         subst So (same_so (record d { stage = stage.Words }) p.1)
         (in_moment whole [] all (subst (λ (ls : List Lasting). Closed (SpellsLasting names) (codes "or") whole ls) (sym rest) more)
-        (subst (λ (x : Draft). IsMomentRead names [] x) (sym draft) (nothing_of_moment names)) (λ n. ap (λ (x : Draft). x.items) draft) (opened_more words (word ∷ []) opened) refl)
+        (subst (λ (x : Draft). IsMomentRead names [] x) (sym draft) (nothing_of_moment names)) (opened_more words (word ∷ []) opened) refl)
     | inr other ↦ let bad = other.1 in absurd cc
   ]
 
@@ -204,9 +186,12 @@ module _ (names : NameLists) (words : List (List ℕ)) (d e : Parts) (word : Lis
 
   from_but : words ≡ codes "deadlock" ∷ codes "but" ∷ [] → is_printed word ≡ true → in_stage names d word stage.But ≡ Ok e → So e
   from_but are printed is = elim (choose_parts e (are_tasks names word) _ _ is) [
-    | inl p ↦
-        subst So (same_so (record d { lasting = waits_but names (pieces_of comma word); stage = stage.Named }) p.1)
-        (at_named word (ap (λ (ws : List (List ℕ)). ws ++ word ∷ []) are) printed p.0 refl refl)
+    | inl p ↦ elim (choose_parts e (eqb (length (waits_but names (pieces_of comma word))) 0) _ _ p.1) [
+      | inl none ↦ let bad = none.1 in absurd cc
+      | inr some ↦
+          subst So (same_so (record d { lasting = waits_but names (pieces_of comma word); stage = stage.Named }) some.1)
+          (at_named word (ap (λ (ws : List (List ℕ)). ws ++ word ∷ []) are) printed p.0 refl (some_left (waits_but names (pieces_of comma word)) some.0) refl)
+    ]
     | inr other ↦ let bad = other.1 in absurd cc
   ]
 
@@ -217,15 +202,15 @@ module _ (names : NameLists) (words : List (List ℕ)) (d e : Parts) (word : Lis
       go (at_start none start) took =
           let first : in_stage names no_parts word stage.Words ≡ Ok e = subst (λ (x : Parts). in_stage names x word x.stage ≡ Ok e) start took.1 in
           from_start none (taken_in names no_parts e word first)
-      go (in_moment done rest are closed moment one opened at) took =
-          from_moment done rest are closed moment one opened at (taken_in names d e word (subst (λ (s : Stage). in_stage names d word s ≡ Ok e) at took.1))
-      go (at_for done front are closed moment one bare opened at) took =
-          from_for done front are closed moment one bare opened (subst (λ (s : Stage). in_stage names d word s ≡ Ok e) at took.1)
-      go (at_ever done last lasting l are closed spelled rest unnegated draft opened at) took =
-          from_ever done last lasting l are closed spelled rest unnegated draft opened (subst (λ (s : Stage). in_stage names d word s ≡ Ok e) at took.1)
+      go (in_moment done rest are closed moment opened at) took =
+          from_moment done rest are closed moment opened at (taken_in names d e word (subst (λ (s : Stage). in_stage names d word s ≡ Ok e) at took.1))
+      go (at_for done front are closed part inner bare opened at) took =
+          from_for done front are closed part inner bare opened (subst (λ (s : Stage). in_stage names d word s ≡ Ok e) at took.1)
+      go (at_ever done last lasting l are closed spelled rest draft opened at) took =
+          from_ever done last lasting l are closed spelled rest draft opened (subst (λ (s : Stage). in_stage names d word s ≡ Ok e) at took.1)
       go (at_deadlock are lasting at) took = from_deadlock are (subst (λ (s : Stage). in_stage names d word s ≡ Ok e) at took.1)
       go (at_but are at) took = from_but are took.0 (subst (λ (s : Stage). in_stage names d word s ≡ Ok e) at took.1)
-      go (at_named list are printed tasks lasting at) took = let bad = subst (λ (s : Stage). in_stage names d word s ≡ Ok e) at took.1 in absurd cc
+      go (at_named list are printed tasks lasting left at) took = let bad = subst (λ (s : Stage). in_stage names d word s ≡ Ok e) at took.1 in absurd cc
 
 -- ---- all words
 
@@ -235,9 +220,9 @@ not_there s t is no_end may = let bad = sym no_end ∙ ap may_end (sym is) ∙ m
 -- after the last word the question is complete
 words_ask : (names : NameLists) (words : List (List ℕ)) (d : Parts) → IsSoFar names words d → may_end d.stage ≡ true → AsksForEverWords names words d.lasting
 words_ask names words d (at_start none start) may = absurd (not_there d.stage stage.Words (ap (λ (x : Parts). x.stage) start) refl may)
-words_ask names words d (in_moment done rest are closed moment one opened at) may = absurd (not_there d.stage stage.Words at refl may)
-words_ask names words d (at_for done front are closed moment one bare opened at) may = absurd (not_there d.stage stage.For at refl may)
-words_ask names words d (at_ever done last lasting l are closed spelled rest unnegated draft opened at) may =
+words_ask names words d (in_moment done rest are closed moment opened at) may = absurd (not_there d.stage stage.Words at refl may)
+words_ask names words d (at_for done front are closed part inner bare opened at) may = absurd (not_there d.stage stage.For at refl may)
+words_ask names words d (at_ever done last lasting l are closed spelled rest draft opened at) may =
     let row = closed_row (SpellsLasting names) (codes "or") done last lasting l closed spelled in
     inr (
       opened_so words opened,
@@ -246,7 +231,7 @@ words_ask names words d (at_ever done last lasting l are closed spelled rest unn
     )
 words_ask names words d (at_deadlock are lasting at) may = inl (inl (are, lasting))
 words_ask names words d (at_but are at) may = absurd (not_there d.stage stage.But at refl may)
-words_ask names words d (at_named list are printed tasks lasting at) may = inl (inr (list, are, printed, tasks, lasting))
+words_ask names words d (at_named list are printed tasks lasting left at) may = inl (inr (list, are, printed, tasks, lasting, left))
 
 -- what was complete at the end
 record IsEnd (d : Parts) (lasting : List Lasting) : Type 0 where

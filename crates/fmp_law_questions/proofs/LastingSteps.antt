@@ -1,5 +1,5 @@
 -- What the words of a question of what stays for ever lead to.
-use Rattle.std.proofs.Common.{ℕ, Bool, List, Option}
+use Rattle.std.proofs.Common.{ℕ, List, Option}
 use Rattle.fmp_names.specs.Names.{NameLists}
 use Rattle.fmp_search_pattern.specs.Lasting.{Lasting}
 use Rattle.fmp_search_question.specs.declared.stage.Stage.{Stage}
@@ -11,5 +11,5 @@ abbrev pub led_to : NameLists → Parts → List (List ℕ) → Option Parts
 led_to names d words = led_by (after_word names) d words
 
 -- so much was read, and the words end so
-abbrev pub parts_so : List Lasting → Bool → Draft → Stage → Parts
-parts_so lasting negated draft stage = record { lasting = lasting; negated = negated; draft = draft; stage = stage }
+abbrev pub parts_so : List Lasting → Draft → Stage → Parts
+parts_so lasting draft stage = record { lasting = lasting; draft = draft; stage = stage }

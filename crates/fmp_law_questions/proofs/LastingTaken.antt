@@ -17,11 +17,11 @@ use Rattle.fmp_search_question.specs.Waiting.{waits_but}
 use Rattle.fmp_search_question.specs.Lasting.{Parts, after_word, before_ever, in_part, in_stage, is_elsewhere, is_fresh, with_draft}
 use Rattle.fmp_law_questions.specs.Grammar.{SpellsItem}
 use Rattle.fmp_law_questions.specs.ForEver.{is_end}
-use Rattle.fmp_law_questions.proofs.Begun.{HasItem, after_item, item_of, item_spelled, no_item, refused_taken, word_taken}
+use Rattle.fmp_law_questions.proofs.Begun.{HasItem, after_item, item_of, item_spelled, no_item, not_taken, refused_taken, word_taken}
 use Rattle.fmp_law_questions.proofs.Closed.{Closed, closed_more}
 use Rattle.fmp_law_questions.proofs.LastingAsked.{IsInner}
 use Rattle.fmp_law_questions.proofs.Patterns.{or_parts}
-use Rattle.fmp_law_questions.proofs.Taken.{Taken, and, following_word, count, negation, next, or, plain, refusal, taken, when_true, without}
+use Rattle.fmp_law_questions.proofs.Taken.{Taken, and, following_word, count, negation, next, or, plain, refusal, taken, without}
 
 -- ---- a word of a moment
 
@@ -32,8 +32,6 @@ pub record IsMomentRead (names : NameLists) (words : List (List ℕ)) (d : Draft
   pub whole : words ≡ items ++ last
   pub are_items : Closed (SpellsItem names) (codes "&") items d.items
   pub has_item : HasItem names last d
-  pub there : list_all (λ i. not i.negated) d.items ≡ true
-  pub unnegated : d.negated ≡ false
   pub inner : list_all (λ w. not (is_end w)) words ≡ true
   pub bare : record d { items = []; negated = false; pattern = []; spot = nothing_read.spot } ≡ nothing_read
 
@@ -44,8 +42,6 @@ nothing_of_moment names = record {
   whole = refl;
   are_items = refl;
   has_item = no_item names nothing_read refl refl refl;
-  there = refl;
-  unnegated = refl;
   inner = refl;
   bare = refl;
 }
@@ -60,16 +56,14 @@ no_end : (word : List ℕ) → IsInner word → not (is_end word) ≡ true
 no_end word inner = let a = inner.no_for in let b = inner.no_ever in rw (a, b) refl
 
 module _ (names : NameLists) (words : List (List ℕ)) (d e : Draft) (word : List ℕ) (inner : IsInner word) (s : IsMomentRead names words d) where
-  goes_on_so : (f : Draft) → f.items ≡ d.items → f.negated ≡ d.negated → record f { items = []; negated = false; pattern = []; spot = nothing_read.spot } ≡ nothing_read
+  goes_on_so : (f : Draft) → f.items ≡ d.items → record f { items = []; negated = false; pattern = []; spot = nothing_read.spot } ≡ nothing_read
       → HasItem names (s.last ++ word ∷ []) f → IsMomentRead names (words ++ word ∷ []) f
-  goes_on_so f items negated bare item = record {
+  goes_on_so f items bare item = record {
     items = s.items;
     last = s.last ++ word ∷ [];
     whole = ap (λ (ws : List (List ℕ)). ws ++ word ∷ []) s.whole ∙ append_assoc s.items s.last (word ∷ []);
     are_items = subst (λ (is : List Item). Closed (SpellsItem names) (codes "&") s.items is) (sym items) s.are_items;
     has_item = item;
-    there = ap (list_all (λ i. not i.negated)) items ∙ s.there;
-    unnegated = negated ∙ s.unnegated;
     inner = all_more (λ w. not (is_end w)) words word s.inner (no_end word inner);
     bare = bare;
   }
@@ -80,15 +74,12 @@ module _ (names : NameLists) (words : List (List ℕ)) (d e : Draft) (word : Lis
       let joined : words ++ word ∷ [] ≡ (s.items ++ (s.last ++ codes "&" ∷ [])) ++ [] =
       ap (λ (ws : List (List ℕ)). ws ++ word ∷ []) s.whole ∙ append_assoc s.items s.last (word ∷ [])
       ∙ ap (λ (w : List ℕ). s.items ++ (s.last ++ w ∷ [])) is_and ∙ sym (append-nil (s.items ++ (s.last ++ codes "&" ∷ []))) in
-      let none = s.unnegated in
       subst (λ (f : Draft). IsMomentRead names (words ++ word ∷ []) f) p.1 (record {
         items = s.items ++ (s.last ++ codes "&" ∷ []);
         last = [];
         whole = joined;
         are_items = closed_more (SpellsItem names) (codes "&") s.items s.last d.items (item_of d) s.are_items p.0;
         has_item = no_item names (after_item d) refl refl refl;
-        there = all_more (λ (i : Item). not i.negated) d.items (item_of d) s.there (rw none refl);
-        unnegated = refl;
         inner = all_more (λ w. not (is_end w)) words word s.inner (no_end word inner);
         bare = s.bare;
       })
@@ -101,39 +92,28 @@ module _ (names : NameLists) (words : List (List ℕ)) (d e : Draft) (word : Lis
       go (refusal is_refusal ends) =
           let p = refused_taken names s.last d e s.has_item ends in
           subst (λ (f : Draft). IsMomentRead names (words ++ word ∷ []) f) p.1
-          (goes_on_so (record d { pattern = e.pattern; spot = e.spot }) refl refl s.bare
+          (goes_on_so (record d { pattern = e.pattern; spot = e.spot }) refl s.bare
           (subst (λ (w : List ℕ). HasItem names (s.last ++ w ∷ []) (record d { pattern = e.pattern; spot = e.spot })) (sym is_refusal) p.0))
       go (plain place is_one short stands ends) =
           subst (λ (f : Draft). IsMomentRead names (words ++ word ∷ []) f) (sym ends)
-          (goes_on_so (following_word d word place) refl refl s.bare (word_taken names s.last d e s.has_item word place is_one short stands))
+          (goes_on_so (following_word d word place) refl s.bare (word_taken names s.last d e s.has_item word place is_one short stands))
       go (or is_or ends) = let bad = no_word word (codes "or") inner.no_or is_or in absurd cc
-      go (negation is_not ends) = let bad = no_word word (codes "not") inner.no_not is_not in absurd cc
+      go (negation is_not ends) =
+          let p = not_taken names s.last d e s.has_item ends in
+          subst (λ (f : Draft). IsMomentRead names (words ++ word ∷ []) f) p.1
+          (goes_on_so (record d { negated = true }) refl s.bare
+          (subst (λ (w : List ℕ). HasItem names (s.last ++ w ∷ []) (record d { negated = true })) (sym is_not) p.0))
       go (without is_without ends) = let bad = no_word word (codes "without") inner.no_without is_without in absurd cc
       go (next is_then ends) = let bad = no_word word (codes "then") inner.no_then is_then in absurd cc
       go (count is_times ends) = let bad = no_word word (codes "times") inner.no_times is_times in absurd cc
-
--- a word that does not join items leaves the complete ones
-pub same_items : (names : NameLists) (d e : Draft) (word : List ℕ) → IsInner word → bytes_eq word (codes "&") ≡ false → reading.after_word names d word ≡ Ok e → e.items ≡ d.items
-same_items names d e word inner no_and is = go (taken names d e word is)
-  where
-    go : Taken names d word e → e.items ≡ d.items
-    go (and is_and ends) = let bad = no_word word (codes "&") no_and is_and in absurd cc
-    go (refusal is_refusal ends) = let p = when_true (eqb (length d.pattern) 0) _ e ends in sym (ap (λ (f : Draft). f.items) p.1)
-    go (plain place is_one short stands ends) = ap (λ (f : Draft). f.items) ends
-    go (or is_or ends) = let bad = no_word word (codes "or") inner.no_or is_or in absurd cc
-    go (negation is_not ends) = let bad = no_word word (codes "not") inner.no_not is_not in absurd cc
-    go (without is_without ends) = let bad = no_word word (codes "without") inner.no_without is_without in absurd cc
-    go (next is_then ends) = let bad = no_word word (codes "then") inner.no_then is_then in absurd cc
-    go (count is_times ends) = let bad = no_word word (codes "times") inner.no_times is_times in absurd cc
 
 -- ---- a word where a moment stands
 
 -- the word and what was read after it
 pub data TakenIn (names : NameLists) (d : Parts) (word : List ℕ) (e : Parts) : Type 0 where
   before_end : word ≡ codes "for" → (f : Draft) → with_pattern d.draft ≡ Some f → record d { draft = f; stage = stage.For } ≡ e → TakenIn names d word e
-  none_of : word ≡ codes "not" → is_fresh d ≡ true → record d { negated = true } ≡ e → TakenIn names d word e
   all_wait : word ≡ codes "deadlock" → is_fresh d ≡ true → eqb (length d.lasting) 0 ≡ true → record d { lasting = waits_but names []; stage = stage.Deadlock } ≡ e → TakenIn names d word e
-  of_moment : IsInner word → (d.negated && bytes_eq word (codes "&")) ≡ false → ((bytes_eq word (codes "deadlock") && is_fresh d) && eqb (length d.lasting) 0) ≡ false
+  of_moment : IsInner word → ((bytes_eq word (codes "deadlock") && is_fresh d) && eqb (length d.lasting) 0) ≡ false
       → (f : Draft) → reading.after_word names d.draft word ≡ Ok f → record d { draft = f } ≡ e → TakenIn names d word e
 
 pub choose_parts : (e : Parts) (test : Bool) (one other : Result Parts QuestionFault) → cond test one other ≡ Ok e → ((test ≡ true) × (one ≡ Ok e)) ⊎ ((test ≡ false) × (other ≡ Ok e))
@@ -157,27 +137,20 @@ module _ (names : NameLists) (d e : Parts) (word : List ℕ) where
   taken_in is =
       elim (choose_parts e (bytes_eq word (codes "for")) _ _ is) [
         | inl p ↦ let ends = ended_moment (with_pattern d.draft) p.1 in before_end (is_word word (codes "for") p.0) ends.0 ends.1 ends.2
-        | inr a ↦ elim (choose_parts e (bytes_eq word (codes "not")) _ _ a.1) [
-          | inl p ↦ elim (choose_parts e (is_fresh d) _ _ p.1) [
-            | inl fresh ↦ none_of (is_word word (codes "not") p.0) fresh.0 (same_parts _ fresh.1)
-            | inr other ↦ let bad = other.1 in absurd cc
-          ]
-          | inr b ↦ elim (choose_parts e (is_elsewhere d.negated word) _ _ b.1) [
-            | inl p ↦ let bad = p.1 in absurd cc
-            | inr c ↦ elim (choose_parts e ((bytes_eq word (codes "deadlock") && is_fresh d) && eqb (length d.lasting) 0) _ _ c.1) [
-              | inl p ↦
-                  let first = and_parts (bytes_eq word (codes "deadlock") && is_fresh d) (eqb (length d.lasting) 0) p.0 in
-                  let second = and_parts (bytes_eq word (codes "deadlock")) (is_fresh d) first.0 in
-                  all_wait (is_word word (codes "deadlock") second.0) second.1 first.1 (same_parts _ p.1)
-              | inr g ↦
-                  let f = or_parts _ (d.negated && bytes_eq word (codes "&")) c.0 in
-                  let h = or_parts _ (bytes_eq word (codes "ever")) f.0 in
-                  let i = or_parts _ (bytes_eq word (codes "or")) h.0 in
-                  let j = or_parts _ (bytes_eq word (codes "times")) i.0 in
-                  let k = or_parts (bytes_eq word (codes "then")) (bytes_eq word (codes "without")) j.0 in
-                  let rest = in_draft (reading.after_word names d.draft word) g.1 in
-                  of_moment (record { no_for = a.0; no_ever = h.1; no_not = b.0; no_or = i.1; no_without = k.1; no_then = k.0; no_times = j.1 }) f.1 g.0 rest.0 rest.1 rest.2
-            ]
+        | inr a ↦ elim (choose_parts e (is_elsewhere word) _ _ a.1) [
+          | inl p ↦ let bad = p.1 in absurd cc
+          | inr c ↦ elim (choose_parts e ((bytes_eq word (codes "deadlock") && is_fresh d) && eqb (length d.lasting) 0) _ _ c.1) [
+            | inl p ↦
+                let first = and_parts (bytes_eq word (codes "deadlock") && is_fresh d) (eqb (length d.lasting) 0) p.0 in
+                let second = and_parts (bytes_eq word (codes "deadlock")) (is_fresh d) first.0 in
+                all_wait (is_word word (codes "deadlock") second.0) second.1 first.1 (same_parts _ p.1)
+            | inr g ↦
+                let h = or_parts _ (bytes_eq word (codes "ever")) c.0 in
+                let i = or_parts _ (bytes_eq word (codes "or")) h.0 in
+                let j = or_parts _ (bytes_eq word (codes "times")) i.0 in
+                let k = or_parts (bytes_eq word (codes "then")) (bytes_eq word (codes "without")) j.0 in
+                let rest = in_draft (reading.after_word names d.draft word) g.1 in
+                of_moment (record { no_for = a.0; no_ever = h.1; no_or = i.1; no_without = k.1; no_then = k.0; no_times = j.1 }) g.0 rest.0 rest.1 rest.2
           ]
         ]
       ]

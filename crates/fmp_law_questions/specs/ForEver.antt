@@ -11,33 +11,27 @@ use Rattle.fmp_search_question.specs.Waiting.{comma, waits_but}
 use Rattle.fmp_search_question.specs.Lasting.{are_tasks, begins_so, most_parts}
 use Rattle.fmp_search_question.specs.Resolved.{resolved_lasting}
 use Rattle.fmp_law_questions.specs.Rows.{SpellsRow}
-use Rattle.fmp_law_questions.specs.Grammar.{Negated, SpellsPart}
+use Rattle.fmp_law_questions.specs.Grammar.{SpellsPart}
 
 -- the words after a moment
 abbrev pub is_end : List ℕ → Bool
 is_end word = bytes_eq word (codes "for") || bytes_eq word (codes "ever")
 
--- items without `not`, with `&` between each two. None of their words is one of those after a moment
-pub record SpellsPlain (names : NameLists) (words : List (List ℕ)) (part : List Item) : Type 0 where
-  pub spelled : SpellsPart names words part
-  pub there : list_all (λ i. not i.negated) part ≡ true
-  pub inner : list_all (λ w. not (is_end w)) words ≡ true
-
--- such a moment, with `for ever` after it. With `not` before it, it is of one item
+-- items with `&` between each two, and `for ever` after them. None of their words is one of those after a moment
 pub record SpellsLasting (names : NameLists) (words : List (List ℕ)) (l : Lasting) : Type 0 where
   pub front : List (List ℕ)
   pub part : List Item
   pub parts : words ≡ front ++ (codes "for" ∷ codes "ever" ∷ [])
-  pub moment : Negated (λ rest. SpellsPlain names rest part) l.negated front
-  pub one : l.negated ≡ true → length part ≡ 1
-  pub is : l.moments ≡ (part ∷ []) ∷ []
+  pub spelled : SpellsPart names front part
+  pub inner : list_all (λ w. not (is_end w)) front ≡ true
+  pub is : l ≡ part ∷ []
 
--- `deadlock`: each task waits, but those whose names stand after `but`, with commas between them
+-- `deadlock`: each task waits, but those whose names stand after `but`, with commas between them. Some task is not among these
 abbrev pub SpellsDeadlock : NameLists → List (List ℕ) → List Lasting → Type 0
 SpellsDeadlock names words lasting =
     ((words ≡ codes "deadlock" ∷ []) × (lasting ≡ waits_but names []))
     ⊎ ((list : List ℕ) × (words ≡ codes "deadlock" ∷ codes "but" ∷ list ∷ []) × (is_printed list ≡ true) × (are_tasks names list ≡ true)
-    × (lasting ≡ waits_but names (pieces_of comma list)))
+    × (lasting ≡ waits_but names (pieces_of comma list)) × (1 ≤ length lasting))
 
 -- or one or more such moments, with `or` between each two
 abbrev pub AsksForEverWords : NameLists → List (List ℕ) → List Lasting → Type 0

@@ -1,15 +1,18 @@
 -- Which calls of the scripts are made in orders.
-use Rattle.std.proofs.Common.{ℕ, []}
+use Rattle.std.proofs.Common.{ℕ, List, []}
+use Rattle.fmp_setup.specs.Setup.{Setup}
+use Rattle.fmp_text_scripts.specs.Scripts.{Steps}
 use Rattle.fmp_search.specs.declared.meeting.Met.{Met}
 use Rattle.fmp_search.specs.Meeting.{Meets}
+use Rattle.fmp_search_orders.specs.declared.rules.Rules.{Rules}
 use Rattle.fmp_search_orders.specs.Made.{MadeAnswer, no_number, number_at}
 use Rattle.fmp_search_orders.specs.Places.{after, origin}
 use Rattle.fmp_run_explore.specs.Made.{SaysMade}
-use Rattle.fmp_run_explore.specs.Views.{Layer}
 
 -- what is known of runs over places is known of orders
-pub says_made : (l : Layer) (turns : ℕ) (m : Met) → MadeAnswer l.config l.scripts l.rules → Meets after number_at (origin l.config l.scripts l.rules []) turns no_number m → SaysMade l turns m
-says_made l turns m answer meets = record {
+pub says_made : (c : Setup) (scripts : List Steps) (rules : Rules) (turns : ℕ) (m : Met) → MadeAnswer c scripts rules
+    → Meets after number_at (origin c scripts rules []) turns no_number m → SaysMade c scripts rules turns m
+says_made c scripts rules turns m answer meets = record {
   numbers = meets.as_many;
   made = λ n is. answer.made_within turns n (meets.report n is);
   within = λ n lt made. meets.within n lt (answer.report_within turns n made);

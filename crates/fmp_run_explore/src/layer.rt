@@ -3,6 +3,7 @@ ghost use Rattle.std.specs.Prelude.{◌≡◌, ◌-◌, ◌<◌, ◌≤◌, ℕ,
 ghost use Rattle.fmp_text_scripts.specs.Scripts.{AreInBits};
 ghost use Rattle.fmp_search_orders.specs.Places as places;
 ghost use Rattle.fmp_search_orders.specs.Shown.{NoneShows};
+ghost use Rattle.fmp_search_kernel.specs.Seen.{so_at_boot};
 ghost use Rattle.fmp_run_explore.specs.declared.finding.Finding.TheVariants.{Never};
 ghost use Rattle.fmp_run_explore.specs.Explored.{Finds, IsEndedBy};
 ghost use Rattle.fmp_run_explore.specs.Views.{layer_of, trace_of, CanBeMade};
@@ -12,9 +13,11 @@ use crate::finding::Finding;
 use crate::searching::found;
 use crate::telling::trace_along;
 use fmp_names::Names;
+use fmp_rules::Config;
 use fmp_search::{Extent, Progress, Roots};
+use fmp_search_kernel::is_so_at_boot;
 use fmp_search_orders::Rules;
-use fmp_search_pattern::Question;
+use fmp_search_pattern::{Question, Wanted};
 use std::alloc::{AllocError, Global};
 use std::marker::Model;
 
@@ -84,11 +87,25 @@ impl Layer {
         self.asked.config.names()
     }
 
+    /// The machine.
+    pub fn config(&self) -> &Config
+        ensures { result.now ≡ self.now.config }
+    {
+        &self.asked.config
+    }
+
     /// What was looked for.
     pub fn question(&self) -> &Question
         ensures { result.now ≡ self.now.question }
     {
         &self.asked.question
+    }
+
+    /// Whether what is asked for is a fact that is so at boot, before any event. The error is want of memory.
+    pub fn is_so_at_boot(&self, wanted: &Wanted) -> Result<bool, AllocError>
+        ensures { IfOk result (λ so. so ≡ so_at_boot self.now.config wanted.now) }
+    {
+        is_so_at_boot(&self.asked.config, wanted)
     }
 
     /// What is known of another question about the same machine, scripts and rules. The error is want of memory.

@@ -31,7 +31,7 @@ pub use fmp_search::{Extent, Met, Progress};
 pub use fmp_search_orders::Rules;
 pub use fmp_search_question::QuestionFault;
 pub use layer::{Layer, Outcome};
-pub use made::is_made;
+pub use made::{Orders, is_made};
 pub use run::run_explore;
 pub use searching::two_walkers;
 pub use telling::{never, not_within, trace_along};

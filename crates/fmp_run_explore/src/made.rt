@@ -96,9 +96,17 @@ pub fn is_made(met: &Met, function: u8, position: u32) -> bool
     met.marks.get(number).copied() == Some(true)
 }
 
-impl Layer {
-    /// Which calls of the scripts are made in orders of at most so many lines, whatever the question. None only where the room for places was used up, or
-    /// `progress` ended the search before. The error is want of memory.
+/// The orders of the scripts on a machine, by rules, whatever is asked of them.
+#[derive(Clone, Copy)]
+pub struct Orders<'a> {
+    pub config: &'a Config,
+    pub scripts: &'a Scripts,
+    pub rules: Rules,
+}
+
+impl<'a> Orders<'a> {
+    /// Which calls of the scripts are made in orders of at most so many lines. None only where the room for places was used up, or `progress` ended the
+    /// search before. The error is want of memory.
     pub fn made<P: Progress>(
         &self,
         alloc: Global,
@@ -108,17 +116,16 @@ impl Layer {
     ) -> Result<Option<Met>, AllocError>
         requires turns { turns ≤ 1000000 }
         requires places { 1 ≤ places }
-        ensures made { IfOk result (λ o. IfSome o (spec.SaysMade self.now turns)) }
-        ensures none { IfOk result (λ o. o ≡ None → spec.IsNotKnown self.now.config self.now.scripts self.now.rules turns (places - 1) (P.over progress.new)) }
+        ensures made { IfOk result (λ o. IfSome o (spec.SaysMade self.now.config.now self.now.scripts.now self.now.rules turns)) }
+        ensures none { IfOk result (λ o. o ≡ None → spec.IsNotKnown self.now.config.now self.now.scripts.now self.now.rules turns (places - 1) (P.over progress.new)) }
     {
         made_answer();
-        let asked = &self.asked;
-        let _names = asked.config.names();
+        let _names = self.config.names();
         let none = Question::new(Vec::new(alloc));
         let found = numbers_met(
             alloc,
-            &asked.config,
-            &asked.scripts,
+            self.config,
+            self.scripts,
             self.rules,
             &none,
             progress,
@@ -130,11 +137,19 @@ impl Layer {
             Some(met) => Ok(Some(met)),
         }
     }
+}
 
-    /// The scripts of the machine.
-    pub fn scripts(&self) -> &Scripts
-        ensures { result.now ≡ self.now.scripts }
+impl Layer {
+    /// The orders in which is looked.
+    pub fn orders(&self) -> Orders<'_>
+        ensures config { result.config.now ≡ self.now.config }
+        ensures scripts { result.scripts.now ≡ self.now.scripts }
+        ensures rules { result.rules ≡ self.now.rules }
     {
-        &self.asked.scripts
+        Orders {
+            config: &self.asked.config,
+            scripts: &self.asked.scripts,
+            rules: self.rules,
+        }
     }
 }

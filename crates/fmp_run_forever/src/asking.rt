@@ -3,7 +3,7 @@
 use fmp_names::Names;
 use fmp_run_explore::{Asker, ExploreFault};
 use fmp_run_texts::RunFault;
-use fmp_search_pattern::Lasting;
+use fmp_search_pattern::Moment;
 use fmp_search_question::{ReadFault, read_lasting};
 use std::alloc::Global;
 
@@ -18,7 +18,7 @@ impl<'a> Asker for LastingAsker<'a> {
     ghost use Rattle.fmp_search_question.specs.Lasting.{lasting_in};
     ghost use Rattle.fmp_run_forever.specs.Asked.{IsFirstOfLasting};
 
-    type Out = Vec<Lasting>;
+    type Out = Vec<Moment>;
 
     ghost asks = { λ s names lasting. lasting_in names s.text.now ≡ Ok lasting.items };
 
@@ -26,7 +26,7 @@ impl<'a> Asker for LastingAsker<'a> {
 
     ghost is_fault = { λ s. IsFirstOfLasting s.text.now };
 
-    fn ask(&self, alloc: Global, names: &Names) -> Result<Vec<Lasting>, ExploreFault> {
+    fn ask(&self, alloc: Global, names: &Names) -> Result<Vec<Moment>, ExploreFault> {
         match read_lasting(alloc, names, self.text) {
             Ok(lasting) => Ok(lasting),
             Err(ReadFault::Memory) => Err(ExploreFault::Run(RunFault::Memory)),

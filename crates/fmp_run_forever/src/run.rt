@@ -46,14 +46,14 @@ pub fn run_forever<R: Source, S: Source, W: Sink, P: Progress>(
         (sink_ends W.written W.buffered W.failures output.old output.new) result }
 
     // What it writes: what is known of all orders.
-    ensures writes { WritesOut (λ c s old new found. IsExplored c s question.now rules turns old new found.lasting.items found.staying)
+    ensures writes { WritesOut (λ c s old new found. IsExplored c s question.now rules turns old new found.asked.question.items found.staying)
         (λ c s. IsBegun c s question.now rules turns) (ExploreFault.Run RunFault.Write)
         (source_ends R.left R.failures config.old config.new) (source_ends S.left S.failures scripts.old scripts.new)
         (sink_ends W.written W.buffered W.failures output.old output.new) result }
 
     // It tells how far it went.
     ensures gone { IsKnown (R.left config.old) → IsKnown (S.left scripts.old)
-        → IfOk result (λ s. HasGone (bytes_of (R.left config.old)) (bytes_of (S.left scripts.old)) question.now rules s.lasting.items s.staying s.extent) }
+        → IfOk result (λ s. HasGone (bytes_of (R.left config.old)) (bytes_of (S.left scripts.old)) question.now rules s.asked.question.items s.staying s.extent) }
 {
     let asked = match asked_from(alloc, &LastingAsker { text: question }, config, scripts) {
         Ok(asked) => asked,
@@ -62,7 +62,8 @@ pub fn run_forever<R: Source, S: Source, W: Sink, P: Progress>(
     match found_written(alloc, &asked, rules, output, progress, turns, places - 1) {
         Ok((staying, extent)) => Ok(Stayed {
             staying,
-            lasting: asked.question,
+            asked,
+            rules,
             extent,
         }),
         Err(WriteFault::Memory) => Err(ExploreFault::Run(RunFault::Memory)),

@@ -15,7 +15,7 @@ use fmp_run_explore::{never, not_within, trace_along};
 use fmp_search::{Extent, Progress, Space, Stay, for_ever};
 use fmp_search_kernel::Watcher;
 use fmp_search_orders::{Rules, watched_answer};
-use fmp_search_pattern::{Lasting, Question};
+use fmp_search_pattern::{Moment, Question};
 use fmp_text_scripts::Scripts;
 use std::alloc::{AllocError, Global};
 
@@ -36,7 +36,7 @@ fn two_watchers<'a>(
     scripts: &'a Scripts,
     rules: Rules,
     none: &'a Question,
-    lasting: &'a [Lasting],
+    lasting: &'a [Moment],
 ) -> Result<(Watcher<'a>, Watcher<'a>), AllocError>
     requires none { none.now ≡ [] }
     requires few { length lasting.now ≤ 64 }
@@ -87,7 +87,7 @@ fn answered<P: Progress>(
     scripts: &Scripts,
     rules: Rules,
     none: &Question,
-    lasting: &[Lasting],
+    lasting: &[Moment],
     progress: &mut P,
     turns: u32,
     more: u32,
@@ -123,7 +123,7 @@ fn report_along(
     scripts: &Scripts,
     rules: Rules,
     none: &Question,
-    _lasting: &[Lasting],
+    _lasting: &[Moment],
     turns: u32,
     test: u8,
     steps: &[u8],
@@ -163,7 +163,7 @@ pub(crate) fn found<P: Progress>(
     config: &Config,
     scripts: &Scripts,
     rules: Rules,
-    lasting: &[Lasting],
+    lasting: &[Moment],
     progress: &mut P,
     turns: u32,
     more: u32,

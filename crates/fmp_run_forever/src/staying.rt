@@ -2,9 +2,11 @@
 ghost use Rattle.std.specs.Prelude.{◌≡◌};
 ghost use Rattle.fmp_run_forever.specs.Stayed as spec;
 
+use fmp_run_explore::Asked;
 use fmp_run_texts::Status;
 use fmp_search::Extent;
-use fmp_search_pattern::Lasting;
+use fmp_search_orders::Rules;
+use fmp_search_pattern::Moment;
 
 /// What is known of all orders, by a search through them.
 #[derive(Clone, Copy)]
@@ -33,10 +35,11 @@ impl Staying {
     }
 }
 
-/// What was found, what was asked, and how far the search went.
+/// What was found, what was asked by which rules, and how far the search went.
 #[derive(Drop)]
 pub struct Stayed {
     pub staying: Staying,
-    pub lasting: Vec<Lasting>,
+    pub asked: Asked<Vec<Moment>>,
+    pub rules: Rules,
     pub extent: Extent,
 }

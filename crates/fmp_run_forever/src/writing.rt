@@ -11,7 +11,7 @@ use fmp_run_devices::{Sink, write_out};
 use fmp_run_explore::Asked;
 use fmp_search::{Extent, Progress};
 use fmp_search_orders::Rules;
-use fmp_search_pattern::Lasting;
+use fmp_search_pattern::Moment;
 use std::alloc::Global;
 
 /// Why what was found was not written, or nothing was found.
@@ -26,7 +26,7 @@ pub(crate) enum WriteFault {
 /// Goes through every order of what was read, and writes what is known of them. There is room for so many places besides the first.
 pub(crate) fn found_written<W: Sink, P: Progress>(
     alloc: Global,
-    asked: &Asked<Vec<Lasting>>,
+    asked: &Asked<Vec<Moment>>,
     rules: Rules,
     output: &mut W,
     progress: &mut P,

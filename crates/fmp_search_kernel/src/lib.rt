@@ -13,7 +13,7 @@ mod watcher;
 pub use begun::choice_of;
 pub use caller::Caller;
 pub use calls::{NUMBERS, POSITIONS, number_of_call};
-pub use sights::{Seen, has_to_look, is_over, put_line};
+pub use sights::{Seen, has_to_look, is_over, is_so_at_boot, put_line};
 pub use ticks::advance_taken;
 pub use walker::Walker;
 pub use watcher::Watcher;

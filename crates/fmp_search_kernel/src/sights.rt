@@ -1,5 +1,5 @@
 //! What a question sees of an event.
-ghost use Rattle.std.specs.Prelude.{◌≡◌, ◌≤◌, ◌<◌, ◌+◌, ◌*◌, ◌^◌, false, not, drop, length, map, OnOk, if◌then◌else◌};
+ghost use Rattle.std.specs.Prelude.{◌≡◌, ◌≤◌, ◌<◌, ◌+◌, ◌*◌, ◌^◌, false, not, drop, length, map, IfOk, OnOk, if◌then◌else◌};
 ghost use Rattle.fmp_search_orders.specs.Orders.{each};
 ghost use Rattle.fmp_search_orders.specs.Sights as sights;
 ghost use Rattle.fmp_search_orders.specs.Watched.{bits_of};
@@ -8,7 +8,7 @@ ghost use Rattle.fmp_search_pattern.specs.Questions as spec;
 ghost use Rattle.fmp_search_pattern.specs.Sights.{Sight as AnySight};
 ghost use Rattle.fmp_show_facts.specs.Facts.{is_so as is_asked};
 ghost use Rattle.fmp_trace.specs.Lines.{core_text};
-ghost use Rattle.fmp_search_kernel.specs.Seen.{seen_of};
+ghost use Rattle.fmp_search_kernel.specs.Seen.{seen_of, so_at_boot};
 ghost use Rattle.fmp_search_kernel.specs.Walked.{count_in, is_idle_on};
 
 use crate::ticks::is_out_of_time;
@@ -18,7 +18,7 @@ use fmp_kernel::Kernel;
 use fmp_names::Names;
 use fmp_rules::Config;
 use fmp_search_orders::Rules;
-use fmp_search_pattern::{Lasting, Question, Sight};
+use fmp_search_pattern::{Moment, Question, Sight, Wanted, has_fact, has_moment};
 use fmp_show_facts::is_so;
 use fmp_trace::put_core;
 use std::alloc::AllocError;
@@ -97,6 +97,19 @@ impl<'a> Sight for Seen<'a> {
     }
 }
 
+/// Whether what is asked for is a fact that is so at boot, before any event. The error is want of memory.
+pub fn is_so_at_boot(config: &Config, wanted: &Wanted) -> Result<bool, AllocError>
+    ensures { IfOk result (λ so. so ≡ so_at_boot config.now wanted.now) }
+{
+    match wanted {
+        Wanted::State(_, choice) => {
+            let kernel = Kernel::boot(config)?;
+            Ok(has_fact(&Seen::new(b"", &kernel, false), choice.asked()))
+        }
+        _ => Ok(false),
+    }
+}
+
 /// Whether it may depend on an event whether it may be marked so, where so many steps of the question were seen.
 #[tactic(auto, unfolding(fmp_search_pattern::specs::Questions::allows))]
 pub fn has_to_look(question: &Question, seen: u32, marked: bool) -> bool
@@ -109,7 +122,7 @@ pub fn has_to_look(question: &Question, seen: u32, marked: bool) -> bool
 }
 
 /// Which of these are so of an event, as bits: the first is the lowest.
-pub fn bits_at(event: &Seen<'_>, lasting: &[Lasting]) -> u64
+pub fn bits_at(event: &Seen<'_>, lasting: &[Moment]) -> u64
     requires { length lasting.now ≤ 64 }
     ensures { result ≡ bits_of (map (λ l. is_so l (seen_of event.now)) lasting.now) }
 {
@@ -117,7 +130,7 @@ pub fn bits_at(event: &Seen<'_>, lasting: &[Lasting]) -> u64
     let mut at = lasting.len();
     while 0 < at {
         at -= 1;
-        let so = lasting[at].is_so(event);
+        let so = has_moment(event, &lasting[at]);
         bits = with_bit(bits, so);
     }
     bits

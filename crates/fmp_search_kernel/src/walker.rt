@@ -19,7 +19,7 @@ use fmp_codes::{Answer, Event, Proc, Record, Runner};
 use fmp_kernel::Kernel;
 use fmp_rules::Config;
 use fmp_search_orders::Rules;
-use fmp_search_pattern::{Lasting, Question, allows};
+use fmp_search_pattern::{Moment, Question, allows};
 use fmp_smp_histories::{advance_handler, advance_task, asked_at};
 use fmp_text_scripts::Scripts;
 use std::alloc::AllocError;
@@ -326,7 +326,7 @@ impl<'a> Walker<'a> {
     pub(crate) fn watch_for(
         &mut self,
         step: u8,
-        lasting: &[Lasting],
+        lasting: &[Moment],
     ) -> Result<Option<u64>, AllocError>
         requires room { 0 < self.old.left }
         requires none { self.old.place.question ≡ [] }
@@ -347,7 +347,7 @@ impl<'a> Walker<'a> {
     }
 
     /// Which of these are so of the last event, likewise. The place stays as it is.
-    fn bits(&mut self, lasting: &[Lasting]) -> Result<u64, AllocError>
+    fn bits(&mut self, lasting: &[Moment]) -> Result<u64, AllocError>
         requires { length lasting.now ≤ 64 }
         ensures bits { IfOk result (λ n. n ≡ bits_of (map (λ l. is_so l (places.sight_at self.old.place self.old.made)) lasting.now)) }
         ensures same { self.new ≡ self.old }

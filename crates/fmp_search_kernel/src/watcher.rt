@@ -9,7 +9,7 @@ use crate::walker::{Walker, is_marked};
 use fmp_rules::Config;
 use fmp_search::Space;
 use fmp_search_orders::Rules;
-use fmp_search_pattern::{Lasting, Question};
+use fmp_search_pattern::{Moment, Question};
 use fmp_text_scripts::Scripts;
 use std::alloc::AllocError;
 use std::marker::Model;
@@ -18,7 +18,7 @@ use std::marker::Model;
 #[derive(Drop)]
 pub struct Watcher<'a> {
     walker: Walker<'a>,
-    lasting: &'a [Lasting],
+    lasting: &'a [Moment],
 }
 
 impl<'a> Model for Watcher<'a> {
@@ -40,7 +40,7 @@ impl<'a> Watcher<'a> {
         scripts: &'a Scripts,
         rules: Rules,
         none: &'a Question,
-        lasting: &'a [Lasting],
+        lasting: &'a [Moment],
     ) -> Result<Watcher<'a>, AllocError>
         requires none { none.now ≡ [] }
         requires few { length lasting.now ≤ 64 }

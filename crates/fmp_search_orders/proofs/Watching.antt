@@ -71,7 +71,7 @@ module _ (lasting : List Lasting) where
     same_bit : (p : Place) (s : ℕ) → test_of watched_passes k (W p) s ≡ step_test asked p s
     same_bit p s =
         let test : Lasting → Bool = λ l. step_test (is_so l) p s in
-        bit_is (map test lasting) k (subst (λ n. k < n) (sym (length-map lasting test)) less) ∙ get_or-map test lasting k (record { negated = true; moments = [] }) false less
+        bit_is (map test lasting) k (subst (λ n. k < n) (sym (length-map lasting test)) less) ∙ get_or-map test lasting k ([] ∷ []) false less
 
     down : (q : Place) (steps : List ℕ) → EndsForEver watched_after (test_of watched_passes k) (W q) steps → EndsForEver after (step_test asked) q steps
     down q steps ends =

@@ -35,7 +35,7 @@ watched_passes w s = bits_of (map (λ l. step_test (is_so l) w.place s) w.lastin
 
 -- what is asked under a number. Under one that is none it is what is always so
 abbrev pub lasting_at : List Lasting → ℕ → Lasting
-lasting_at lasting k = slice_index_or lasting k (record { negated = true; moments = [] })
+lasting_at lasting k = slice_index_or lasting k ([] ∷ [])
 
 -- a run over these places ends so that one of what is asked stays
 abbrev pub WatchedEnds : Setup → List Steps → Rules → List Lasting → ℕ → List ℕ → Type 0

@@ -5,15 +5,13 @@
 #![tactic(auto)]
 
 mod items;
-mod lasting;
 mod matching;
 mod question;
 mod refusals;
 mod sight;
 
 pub use items::{Item, Part, Wanted};
-pub use lasting::Lasting;
-pub use matching::allows;
+pub use matching::{allows, has_fact, has_moment};
 pub use question::{Moment, Pattern, Piece, Question, Step};
 pub use refusals::is_code;
 pub use sight::Sight;

@@ -37,7 +37,7 @@ fn stand(pattern: &Pattern, text: &[u8]) -> bool
 }
 
 /// Whether one of some facts is so of the state after an event.
-fn has_fact<S: Sight>(event: &S, asked: &[Asked]) -> bool
+pub fn has_fact<S: Sight>(event: &S, asked: &[Asked]) -> bool
     ensures { result ≡ matching.any (S.sight event.now).is_so asked.now }
 {
     for one in asked {
@@ -82,7 +82,7 @@ fn has_part<S: Sight>(event: &S, part: &Part) -> bool
 }
 
 /// Whether some part of a moment is at an event.
-pub(crate) fn has_moment<S: Sight>(event: &S, moment: &Moment) -> bool
+pub fn has_moment<S: Sight>(event: &S, moment: &Moment) -> bool
     ensures { result ≡ spec.has_moment (S.sight event.now) moment.now }
 {
     for part in moment.parts() {

@@ -18,19 +18,18 @@ use Rattle.fmp_search_question.specs.Waiting.{comma, waits_but}
 use Rattle.fmp_search_question.specs.Reading as reading
 use Rattle.fmp_search_question.specs.WordByWord.{after_words, result_then}
 
--- what was read so far: the complete parts, whether `not` begins the one that is being read, its patterns, and what the words so far end with
+-- what was read so far: the complete parts, the patterns of the one that is being read, and what the words so far end with
 pub record Parts : Type 0 where
   pub lasting : List Lasting
-  pub negated : Bool
   pub draft : reading.Draft
   pub stage : Stage
 
 abbrev pub no_parts : Parts
-no_parts = record { lasting = []; negated = false; draft = reading.nothing_read; stage = stage.Words }
+no_parts = record { lasting = []; draft = reading.nothing_read; stage = stage.Words }
 
 -- nothing was read of the part
 abbrev pub is_fresh : Parts → Bool
-is_fresh d = not d.negated && length d.draft.items == 0 && length d.draft.pattern == 0
+is_fresh d = not d.draft.negated && length d.draft.items == 0 && length d.draft.pattern == 0
 
 -- `for` after the last word of a pattern
 abbrev pub before_ever : Parts → Option reading.Draft → Result Parts QuestionFault
@@ -40,8 +39,7 @@ before_ever d (Some e) = Ok (record d { draft = e; stage = stage.For })
 -- `ever` ends a part
 abbrev pub with_part : Parts → Parts
 with_part d = record d {
-  lasting = d.lasting ++ record { negated = d.negated; moments = (d.draft.items ∷ []) ∷ [] } ∷ [];
-  negated = false;
+  lasting = d.lasting ++ (d.draft.items ∷ []) ∷ [];
   draft = record d.draft { items = [] };
   stage = stage.Ever;
 }
@@ -51,17 +49,15 @@ with_draft d (Err fault) = Err fault
 with_draft d (Ok e) = Ok (record d { draft = e })
 
 -- words of other questions, and those that have no place in a pattern
-abbrev pub is_elsewhere : Bool → List ℕ → Bool
-is_elsewhere negated word =
+abbrev pub is_elsewhere : List ℕ → Bool
+is_elsewhere word =
     bytes_eq word (codes "then") || bytes_eq word (codes "without") || bytes_eq word (codes "times") || bytes_eq word (codes "or") || bytes_eq word (codes "ever")
-    || (negated && bytes_eq word (codes "&"))
 
 -- a word of a part
 unfoldable pub in_part : NameLists → Parts → List ℕ → Result Parts QuestionFault
 in_part names d word =
     if bytes_eq word (codes "for") then before_ever d (reading.with_pattern d.draft)
-    else if bytes_eq word (codes "not") then (if is_fresh d then Ok (record d { negated = true }) else Err BadForm)
-    else if is_elsewhere d.negated word then Err BadForm
+    else if is_elsewhere word then Err BadForm
     else if bytes_eq word (codes "deadlock") && is_fresh d && length d.lasting == 0 then Ok (record d { lasting = waits_but names []; stage = stage.Deadlock })
     else with_draft d (reading.after_word names d.draft word)
 
@@ -71,6 +67,10 @@ is_task names name = is_some (number_of names (Object Task) name)
 
 abbrev pub are_tasks : NameLists → List ℕ → Bool
 are_tasks names word = list_all (is_task names) (pieces_of comma word)
+
+-- those after `but` may wait: some other task is left
+abbrev pub with_others : Parts → List Lasting → Result Parts QuestionFault
+with_others d waits = if length waits == 0 then Err BadForm else Ok (record d { lasting = waits; stage = stage.Named })
 
 -- `ever` after `for`
 abbrev pub ever_in : Parts → List ℕ → Result Parts QuestionFault
@@ -86,7 +86,7 @@ in_stage names d word stage.For = ever_in d word
 in_stage names d word stage.Ever = expected d (bytes_eq word (codes "or")) stage.Words
 in_stage names d word stage.Deadlock = expected d (bytes_eq word (codes "but")) stage.But
 in_stage names d word stage.But =
-    if are_tasks names word then Ok (record d { lasting = waits_but names (pieces_of comma word); stage = stage.Named }) else Err UnknownName
+    if are_tasks names word then with_others d (waits_but names (pieces_of comma word)) else Err UnknownName
 in_stage names d word stage.Named = Err BadForm
 
 -- one word more

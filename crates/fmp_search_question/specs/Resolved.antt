@@ -50,9 +50,6 @@ module _ (names : NameLists) where
   abbrev pub resolved : List Step → List Step
   resolved steps = map resolved_step steps
 
-  abbrev pub resolved_one : Lasting → Lasting
-  resolved_one l = record { negated = l.negated; moments = map resolved_moment l.moments }
-
   -- what stays for ever, by its parts
   abbrev pub resolved_lasting : List Lasting → List Lasting
-  resolved_lasting parts = map resolved_one parts
+  resolved_lasting parts = map resolved_moment parts

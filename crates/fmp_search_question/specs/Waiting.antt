@@ -14,7 +14,7 @@ only words = (record { negated = false; wanted = wanted.Line (words ∷ []) } �
 
 -- that a task waits: a fact of the state, whether it is suspended too or not
 abbrev pub waits : List ℕ → Lasting
-waits name = record { negated = false; moments = only (space ∷ name ++ codes " waits ") ∷ [] }
+waits name = only (space ∷ name ++ codes " waits ")
 
 -- those that are listed after `but`, if it stands there
 abbrev pub comma : ℕ

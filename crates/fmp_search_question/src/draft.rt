@@ -1,5 +1,5 @@
 //! What was read of a question so far.
-ghost use Rattle.std.specs.Prelude.{◌≡◌, ◌≢◌, ◌++◌, ◌∷◌, List, [], Some, None, Ok, Err, IfOk, IfErr, OnOk, replicate, is_some, length, ◌&&◌, ◌==◌, if◌then◌else◌};
+ghost use Rattle.std.specs.Prelude.{◌≡◌, ◌≢◌, ◌++◌, ◌∷◌, List, [], Some, None, Ok, Err, IfOk, IfErr, OnOk, replicate, is_some, length, not, ◌&&◌, ◌==◌, if◌then◌else◌};
 ghost use Rattle.std.specs.Option.{option_and_then};
 ghost use Rattle.fmp_bytes.specs.Bytes.{pieces_of};
 ghost use Rattle.std.specs.List.{list_all};
@@ -174,9 +174,9 @@ impl Draft {
 
     /// Whether no word of a moment was read.
     pub(crate) fn is_fresh(&self) -> bool
-        ensures { result ≡ (length self.now.items == 0 && length self.now.pattern == 0) }
+        ensures { result ≡ (not self.now.negated && length self.now.items == 0 && length self.now.pattern == 0) }
     {
-        self.items.is_empty() && self.pattern.is_empty()
+        !self.negated && self.items.is_empty() && self.pattern.is_empty()
     }
 
     /// Takes the complete items out of the draft, as a moment. The error is want of memory.

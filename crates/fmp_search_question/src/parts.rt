@@ -16,7 +16,7 @@ use crate::stage::Stage;
 use fmp_bytes::cut;
 use fmp_codes::{NameKind, ObjectKind};
 use fmp_names::Names;
-use fmp_search_pattern::{Item, Lasting, Moment, Part, Pattern, Piece, Wanted};
+use fmp_search_pattern::{Item, Moment, Part, Pattern, Piece, Wanted};
 use fmp_search_words::is_printed;
 use std::alloc::{AllocError, Global};
 use std::marker::Model;
@@ -43,12 +43,10 @@ fn words_after(alloc: Global, name: &[u8], words: &[u8]) -> Result<Moment, Alloc
 }
 
 /// That a task waits, suspended or not.
-fn waits(alloc: Global, name: &[u8]) -> Result<Lasting, AllocError>
+fn waits(alloc: Global, name: &[u8]) -> Result<Moment, AllocError>
     ensures { IfOk result (λ l. l ≡ waiting.waits name.now) }
 {
-    let mut moments = Vec::new(alloc);
-    moments.push(words_after(alloc, name, b" waits ")?)?;
-    Ok(Lasting::new(false, moments))
+    words_after(alloc, name, b" waits ")
 }
 
 /// Whether two words are the same.
@@ -108,7 +106,7 @@ fn may_wait(but: Option<&[u8]>, name: &[u8]) -> bool
 /// Puts that a task of this name waits after the others, unless it may. The error is want of memory.
 fn add_unless(
     alloc: Global,
-    lasting: &mut Vec<Lasting>,
+    lasting: &mut Vec<Moment>,
     but: Option<&[u8]>,
     name: &[u8],
 ) -> Result<(), AllocError>
@@ -126,7 +124,7 @@ fn add_unless(
 fn add_at(
     alloc: Global,
     names: &Names,
-    lasting: &mut Vec<Lasting>,
+    lasting: &mut Vec<Moment>,
     but: Option<&[u8]>,
     at: usize,
 ) -> Result<(), AllocError>
@@ -142,7 +140,7 @@ fn add_at(
 }
 
 /// That a task waits, for each but those that may. The error is want of memory.
-fn waits_but(alloc: Global, names: &Names, but: Option<&[u8]>) -> Result<Vec<Lasting>, AllocError>
+fn waits_but(alloc: Global, names: &Names, but: Option<&[u8]>) -> Result<Vec<Moment>, AllocError>
     ensures { IfOk result (λ v. v.items ≡ waiting.waits_but names.now (waiting.listed_in (option_copied but.entry))) }
 {
     names.validity();
@@ -157,8 +155,7 @@ fn waits_but(alloc: Global, names: &Names, but: Option<&[u8]>) -> Result<Vec<Las
 #[derive(Drop)]
 struct Parts {
     alloc: Global,
-    lasting: Vec<Lasting>,
-    negated: bool,
+    lasting: Vec<Moment>,
     draft: Draft,
     stage: Stage,
 }
@@ -168,19 +165,18 @@ impl Model for Parts {
 
     ghost Value = { spec.Parts };
 
-    ghost view = { λ d. record { lasting = d.lasting.items; negated = d.negated; draft = d.draft; stage = d.stage } };
+    ghost view = { λ d. record { lasting = d.lasting.items; draft = d.draft; stage = d.stage } };
 }
 
-/// Whether a word has no place in a part: one of other questions, or `&` after `not`.
-fn is_elsewhere(negated: bool, word: &[u8]) -> bool
-    ensures { result ≡ spec.is_elsewhere negated word.now }
+/// Whether a word has no place in a part: one of other questions.
+fn is_elsewhere(word: &[u8]) -> bool
+    ensures { result ≡ spec.is_elsewhere word.now }
 {
     word == b"then".as_slice()
         || word == b"without".as_slice()
         || word == b"times".as_slice()
         || word == b"or".as_slice()
         || word == b"ever".as_slice()
-        || (negated && word == b"&".as_slice())
 }
 
 impl Parts {
@@ -191,7 +187,6 @@ impl Parts {
         Parts {
             alloc,
             lasting: Vec::new(alloc),
-            negated: false,
             draft: Draft::new(alloc),
             stage: Stage::Words,
         }
@@ -201,7 +196,7 @@ impl Parts {
     fn is_fresh(&self) -> bool
         ensures { result ≡ spec.is_fresh self.now }
     {
-        !self.negated && self.draft.is_fresh()
+        self.draft.is_fresh()
     }
 
     /// `for` after the last word of a pattern.
@@ -221,25 +216,17 @@ impl Parts {
     fn end_part(&mut self) -> Result<(), AllocError>
         ensures { OnOk result (self.new ≡ spec.with_part self.old) }
     {
-        let mut moments = Vec::new(self.alloc);
-        moments.push(self.draft.take_moment()?)?;
-        self.lasting.push(Lasting::new(self.negated, moments))?;
-        self.negated = false;
+        self.lasting.push(self.draft.take_moment()?)?;
         self.stage = Stage::Ever;
         Ok(())
     }
 
-    /// All tasks wait but those that may.
-    fn add_waits(
-        &mut self,
-        names: &Names,
-        but: Option<&[u8]>,
-        stage: Stage,
-    ) -> Result<(), AllocError>
-        ensures { OnOk result (self.new ≡ record self.old { lasting = waiting.waits_but names.now (waiting.listed_in (option_copied but.entry)); stage = stage }) }
+    /// All tasks wait.
+    fn add_waits(&mut self, names: &Names) -> Result<(), AllocError>
+        ensures { OnOk result (self.new ≡ record self.old { lasting = waiting.waits_but names.now []; stage = Stage.Deadlock }) }
     {
-        self.lasting = waits_but(self.alloc, names, but)?;
-        self.stage = stage;
+        self.lasting = waits_but(self.alloc, names, None)?;
+        self.stage = Stage::Deadlock;
         Ok(())
     }
 
@@ -256,19 +243,11 @@ impl Parts {
         if word == b"for".as_slice() {
             return self.add_for();
         }
-        let fresh = self.is_fresh();
-        if word == b"not".as_slice() {
-            if !fresh {
-                return Ok(Some(QuestionFault::BadForm));
-            }
-            self.negated = true;
-            return Ok(None);
-        }
-        if is_elsewhere(self.negated, word) {
+        if is_elsewhere(word) {
             return Ok(Some(QuestionFault::BadForm));
         }
-        if word == b"deadlock".as_slice() && fresh && self.lasting.is_empty() {
-            self.add_waits(names, None, Stage::Deadlock)?;
+        if word == b"deadlock".as_slice() && self.is_fresh() && self.lasting.is_empty() {
+            self.add_waits(names)?;
             return Ok(None);
         }
         self.add_to_draft(names, word)
@@ -286,7 +265,7 @@ impl Parts {
         self.draft.add(names, word)
     }
 
-    /// The names of those that may wait.
+    /// The names of those that may wait. Some other task has to be left.
     fn add_names(&mut self, names: &Names, word: &[u8]) -> Result<Option<QuestionFault>, AllocError>
         ensures report { IfOk result (λ fault. fault ≡ fault_of (spec.in_stage names.now self.old word.now Stage.But)) }
         ensures added { (d : spec.Parts) → spec.in_stage names.now self.old word.now Stage.But ≡ Ok d → OnOk result (self.new ≡ d) }
@@ -294,7 +273,12 @@ impl Parts {
         if !are_tasks(names, word) {
             return Ok(Some(QuestionFault::UnknownName));
         }
-        self.add_waits(names, Some(word), Stage::Named)?;
+        let waits = waits_but(self.alloc, names, Some(word))?;
+        if waits.is_empty() {
+            return Ok(Some(QuestionFault::BadForm));
+        }
+        self.lasting = waits;
+        self.stage = Stage::Named;
         Ok(None)
     }
 
@@ -352,7 +336,7 @@ impl Parts {
     }
 
     /// The parts of the whole, where it is complete.
-    fn end(self, text: &[u8]) -> Result<Vec<Lasting>, ReadFault>
+    fn end(self, text: &[u8]) -> Result<Vec<Moment>, ReadFault>
         ensures ok { IfOk result (λ v. spec.ended (length text.now) self ≡ Ok v.items) }
         ensures err { IfErr result (λ fault. fault ≢ ReadFault.Memory → spec.ended (length text.now) self ≡ Err (reading.report fault)) }
         ensures few { IfOk result (λ v. length v.items ≤ 64) }
@@ -369,7 +353,7 @@ impl Parts {
 
 /// The parts of a question of what stays for ever as it is written, each pattern as one of a record, or its first fault.
 #[tactic(auto, unfolding(crate::specs::Lasting::written_in))]
-fn read_written(alloc: Global, names: &Names, text: &[u8]) -> Result<Vec<Lasting>, ReadFault>
+fn read_written(alloc: Global, names: &Names, text: &[u8]) -> Result<Vec<Moment>, ReadFault>
     ensures ok { IfOk result (λ v. spec.written_in names.now text.now ≡ Ok v.items) }
     ensures err { IfErr result (λ fault. fault ≢ ReadFault.Memory → spec.written_in names.now text.now ≡ Err (reading.report fault)) }
     ensures few { IfOk result (λ v. length v.items ≤ 64) }
@@ -389,7 +373,7 @@ fn read_written(alloc: Global, names: &Names, text: &[u8]) -> Result<Vec<Lasting
 
 /// The parts of a question of what stays for ever, over a configuration with these names, or its first fault.
 #[tactic(auto, unfolding(crate::specs::Lasting::lasting_in))]
-pub fn read_lasting(alloc: Global, names: &Names, text: &[u8]) -> Result<Vec<Lasting>, ReadFault>
+pub fn read_lasting(alloc: Global, names: &Names, text: &[u8]) -> Result<Vec<Moment>, ReadFault>
     ensures ok { IfOk result (λ v. spec.lasting_in names.now text.now ≡ Ok v.items) }
     ensures err { IfErr result (λ fault. fault ≢ ReadFault.Memory → spec.lasting_in names.now text.now ≡ Err (reading.report fault)) }
     ensures few { IfOk result (λ v. length v.items ≤ 64) }

@@ -9,7 +9,7 @@ use crate::place::{is_end, words_of};
 use fmp_fact_words::{asked_by, may_ask};
 use fmp_facts::Choice;
 use fmp_names::Names;
-use fmp_search_pattern::{Item, Lasting, Moment, Part, Pattern, Piece, Question, Step, Wanted};
+use fmp_search_pattern::{Item, Moment, Part, Pattern, Piece, Question, Step, Wanted};
 use std::alloc::{AllocError, Global};
 
 /// The bytes of a pattern: its pieces, with a star between each two. The error is want of memory.
@@ -149,40 +149,17 @@ pub fn resolved(alloc: Global, names: &Names, question: &Question) -> Result<Que
     Ok(Question::new(steps))
 }
 
-/// Moments. The error is want of memory.
-fn resolved_moments(
-    alloc: Global,
-    names: &Names,
-    moments: &[Moment],
-) -> Result<Vec<Moment>, AllocError>
-    ensures { IfOk result (λ v. v.items ≡ map (spec.resolved_moment names.now) moments.now) }
-{
-    let mut resolved = Vec::new(alloc);
-    for moment in moments {
-        resolved.push(resolved_moment(alloc, names, moment)?)?;
-    }
-    Ok(resolved)
-}
-
-/// A part of what stays for ever. The error is want of memory.
-fn resolved_one(alloc: Global, names: &Names, part: &Lasting) -> Result<Lasting, AllocError>
-    ensures { IfOk result (λ l. l ≡ spec.resolved_one names.now part.now) }
-{
-    let moments = resolved_moments(alloc, names, part.moments())?;
-    Ok(Lasting::new(part.is_negated(), moments))
-}
-
 /// What stays for ever, with its patterns resolved, over a configuration with these names. The error is want of memory.
 pub fn resolved_lasting(
     alloc: Global,
     names: &Names,
-    parts: &[Lasting],
-) -> Result<Vec<Lasting>, AllocError>
+    parts: &[Moment],
+) -> Result<Vec<Moment>, AllocError>
     ensures { IfOk result (λ v. v.items ≡ spec.resolved_lasting names.now parts.now) }
 {
     let mut resolved = Vec::new(alloc);
     for part in parts {
-        resolved.push(resolved_one(alloc, names, part)?)?;
+        resolved.push(resolved_moment(alloc, names, part)?)?;
     }
     Ok(resolved)
 }

@@ -8,6 +8,7 @@
 mod beside;
 mod layer;
 mod lines;
+mod never_so;
 mod output;
 mod patterns;
 mod progress;
@@ -233,7 +234,7 @@ fn explore<R: Files + Input + Print + Eprint + Clock + AllocGlobal>(
     }
     line.allow_as_much();
     unshown::tell(rt, "question", &outcome, request, line);
-    unmade::tell_calls_unmade(rt, "question", &outcome, request.bounds, line);
+    unmade::tell_unmade_beside(rt, "question", &outcome, request.bounds, line);
     Ok(outcome.finding.status())
 }
 
@@ -257,7 +258,8 @@ fn explore_forever<R: Files + Input + Print + Eprint + Clock + AllocGlobal>(
         line,
     );
     let stayed = kept(settled_search(run, output.is_closed()), config)?;
-    staying::tell_stayed(rt, &stayed);
+    line.allow_as_much();
+    staying::tell_stayed(rt, &stayed, request.bounds, line);
     Ok(stayed.staying.status())
 }
 
@@ -322,6 +324,16 @@ fn tell_begun<R: Files + Eprint>(rt: &R, path: &str, line: LineForm, run: &Resul
     }
 }
 
+/// Tells how many ticks and lines an order may have where the request says nothing of them.
+fn tell_bounds<R: Eprint>(rt: &R, request: &ExploreRequest<'_>) {
+    if !request.says_ticks {
+        let _ = eprintln!(rt; "fmpsim: --ticks any, since no number is given");
+    }
+    if !request.says_turns {
+        let _ = eprintln!(rt; "fmpsim: --turns 1000000, since no number is given");
+    }
+}
+
 /// How a search ends the program. A fault is told.
 fn explored<R: Files + Input + Print + Eprint + Clock + AllocGlobal>(
     rt: &R,
@@ -338,6 +350,7 @@ fn explored<R: Files + Input + Print + Eprint + Clock + AllocGlobal>(
         line,
         text: TextForm::Scripts,
     };
+    tell_bounds(rt, request);
     let report = ProgressForm::at(is_terminal, request.progress);
     let seconds = request.seconds.map(u64::from);
     let mut progress = ProgressLine::new(rt, report, seconds);

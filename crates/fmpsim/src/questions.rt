@@ -357,7 +357,7 @@ fn tell_unmade<R: Eprint + Clock + AllocGlobal>(
 ) {
     for outcome in outcomes.iter().flatten().take(1) {
         let bounds = asking.request.bounds;
-        unmade::tell_calls_unmade(rt, "questions", outcome, bounds, progress);
+        unmade::tell_unmade_beside(rt, "questions", outcome, bounds, progress);
     }
 }
 

@@ -4,7 +4,7 @@ use crate::progress::ProgressLine;
 use fmp_cli_explore::Bounds;
 use fmp_codes::{Event, NameKind, Proc};
 use fmp_names::Names;
-use fmp_run_explore::{Extent, Finding, Layer, Met, Outcome, Progress, is_made};
+use fmp_run_explore::{Extent, Finding, Met, Orders, Outcome, Progress, is_made};
 use fmp_trace::put_event;
 use std::alloc::{AllocError, Global};
 use std::rt::Clock;
@@ -22,12 +22,12 @@ const POSITIONS: u32 = 256;
 fn put_call_line(
     out: &mut Vec<u8>,
     alloc: Global,
-    layer: &Layer,
+    orders: Orders<'_>,
     function: u8,
     position: u32,
 ) -> Result<(), AllocError> {
-    let names = layer.names();
-    if let Some(call) = layer.scripts().step(Some(function), position) {
+    let names = orders.config.names();
+    if let Some(call) = orders.scripts.step(Some(function), position) {
         let number = position.saturating_add(1);
         out.extend_from_slice(format!(in alloc; "call {number} of ")?.as_bytes())?;
         put_name(out, names, function)?;
@@ -46,12 +46,12 @@ fn put_name(out: &mut Vec<u8>, names: &Names, function: u8) -> Result<(), AllocE
 /// Adds the calls of a function's script that have no mark.
 fn add_unmade(
     calls: &mut Vec<(u8, u32)>,
-    layer: &Layer,
+    orders: Orders<'_>,
     met: &Met,
     function: u8,
 ) -> Result<(), AllocError> {
     for position in 0..POSITIONS {
-        let is_there = layer.scripts().step(Some(function), position).is_some();
+        let is_there = orders.scripts.step(Some(function), position).is_some();
         if is_there && !is_made(met, function, position) {
             calls.push((function, position))?;
         }
@@ -60,10 +60,10 @@ fn add_unmade(
 }
 
 /// The calls of all scripts that have no mark: each its function and its position.
-fn unmade_calls(alloc: Global, layer: &Layer, met: &Met) -> Result<Vec<(u8, u32)>, AllocError> {
+fn unmade_calls(alloc: Global, orders: Orders<'_>, met: &Met) -> Result<Vec<(u8, u32)>, AllocError> {
     let mut calls = Vec::new(alloc);
     for function in 0..=u8::MAX {
-        add_unmade(&mut calls, layer, met, function)?;
+        add_unmade(&mut calls, orders, met, function)?;
     }
     Ok(calls)
 }
@@ -82,13 +82,13 @@ fn tell_call<R: Eprint>(rt: &R, asked: &str, call: &str, within: Option<u32>) {
 fn tell_calls<R: Eprint + AllocGlobal>(
     rt: &R,
     asked: &str,
-    layer: &Layer,
+    orders: Orders<'_>,
     calls: &[(u8, u32)],
     within: Option<u32>,
 ) -> Result<(), AllocError> {
     for (function, position) in calls.iter().take(MOST_CALLS) {
         let mut line = Vec::new(rt.alloc());
-        put_call_line(&mut line, rt.alloc(), layer, *function, *position)?;
+        put_call_line(&mut line, rt.alloc(), orders, *function, *position)?;
         if let Ok(call) = str::from_utf8(line.as_slice()) {
             tell_call(rt, asked, call, within);
         }
@@ -116,13 +116,13 @@ pub fn tell_extent<R: Eprint>(rt: &R, asked: &str, extent: Extent, all: bool) {
 fn tell_met<R: Eprint + AllocGlobal>(
     rt: &R,
     asked: &str,
-    layer: &Layer,
+    orders: Orders<'_>,
     met: &Met,
     turns: u32,
 ) -> Result<(), AllocError> {
-    let calls = unmade_calls(rt.alloc(), layer, met)?;
+    let calls = unmade_calls(rt.alloc(), orders, met)?;
     let within = if met.whole { None } else { Some(turns) };
-    tell_calls(rt, asked, layer, calls.as_slice(), within)
+    tell_calls(rt, asked, orders, calls.as_slice(), within)
 }
 
 /// Whether the search used up the room for places, and that for the calls would, too. A question of one step without `without` lets both go through the same places.
@@ -142,30 +142,30 @@ fn has_no_room(outcome: &Outcome, room: u32) -> bool {
 /// Which calls are made, where all of them are made by a part of the lines to the farthest place of a search. Few places are that near.
 fn all_met_soon<P: Progress>(
     alloc: Global,
-    layer: &Layer,
+    orders: Orders<'_>,
     extent: Extent,
     bounds: Bounds,
     progress: &mut P,
 ) -> Result<Option<Met>, AllocError> {
     let soon = bounds.turns.min(extent.farthest / SOON);
-    let Some(met) = layer.made(alloc, progress, soon, bounds.places)? else {
+    let Some(met) = orders.made(alloc, progress, soon, bounds.places)? else {
         return Ok(None);
     };
-    let is_all = unmade_calls(alloc, layer, &met)?.is_empty();
+    let is_all = unmade_calls(alloc, orders, &met)?.is_empty();
     Ok(is_all.then_some(met))
 }
 
 /// Which calls are made, as far as that is known in time. The orders are not gone through to their ends where each call is made before.
 fn calls_met<P: Progress>(
     alloc: Global,
-    layer: &Layer,
+    orders: Orders<'_>,
     extent: Extent,
     bounds: Bounds,
     progress: &mut P,
 ) -> Result<Option<Met>, AllocError> {
-    match all_met_soon(alloc, layer, extent, bounds, progress)? {
+    match all_met_soon(alloc, orders, extent, bounds, progress)? {
         Some(met) => Ok(Some(met)),
-        None => layer.made(alloc, progress, bounds.turns, bounds.places),
+        None => orders.made(alloc, progress, bounds.turns, bounds.places),
     }
 }
 
@@ -173,20 +173,32 @@ fn calls_met<P: Progress>(
 pub fn tell_calls_unmade<R: Eprint + Clock + AllocGlobal>(
     rt: &R,
     asked: &str,
+    orders: Orders<'_>,
+    extent: Extent,
+    bounds: Bounds,
+    progress: &mut ProgressLine<'_, R>,
+) {
+    if Progress::is_over(progress) {
+        return;
+    }
+    let found = calls_met(rt.alloc(), orders, extent, bounds, progress);
+    Progress::end(progress);
+    if let Ok(Some(met)) = found {
+        let _ = tell_met(rt, asked, orders, &met, bounds.turns);
+    }
+}
+
+/// Likewise of what a search found, unless the room for places does not do.
+pub fn tell_unmade_beside<R: Eprint + Clock + AllocGlobal>(
+    rt: &R,
+    asked: &str,
     outcome: &Outcome,
     bounds: Bounds,
     progress: &mut ProgressLine<'_, R>,
 ) {
-    let Some(extent) = outcome.extent else {
-        return;
-    };
-    if has_no_room(outcome, bounds.places) || Progress::is_over(progress) {
-        return;
-    }
-    let layer = &outcome.layer;
-    let found = calls_met(rt.alloc(), layer, extent, bounds, progress);
-    Progress::end(progress);
-    if let Ok(Some(met)) = found {
-        let _ = tell_met(rt, asked, layer, &met, bounds.turns);
+    if let Some(extent) = outcome.extent {
+        if !has_no_room(outcome, bounds.places) {
+            tell_calls_unmade(rt, asked, outcome.layer.orders(), extent, bounds, progress);
+        }
     }
 }

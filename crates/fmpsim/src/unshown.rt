@@ -1,4 +1,5 @@
 //! What is told beside `never`: how many steps of the question come in some order, and whether an event has the patterns of the next one.
+use crate::never_so::tell_fact;
 use crate::patterns::put_item;
 use crate::progress::ProgressLine;
 use fmp_cli_explore::{Bounds, ExploreRequest};
@@ -8,24 +9,19 @@ use fmp_search_question::read_question;
 use std::alloc::{AllocError, Global};
 use std::rt::Clock;
 
-/// Whether a moment is one pattern.
-fn is_one_pattern(moment: &Moment) -> bool {
-    match moment.parts() {
-        [part] => part.items().len() == 1,
-        _ => false,
+/// The item that is all of a step.
+fn only_item(step: &Step) -> Option<&Item> {
+    match (&step.without, step.moment.parts()) {
+        (None, [part]) if part.items().len() == 1 => part.items().first(),
+        _ => None,
     }
 }
 
-/// Whether a step is one pattern.
-fn is_alone(step: &Step) -> bool {
-    step.without.is_none() && is_one_pattern(&step.moment)
-}
-
-/// Whether a question is one pattern: of it `never` says everything.
-fn is_plain(question: &Question) -> bool {
+/// The item that is all of a question: of it `never` says everything.
+fn plain_item(question: &Question) -> Option<&Item> {
     match question.steps() {
-        [step] => is_alone(step),
-        _ => false,
+        [step] => only_item(step),
+        _ => None,
     }
 }
 
@@ -105,14 +101,6 @@ fn asks_spurious(alloc: Global, question: &Question) -> bool {
         .any(|step| has_step_spurious(alloc, step))
 }
 
-/// Whether something is told of what was found: of a question that no order shows, and that is more than one pattern or asks for interrupts which
-/// change nothing.
-fn is_reported(alloc: Global, outcome: &Outcome) -> bool {
-    let question = outcome.layer.question();
-    matches!(outcome.finding, Finding::Never)
-        && (!is_plain(question) || asks_spurious(alloc, question))
-}
-
 /// How many steps come of a question that no order shows, where that is known.
 fn steps_come<P: Progress>(
     alloc: Global,
@@ -186,7 +174,7 @@ fn tell_patterns<R: Eprint + Clock + AllocGlobal>(
     let Some(step) = layer.question().steps().get(come) else {
         return;
     };
-    let is_known = come == 0 && is_alone(step);
+    let is_known = come == 0 && only_item(step).is_some();
     let patterns = patterns_of(rt.alloc(), &step.moment).unwrap_or(Vec::new(rt.alloc()));
     for pattern in patterns.iter() {
         let has = if is_known {
@@ -196,6 +184,18 @@ fn tell_patterns<R: Eprint + Clock + AllocGlobal>(
         };
         Progress::end(progress);
         tell_pattern(rt, asked, pattern.as_slice(), has);
+        if has == Some(false) {
+            tell_of_pattern(rt, asked, layer, pattern.as_slice());
+        }
+    }
+}
+
+/// Tells of a pattern that no event has why that is so, where it is for what the configuration says.
+fn tell_of_pattern<R: Eprint + AllocGlobal>(rt: &R, asked: &str, layer: &Layer, pattern: &[u8]) {
+    if let Ok(question) = read_question(rt.alloc(), layer.names(), pattern) {
+        if let Some(item) = plain_item(&question) {
+            tell_fact(rt, asked, layer, item);
+        }
     }
 }
 
@@ -228,16 +228,18 @@ pub fn tell<R: Eprint + Clock + AllocGlobal>(
     progress: &mut ProgressLine<'_, R>,
 ) {
     let question = outcome.layer.question();
-    if !is_reported(rt.alloc(), outcome) {
+    if !matches!(outcome.finding, Finding::Never) {
         return;
     }
+    Progress::end(progress);
     if !request.spurious && asks_spurious(rt.alloc(), question) {
-        Progress::end(progress);
         let _ = eprintln!(rt;
             "fmpsim: {asked}: only with --spurious orders have 'ipi none' and 'ipi held'"
         );
     }
-    if !is_plain(question) && !Progress::is_over(progress) {
-        tell_unshown(rt, asked, outcome, request.bounds, progress);
+    match plain_item(question) {
+        Some(item) => tell_fact(rt, asked, &outcome.layer, item),
+        None if Progress::is_over(progress) => {}
+        None => tell_unshown(rt, asked, outcome, request.bounds, progress),
     }
 }

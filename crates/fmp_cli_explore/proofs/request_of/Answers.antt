@@ -1,6 +1,11 @@
-use Rattle.std.proofs.Common.{ℕ, List, Option, subst}
-use Rattle.fmp_cli_explore.specs.Explore.{IsBound, IsQuestion, IsTicks}
+use Rattle.std.proofs.Common.{◌≡◌, ◌∙◌, ℕ, List, Option, None, Some, refl, ap, subst}
+use Rattle.std.specs.Prelude.{is_some, option_map}
+use Rattle.fmp_cli_explore.specs.Explore.{IsBound, IsQuestion, IsTickLimit}
 use Rattle.fmp_cli_explore.proofs.request_of.Goals as goal
+
+some_mapped : {A B : Type 0} (f : A → B) (o : Option A) → is_some o ≡ is_some (option_map f o)
+some_mapped f None = refl
+some_mapped f (Some a) = refl
 
 pub returns : goal.returns
 returns c = record {
@@ -8,16 +13,18 @@ returns c = record {
   scripts = c.text_in-scripts.ensures;
   question = subst (λ (o : Option (List ℕ)). IsQuestion o c.question_in-question.result.now) c.option_in-find.ensures c.question_in-question.ensures;
   find = c.option_in-find.ensures;
-  ticks = subst (λ (t : List ℕ). IsTicks t c.in_ok-ticks.ticks) c.text_in.ensures c.in_ok-ticks.ensures;
+  ticks = subst (λ (o : Option (List ℕ)). IsTickLimit o c.in_ok-ticks.ticks) c.option_in-limit.ensures c.in_ok-ticks.ensures;
+  says_ticks = c.is_some-says_ticks.ensures ∙ some_mapped _ c.option_in-limit.result ∙ ap is_some c.option_in-limit.ensures;
   prompt = c.flag_in-prompt.ensures;
-  drift = subst (λ (o : Option (List ℕ)). IsBound o c.in_ok-drift.drift) c.option_in.ensures c.in_ok-drift.ensures;
-  pace = subst (λ (o : Option (List ℕ)). IsBound o c.in_ok-pace.pace) c.option_in-2.ensures c.in_ok-pace.ensures;
+  drift = subst (λ (o : Option (List ℕ)). IsBound o c.in_ok-drift.drift) c.option_in-2.ensures c.in_ok-drift.ensures;
+  pace = subst (λ (o : Option (List ℕ)). IsBound o c.in_ok-pace.pace) c.option_in-3.ensures c.in_ok-pace.ensures;
   spurious = c.flag_in-spurious.ensures;
   turns = c.in_ok-bounds.ensures.turns;
+  says_turns = c.is_some-says_turns.ensures ∙ some_mapped _ c.option_in.result ∙ ap is_some c.option_in.ensures;
   places = c.in_ok-bounds.ensures.places;
   from = c.option_in-from.ensures;
   layer = c.option_in-layer.ensures;
-  seconds = subst (λ (o : Option (List ℕ)). IsBound o c.in_ok-seconds.seconds) c.option_in-3.ensures c.in_ok-seconds.ensures;
+  seconds = subst (λ (o : Option (List ℕ)). IsBound o c.in_ok-seconds.seconds) c.option_in-4.ensures c.in_ok-seconds.ensures;
   questions = c.option_in-questions.ensures;
   tap = c.flag_in-tap.ensures;
   junit = c.option_in-junit.ensures;

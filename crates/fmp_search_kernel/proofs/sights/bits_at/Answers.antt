@@ -25,7 +25,7 @@ loop-at-preserved c =
       within = omega (arith, within);
       bits =
           c.with_bit-bits.ensures
-          ∙ ap (λ (b : Bool). cond b 1 0 + 2 * c.loop-at.bits) (c.is_so-so.ensures ∙ ap f c.index-lasting-at.is)
+          ∙ ap (λ (b : Bool). cond b 1 0 + 2 * c.loop-at.bits) (c.has_moment-so.ensures ∙ ap f c.index-lasting-at.is)
           ∙ ap (λ (n : ℕ). cond (f (get_or xs (c.loop-at.at - 1) c.index-lasting-at.result)) 1 0 + 2 * n) c.loop-at.invariant.bits
           ∙ one_bit f xs c.loop-at.at c.loop-at-test.true within c.index-lasting-at.result;
     }

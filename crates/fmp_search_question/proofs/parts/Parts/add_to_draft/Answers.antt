@@ -16,7 +16,7 @@ returns-clause-added c d is =
     let draft = ap (λ (p : spec.Parts). reading.after_word c.args.names.now p.draft c.args.word.now) c.self.view_is in
     on_ok c.add.result _ _
     (λ same.
-    ap (λ (x : reading.Draft). record { lasting = c.self.inside.lasting.items; negated = c.self.inside.negated; draft = x; stage = c.self.inside.stage }) same
+    ap (λ (x : reading.Draft). record { lasting = c.self.inside.lasting.items; draft = x; stage = c.self.inside.stage }) same
     ∙ ap (λ (p : spec.Parts). record p { draft = ok.0 }) c.self.view_is
     ∙ sym ok.2)
     (c.add.ensures.added ok.0 (draft ∙ ok.1))
