@@ -30,9 +30,7 @@ searches() {
     questions_of_the_pages
     tells_how_far
     ends_in_time
-    # no room for a table of a hundred million places
-    memory=400000 run 4 /dev/null "$(as_file echo fmpsim: want of memory)" \
-        explore "$folder/machine.cfg" "$folder/scripts.txt" --ticks 0 --turns 100 --find E_PAR --places 100000000
+    takes_memory_for_places
 }
 
 # asks FOLDER: each question of the folder is answered as its line says: those of questions.txt about scripts.txt, and those of NAME-questions.txt
@@ -432,6 +430,18 @@ tells_how_far() {
     well=no
     counts_up 's/^fmpsim: at seed ([0-9]+), ([0-9]+) s$/\1 \2/' "${words[@]}" && well=yes
     count "$well" "${words[@]}" --progress '# on a pipe'
+}
+
+# takes_memory_for_places: room for a hundred million places takes no memory where there are few, and a search that has no memory for more of them says so.
+takes_memory_for_places() {
+    local folder=$top/examples/explore-lock-order words=(--turns 1000000 --find E_PAR) well=no
+    memory=40000 run 0 "$(as_file echo never)" /dev/null explore "$folder/machine.cfg" "$folder/scripts.txt" --ticks 0 "${words[@]}" --places 100000000
+    folder=$top/examples/explore-philosophers
+    words=(explore "$folder/machine.cfg" "$folder/scripts.txt" --ticks 900000 "${words[@]}")
+    memory=12000 play "${words[@]}" --places 1000
+    [ $? = 6 ] && well=yes
+    count "$well" "${words[@]}" --places 1000 '# in the memory in which there is none for more'
+    memory=12000 run 4 /dev/null "$(as_file echo fmpsim: want of memory)" "${words[@]}" --places 100000000
 }
 
 # A search that ends after two seconds, and not before, says so of the lines that it has gone through, and leaves nothing to go on from. One that is done before says what it says

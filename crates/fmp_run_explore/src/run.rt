@@ -23,7 +23,7 @@ use std::alloc::Global;
 /// Reads a configuration and scripts, goes through every order of what may happen by these rules, and writes whether one of them shows
 /// what the question asks.
 ///
-/// It looks at orders of at most so many lines, and has room for so many places, each of which takes 24 bytes. Where the room does not do it
+/// It looks at orders of at most so many lines, and has room for so many places, each of which takes 24 to 32 bytes. Where the room does not do it
 /// says for how many lines it did, and all of it was used. It tells `progress` how far it has come, which may end it.
 pub fn run_explore<R: Source, S: Source, W: Sink, P: Progress>(
     alloc: Global,

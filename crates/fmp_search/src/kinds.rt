@@ -2,7 +2,7 @@
 ghost use Rattle.std.specs.Prelude.{◌≡◌, ◌<◌, ◌++◌, ◌∷◌, ◌^◌, [], ℕ, true, length, slice_get, Some, IfOk, IfSome, OnOk};
 ghost use Rattle.fmp_search.specs.Kinds.{AreKindsOf};
 
-use crate::table::{NOBODY, put, slot};
+use crate::table::{LEAST, NOBODY, put, slot};
 use std::alloc::{AllocError, Global};
 
 /// The number of a step, and the tests that it passes.
@@ -87,7 +87,7 @@ impl Kinds {
         None
     }
 
-    /// Makes the table larger, where it is half full. The error is want of memory.
+    /// Makes the table twice as large, where it is half full. The error is want of memory.
     fn make_room(&mut self, alloc: Global) -> Result<(), AllocError>
         requires { length self.old.all.items < 2 ^ 32 }
         ensures { self.new.all ≡ self.old.all }
@@ -96,7 +96,7 @@ impl Kinds {
         if self.all.len() < slots / 2 {
             return Ok(());
         }
-        self.table = table_of(alloc, &self.all, 2 * self.all.len() + 64)?;
+        self.table = table_of(alloc, &self.all, 4 * self.all.len() + LEAST)?;
         Ok(())
     }
 

@@ -6,10 +6,10 @@ ghost use Rattle.fmp_search.specs.Trees.{found_at, IsAt, IsTree};
 use crate::cache::{Cached, go_to};
 use crate::nodes::Node;
 use crate::space::Space;
-use crate::table::{NOBODY, put, slot};
+use crate::table::{LEAST, NOBODY, clear_for, put, slot};
 use std::alloc::{AllocError, Global};
 
-/// The nodes, of which there are at most so many, and a table of the numbers of places, each near the slot that its hash names.
+/// The nodes, of which there are at most so many, and a table of the numbers of places, each near the slot that its hash names. Both grow with the places.
 #[derive(Drop)]
 pub(crate) struct Store {
     pub(crate) nodes: Vec<Node>,
@@ -20,13 +20,23 @@ pub(crate) struct Store {
     ghost small: { length nodes.items < 2 ^ 32 },
 }
 
+/// Puts the places of these nodes into a table, and the first one, which has none, by its hash.
+fn put_all(table: &mut [u32], first: u64, nodes: &[Node])
+    requires { length nodes.now < 2 ^ 32 }
+{
+    put(table, first, 0);
+    for at in 0..nodes.len() {
+        put(table, nodes[at].hash, at as u32 + 1);
+    }
+}
+
 impl Store {
-    /// A store of no place but where all runs begin, with room for so many more.
+    /// A store of no place but where all runs begin, to which at most so many more may be added.
     pub(crate) fn new(alloc: Global, hash: u64, most: u32) -> Result<Store, AllocError>
         ensures empty { IfOk result (λ s. s.nodes.items ≡ []) }
         ensures room { IfOk result (λ s. s.most ≡ most) }
     {
-        let mut table = vec![in alloc; NOBODY; 2 * most as usize + 2]?;
+        let mut table = vec![in alloc; NOBODY; LEAST]?;
         put(&mut table, hash, 0);
         Ok(Store {
             nodes: Vec::new(alloc),
@@ -50,12 +60,28 @@ impl Store {
         self.nodes.len() >= self.most as usize
     }
 
+    /// Makes the table larger where it is half full: twice as large, but not larger than that of as many places as there may be. The error is want of memory.
+    fn make_room(&mut self) -> Result<(), AllocError>
+        ensures nodes { self.new.nodes ≡ self.old.nodes }
+        ensures room { self.new.most ≡ self.old.most }
+    {
+        let count = self.nodes.len();
+        if count < self.table.len() / 2 {
+            return Ok(());
+        }
+        let slots = (4 * count + LEAST).min(2 * self.most as usize + 2);
+        clear_for(&mut self.table, slots)?;
+        put_all(&mut self.table, self.first, &self.nodes);
+        Ok(())
+    }
+
     /// Adds a place after the others, which the table then has too. The error is want of memory.
     pub(crate) fn push(&mut self, node: Node) -> Result<(), AllocError>
         requires { length self.old.nodes.items < self.old.most }
         ensures more { IfOk result (λ done. self.new.nodes.items ≡ self.old.nodes.items ++ node ∷ []) }
         ensures room { self.new.most ≡ self.old.most }
     {
+        self.make_room()?;
         let place = self.nodes.len() as u32 + 1;
         self.nodes.push(node)?;
         put(&mut self.table, node.hash, place);
