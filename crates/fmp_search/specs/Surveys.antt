@@ -1,5 +1,5 @@
 -- What was gone through.
-use Rattle.std.specs.Prelude.{◌≡◌, ◌⊎◌, ℕ, ◌+◌, ◌<◌, ◌≤◌, Bool, true, Option, Some, List, length}
+use Rattle.std.specs.Prelude.{◌≡◌, ◌⊎◌, ℕ, ◌+◌, ◌<◌, ◌≤◌, ◌^◌, Bool, true, Option, Some, List, length}
 use Rattle.fmp_search.specs.declared.layer.Layer.{Layer}
 use Rattle.fmp_search.specs.declared.layer.Layer.TheVariants as layer
 use Rattle.fmp_search.specs.declared.nodes.Node.{Node}
@@ -37,6 +37,7 @@ GoesSo after wanted q turns room nodes n opened layer.Done = IsThrough after wan
 -- the places are those of all runs of so many steps, and the edges between them are there, if they are kept; and where steps were all tried, the marks of what was
 -- told of them
 pub record IsSurveyed {P : Type 0} (after : P → ℕ → Option P) (passes : P → ℕ → ℕ) (q : P) (s : Survey) : Type 0 where
-  pub found : AreFound after q s.depth s.store.nodes.items
-  pub charted : s.chart.kept ≡ true → IsCharted after passes q s.store.nodes.items s.chart
-  pub noted : s.how ≡ layer.Done → AreNoted after passes q s.store.nodes.items s.chart.marks.items s.chart.opened 0
+  pub found : AreFound after q s.depth s.nodes.items
+  pub charted : s.chart.kept ≡ true → IsCharted after passes q s.nodes.items s.chart
+  pub noted : s.how ≡ layer.Done → AreNoted after passes q s.nodes.items s.chart.marks.items s.chart.opened 0
+  pub small : length s.nodes.items < 2 ^ 32

@@ -53,7 +53,7 @@ pub fn explore_measured<W: Space + Drop, P: Progress>(
 {
     let Survey {
         how,
-        store,
+        nodes,
         chart,
         depth,
     } = go_through(
@@ -62,19 +62,19 @@ pub fn explore_measured<W: Space + Drop, P: Progress>(
     match how {
         Layer::Found(steps) => Ok((Answer::Found(steps), Roots::none(alloc), None)),
         Layer::Full => {
-            let extent = extent_of(alloc, &store.nodes)?;
+            let extent = extent_of(alloc, &nodes)?;
             Ok((Answer::NotWithin(depth), Roots::none(alloc), Some(extent)))
         }
         Layer::Over => {
-            let extent = extent_of(alloc, &store.nodes)?;
+            let extent = extent_of(alloc, &nodes)?;
             Ok((Answer::Ended(depth), Roots::none(alloc), Some(extent)))
         }
         Layer::Done => {
-            let extent = extent_of(alloc, &store.nodes)?;
-            if chart.opened == store.count() {
+            let extent = extent_of(alloc, &nodes)?;
+            if chart.opened == nodes.len() + 1 {
                 return Ok((Answer::Never, Roots::none(alloc), Some(extent)));
             }
-            let roots = Roots::of(store.nodes, chart.opened);
+            let roots = Roots::of(nodes, chart.opened);
             Ok((Answer::NotWithin(depth), roots, Some(extent)))
         }
     }

@@ -37,7 +37,7 @@ pub fn meet<W: Space + Drop, P: Progress>(
 {
     let Survey {
         how,
-        store,
+        nodes,
         chart,
         ..
     } = go_through(
@@ -45,7 +45,7 @@ pub fn meet<W: Space + Drop, P: Progress>(
     )?;
     match how {
         Layer::Done => Ok(Some(Met {
-            whole: chart.opened == store.count(),
+            whole: chart.opened == nodes.len() + 1,
             marks: chart.marks,
         })),
         _ => Ok(None),

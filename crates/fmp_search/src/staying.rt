@@ -279,12 +279,12 @@ pub fn for_ever<W: Space + Drop, P: Progress>(
     let found = go_through(
         alloc, walker, base, other, trunk, progress, turns, most, true, 0,
     )?;
-    let extent = extent_of(alloc, &found.store.nodes)?;
+    let extent = extent_of(alloc, &found.nodes)?;
     let depth = found.depth;
     match found.how {
         Layer::Over => Ok((Stay::NotKnown(depth), extent)),
         _ => {
-            let nodes = &found.store.nodes;
+            let nodes = &found.nodes;
             let stay = report_of(alloc, walker, nodes, &found.chart, tests, depth)?;
             Ok((stay, extent))
         }

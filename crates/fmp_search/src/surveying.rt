@@ -6,28 +6,29 @@ ghost use Rattle.fmp_search.specs.Growth.{IsOverBy};
 use crate::cache::first_cached;
 use crate::chart::Chart;
 use crate::layer::{Front, Layer, open_layer};
+use crate::nodes::Node;
 use crate::progress::Progress;
 use crate::space::Space;
 use crate::store::Store;
 use std::alloc::{AllocError, Global};
 
 /// What came of going through places: how the last layer went, the places that were found, and how many of the first were opened, with the edges from
-/// there. All places of runs of at most so many steps are among them.
+/// there. All places of runs of at most so many steps are among them. The table by which they were found again is gone.
 #[derive(Drop)]
 pub(crate) struct Survey {
     pub(crate) how: Layer,
-    pub(crate) store: Store,
+    pub(crate) nodes: Vec<Node>,
     pub(crate) chart: Chart,
     pub(crate) depth: u32,
 }
 
 impl Survey {
     fn of(how: Layer, store: Store, chart: Chart, depth: u32) -> Survey
-        ensures { result ≡ record { how = how; store = store; chart = chart; depth = depth } }
+        ensures { result ≡ record { how = how; nodes = store.nodes; chart = chart; depth = depth } }
     {
         Survey {
             how,
-            store,
+            nodes: store.nodes,
             chart,
             depth,
         }
@@ -52,7 +53,7 @@ pub(crate) fn go_through<W: Space + Drop, P: Progress>(
     requires origins { (W.origin base.old ≡ W.origin walker.old) × (W.origin other.old ≡ W.origin walker.old) × (W.origin trunk.old ≡ W.origin walker.old) }
     requires turns { turns < 2 ^ 31 }
     ensures surveyed { IfOk result (λ s. IsSurveyed W.after W.passes (W.origin walker.old) s) }
-    ensures through { IfOk result (λ s. GoesSo W.after W.wanted (W.origin walker.old) turns most s.store.nodes.items s.depth s.chart.opened s.how) }
+    ensures through { IfOk result (λ s. GoesSo W.after W.wanted (W.origin walker.old) turns most s.nodes.items s.depth s.chart.opened s.how) }
     ensures over { IfOk result (λ s. IsOverBy (P.over progress.new) s.how) }
     ensures kept { IfOk result (λ s. s.chart.kept ≡ kept) }
     ensures marks { IfOk result (λ s. length s.chart.marks.items ≡ count) }

@@ -17,88 +17,96 @@ pub returns-in-Found-clause-says : goal.returns-in-Found-clause-says
 returns-in-Found-clause-says g c =
     let found = c.in_ok-how.field-0 in
     let q = g.W.Space.origin c.args.walker.now in
-    let through = subst (λ (how : Layer). GoesSo g.W.Space.after g.W.Space.wanted q c.args.turns c.args.most found.store.nodes.items found.depth found.chart.opened how)
+    let through = subst (λ (how : Layer). GoesSo g.W.Space.after g.W.Space.wanted q c.args.turns c.args.most found.nodes.items found.depth found.chart.opened how)
     c.in-Found.is c.in_ok-how.ensures.through in
     (through.1, through.2)
 
 pub returns-in_ok-extent-in-Full-clause-went : goal.returns-in_ok-extent-in-Full-clause-went
 returns-in_ok-extent-in-Full-clause-went g c =
-    let nodes = c.in_ok-how.field-0.store.nodes.items in
+    let nodes = c.in_ok-how.field-0.nodes.items in
     let q = g.W.Space.origin c.args.walker.now in
     let all = c.in_ok-how.ensures.surveyed.found in
     (nodes, gone g.W.Space.after q nodes _ _ all.tree all.apart c.deref.ensures.value c.in_ok-extent-in-Full.ensures, all.complete)
 
 pub returns-in_ok-extent-in-Over-clause-went : goal.returns-in_ok-extent-in-Over-clause-went
 returns-in_ok-extent-in-Over-clause-went g c =
-    let nodes = c.in_ok-how.field-0.store.nodes.items in
+    let nodes = c.in_ok-how.field-0.nodes.items in
     let q = g.W.Space.origin c.args.walker.now in
     let all = c.in_ok-how.ensures.surveyed.found in
     (nodes, gone g.W.Space.after q nodes _ _ all.tree all.apart c.deref-in-Over.ensures.value c.in_ok-extent-in-Over.ensures, all.complete)
 
-pub returns-then-chart-count-clause-says : goal.returns-then-chart-count-clause-says
-returns-then-chart-count-clause-says g c =
+pub returns-then-chart-len-clause-says : goal.returns-then-chart-len-clause-says
+returns-then-chart-len-clause-says g c =
     let after = g.W.Space.after in
     let wanted = g.W.Space.wanted in
     let q = g.W.Space.origin c.args.walker.now in
     let found = c.in_ok-how.field-0 in
-    let nodes = found.store.nodes.items in
+    let nodes = found.nodes.items in
     let opened = found.chart.opened in
     let through = subst (λ (how : Layer). GoesSo after wanted q c.args.turns c.args.most nodes found.depth opened how) c.in-Done.is c.in_ok-how.ensures.through in
-    let all : opened ≡ length nodes + 1 = c.if-chart-count.true ∙ c.count.ensures in
+    let is = c.if-chart-len.true in
+    let count = c.len.ensures in
+    let long = found.nodes.ok.0 in
+    let all : opened ≡ length nodes + 1 = omega (arith, is, count, long) in
     none-ever after wanted q nodes found.depth (length nodes + 1) (subst (λ n. Explored after wanted q nodes found.depth (length nodes + 1) n) all through.explored) refl
 
-pub returns-then-chart-count-clause-went : goal.returns-then-chart-count-clause-went
-returns-then-chart-count-clause-went g c =
+pub returns-then-chart-len-clause-went : goal.returns-then-chart-len-clause-went
+returns-then-chart-len-clause-went g c =
     let after = g.W.Space.after in
     let wanted = g.W.Space.wanted in
     let q = g.W.Space.origin c.args.walker.now in
     let found = c.in_ok-how.field-0 in
-    let nodes = found.store.nodes.items in
+    let nodes = found.nodes.items in
     let opened = found.chart.opened in
     let through = subst (λ (how : Layer). GoesSo after wanted q c.args.turns c.args.most nodes found.depth opened how) c.in-Done.is c.in_ok-how.ensures.through in
-    let all : opened ≡ length nodes + 1 = c.if-chart-count.true ∙ c.count.ensures in
+    let is = c.if-chart-len.true in
+    let count = c.len.ensures in
+    let long = found.nodes.ok.0 in
+    let all : opened ≡ length nodes + 1 = omega (arith, is, count, long) in
     let places = c.in_ok-how.ensures.surveyed.found in
     (nodes, gone after q nodes _ _ places.tree places.apart c.deref-in-Done.ensures.value c.in_ok-extent-in-Done.ensures, all_near after q wanted nodes found.depth opened through.explored all)
 
-pub returns-else-chart-count-clause-says : goal.returns-else-chart-count-clause-says
-returns-else-chart-count-clause-says g c =
+pub returns-else-chart-len-clause-says : goal.returns-else-chart-len-clause-says
+returns-else-chart-len-clause-says g c =
     let after = g.W.Space.after in
     let wanted = g.W.Space.wanted in
     let q = g.W.Space.origin c.args.walker.now in
     let found = c.in_ok-how.field-0 in
-    let nodes = found.store.nodes.items in
+    let nodes = found.nodes.items in
     let opened = found.chart.opened in
     let through = subst (λ (how : Layer). GoesSo after wanted q c.args.turns c.args.most nodes found.depth opened how) c.in-Done.is c.in_ok-how.ensures.through in
-    let count = c.count.ensures in
-    let some = c.if-chart-count.false in
-    let last = last_of found.depth c.args.turns opened (length nodes + 1) through.ended (λ all. some (all ∙ sym count)) in (
+    let count = c.len.ensures in
+    let long = found.nodes.ok.0 in
+    let some = c.if-chart-len.false in
+    let last = last_of found.depth c.args.turns opened (length nodes + 1) through.ended (λ all. some (omega (arith, all, count, long))) in (
       through.within,
       none-within after wanted q nodes found.depth (length nodes + 1) opened through.explored,
       λ lt. absurd (omega (arith, lt, last)),
     )
 
-pub returns-else-chart-count-clause-leaves : goal.returns-else-chart-count-clause-leaves
-returns-else-chart-count-clause-leaves g c =
+pub returns-else-chart-len-clause-leaves : goal.returns-else-chart-len-clause-leaves
+returns-else-chart-len-clause-leaves g c =
     let after = g.W.Space.after in
     let wanted = g.W.Space.wanted in
     let q = g.W.Space.origin c.args.walker.now in
     let found = c.in_ok-how.field-0 in
-    let nodes = found.store.nodes.items in
+    let nodes = found.nodes.items in
     let opened = found.chart.opened in
     let through = subst (λ (how : Layer). GoesSo after wanted q c.args.turns c.args.most nodes found.depth opened how) c.in-Done.is c.in_ok-how.ensures.through in
     let following = through.passed.few in
-    let count = c.count.ensures in
-    let some = c.if-chart-count.false in
-    let few : opened ≤ length nodes = search (arith, following, count, some) in
-    let last = last_of found.depth c.args.turns opened (length nodes + 1) through.ended (λ all. some (all ∙ sym count)) in
+    let count = c.len.ensures in
+    let long = found.nodes.ok.0 in
+    let some = c.if-chart-len.false in
+    let few : opened ≤ length nodes = search (arith, following, count, long, some) in
+    let last = last_of found.depth c.args.turns opened (length nodes + 1) through.ended (λ all. some (omega (arith, all, count, long))) in
     let roots = are_roots after wanted q nodes found.depth opened through.explored through.near few in (
       λ lt. absurd (omega (arith, lt, last)),
       λ same. subst (λ (rs : List (List ℕ)). AreRoots after wanted q c.args.turns rs) (sym c.of-roots.ensures) (subst (λ n. AreRoots after wanted q n (roots_of nodes opened)) last roots),
     )
 
-pub returns-else-chart-count-clause-went : goal.returns-else-chart-count-clause-went
-returns-else-chart-count-clause-went g c =
-    let nodes = c.in_ok-how.field-0.store.nodes.items in
+pub returns-else-chart-len-clause-went : goal.returns-else-chart-len-clause-went
+returns-else-chart-len-clause-went g c =
+    let nodes = c.in_ok-how.field-0.nodes.items in
     let q = g.W.Space.origin c.args.walker.now in
     let all = c.in_ok-how.ensures.surveyed.found in
     (nodes, gone g.W.Space.after q nodes _ _ all.tree all.apart c.deref-in-Done.ensures.value c.in_ok-extent-in-Done.ensures, all.complete)

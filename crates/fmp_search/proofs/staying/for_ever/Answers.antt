@@ -30,7 +30,7 @@ within_turns after wanted q turns room n opened nodes layer.Done so = so.within
 pub report_of-requires-clause-tree : goal.report_of-requires-clause-tree
 report_of-requires-clause-tree g c =
     let after = g.W.Space.after in
-    let nodes = c.in_ok-found.found.store.nodes.items in
+    let nodes = c.in_ok-found.found.nodes.items in
     let same = c.go_through.ensures.walker_origin in
     subst (λ (ns : List Node). IsTree after (g.W.Space.origin c.go_through.new.walker) ns) (sym c.deref-in_default.ensures.value)
     (subst (λ x. IsTree after x nodes) (sym same) c.in_ok-found.ensures.surveyed.found.tree)
@@ -42,13 +42,13 @@ report_of-requires-clause-charted g c =
     let found = c.in_ok-found.found in
     let same = c.go_through.ensures.walker_origin in
     subst (λ (ns : List Node). IsCharted after passes (g.W.Space.origin c.go_through.new.walker) ns found.chart) (sym c.deref-in_default.ensures.value)
-    (subst (λ x. IsCharted after passes x found.store.nodes.items found.chart) (sym same) (c.in_ok-found.ensures.surveyed.charted c.in_ok-found.ensures.kept))
+    (subst (λ x. IsCharted after passes x found.nodes.items found.chart) (sym same) (c.in_ok-found.ensures.surveyed.charted c.in_ok-found.ensures.kept))
 
 pub report_of-requires-clause-nearest : goal.report_of-requires-clause-nearest
 report_of-requires-clause-nearest g c =
     let after = g.W.Space.after in
     let found = c.in_ok-found.found in
-    let nodes = found.store.nodes.items in
+    let nodes = found.nodes.items in
     let same = c.go_through.ensures.walker_origin in
     let surveyed = c.in_ok-found.ensures.surveyed in
     λ whole.
@@ -60,7 +60,7 @@ pub report_of-requires-clause-complete : goal.report_of-requires-clause-complete
 report_of-requires-clause-complete g c =
     let after = g.W.Space.after in
     let found = c.in_ok-found.found in
-    let nodes = found.store.nodes.items in
+    let nodes = found.nodes.items in
     let same = c.go_through.ensures.walker_origin in
     subst (λ (ns : List Node). IsComplete after (g.W.Space.origin c.go_through.new.walker) ns found.depth (length ns + 1)) (sym c.deref-in_default.ensures.value)
     (subst (λ x. IsComplete after x nodes found.depth (length nodes + 1)) (sym same) c.in_ok-found.ensures.surveyed.found.complete)
@@ -71,7 +71,7 @@ returns-clause-says g c =
     let passes = g.W.Space.passes in
     let q = g.W.Space.origin c.args.walker.now in
     let found = c.in_ok-found.found in
-    let le = within_turns after g.W.Space.wanted q c.args.turns c.args.most found.depth found.chart.opened found.store.nodes.items found.how c.in_ok-found.ensures.through in
+    let le = within_turns after g.W.Space.wanted q c.args.turns c.args.most found.depth found.chart.opened found.nodes.items found.how c.in_ok-found.ensures.through in
     says_more after passes q c.args.tests found.depth c.args.turns c.in_ok-stay-in_default.stay le
     (subst (λ x. SaysForEver after passes x c.args.tests found.depth c.in_ok-stay-in_default.stay) c.go_through.ensures.walker_origin c.in_ok-stay-in_default.ensures.says)
 
@@ -79,7 +79,7 @@ pub returns-clause-went : goal.returns-clause-went
 returns-clause-went g c =
     let after = g.W.Space.after in
     let q = g.W.Space.origin c.args.walker.now in
-    let nodes = c.in_ok-found.found.store.nodes.items in
+    let nodes = c.in_ok-found.found.nodes.items in
     let all = c.in_ok-found.ensures.surveyed.found in (
       nodes,
       gone after q nodes _ _ all.tree all.apart c.deref.ensures.value c.in_ok-extent.ensures,
@@ -91,12 +91,12 @@ pub returns-in-Over-clause-says : goal.returns-in-Over-clause-says
 returns-in-Over-clause-says g c =
     let q = g.W.Space.origin c.args.walker.now in
     let found = c.in_ok-found.found in
-    within_turns g.W.Space.after g.W.Space.wanted q c.args.turns c.args.most found.depth found.chart.opened found.store.nodes.items found.how c.in_ok-found.ensures.through
+    within_turns g.W.Space.after g.W.Space.wanted q c.args.turns c.args.most found.depth found.chart.opened found.nodes.items found.how c.in_ok-found.ensures.through
 
 pub returns-in-Over-clause-went : goal.returns-in-Over-clause-went
 returns-in-Over-clause-went g c =
     let after = g.W.Space.after in
     let q = g.W.Space.origin c.args.walker.now in
-    let nodes = c.in_ok-found.found.store.nodes.items in
+    let nodes = c.in_ok-found.found.nodes.items in
     let all = c.in_ok-found.ensures.surveyed.found in
     (nodes, gone after q nodes _ _ all.tree all.apart c.deref.ensures.value c.in_ok-extent.ensures, all.complete)

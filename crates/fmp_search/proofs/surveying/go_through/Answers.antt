@@ -83,7 +83,7 @@ returns-then-is_wanted-clause-surveyed g c =
     let nodes = c.in_ok-store.store.nodes.items in
     let chart = charting_none after g.W.Space.passes q nodes c.in_ok-chart.chart c.args.count c.in_ok-chart.ensures.opened c.in_ok-chart.ensures.edges c.in_ok-chart.ensures.marks in
     subst (λ (s : Survey). IsSurveyed g.W.Space.after g.W.Space.passes (g.W.Space.origin c.args.walker.now) s) (sym c.of.ensures) (
-    record { found = found_none after q nodes c.in_ok-store.ensures.empty; charted = chart.charted; noted = λ is. absurd (search (rules, is)) }
+    record { found = found_none after q nodes c.in_ok-store.ensures.empty; charted = chart.charted; noted = λ is. absurd (search (rules, is)); small = c.in_ok-store.store.small }
     )
 
 pub returns-then-is_wanted-clause-marks : goal.returns-then-is_wanted-clause-marks
@@ -100,6 +100,7 @@ returns-then-begin-end-clause-surveyed g c =
       charted = inv.chart.charted;
       noted = λ is. subst (λ n. AreNoted g.W.Space.after g.W.Space.passes (g.W.Space.origin c.args.walker.now) c.loop-depth.store.nodes.items c.loop-depth.chart.marks.items n 0)
           (sym inv.chart.opened) inv.chart.noted;
+      small = c.loop-depth.store.small;
     }
     )
 
@@ -109,7 +110,7 @@ returns-then-begin-end-clause-through g c =
     let inv = c.loop-depth.invariant in
     let nodes = c.loop-depth.store.nodes.items in
     let all : c.loop-depth.begin ≡ length nodes + 1 = c.if-begin-end.true ∙ c.count-end.ensures in
-    subst (λ (s : Survey). GoesSo g.W.Space.after g.W.Space.wanted (g.W.Space.origin c.args.walker.now) c.args.turns c.args.most s.store.nodes.items s.depth s.chart.opened s.how) (sym c.of-then-begin-end.ensures) (
+    subst (λ (s : Survey). GoesSo g.W.Space.after g.W.Space.wanted (g.W.Space.origin c.args.walker.now) c.args.turns c.args.most s.nodes.items s.depth s.chart.opened s.how) (sym c.of-then-begin-end.ensures) (
     subst (λ n. IsThrough g.W.Space.after g.W.Space.wanted q c.args.turns nodes c.loop-depth.depth n) (sym inv.chart.opened)
     (through_all g.W.Space.after q g.W.Space.wanted nodes c.loop-depth.depth c.loop-depth.begin c.args.turns inv.within inv.explored all inv.passed)
     )
@@ -129,6 +130,7 @@ returns-in_default-clause-surveyed g c =
       found = found_by after _ how c.loop-depth.depth c.loop-depth.store.most c.count-end.result 0 nodes c.in_default.not-Done fills;
       charted = charted_by after _ passes how nodes chart c.count-end.result 0 charts;
       noted = λ is. absurd (c.in_default.not-Done is);
+      small = c.open_layer.new.store.small;
     }
     )
 
@@ -146,7 +148,7 @@ returns-in_default-clause-through g c =
     let how = c.in_ok-how.how in
     let fills = subst (λ x. Fills after x depth c.loop-depth.store.most end 0 how nodes) same c.in_ok-how.ensures.fills in
     let opens = subst (λ x. Opens after wanted x depth end end how nodes) same c.in_ok-how.ensures.opens in
-    subst (λ (s : Survey). GoesSo g.W.Space.after g.W.Space.wanted (g.W.Space.origin c.args.walker.now) c.args.turns c.args.most s.store.nodes.items s.depth s.chart.opened s.how) (sym c.of-in_default.ensures) (
+    subst (λ (s : Survey). GoesSo g.W.Space.after g.W.Space.wanted (g.W.Space.origin c.args.walker.now) c.args.turns c.args.most s.nodes.items s.depth s.chart.opened s.how) (sym c.of-in_default.ensures) (
     through_by after q wanted how c.args.turns c.loop-depth.store.most c.args.most depth end end end 0 nodes c.in_default.not-Done c.loop-depth-test.true
     (none-within after wanted q old depth (length old + 1) c.loop-depth.begin inv.explored) inv.room opens fills _
     )
@@ -164,6 +166,7 @@ returns-clause-surveyed g c =
       charted = inv.chart.charted;
       noted = λ is. subst (λ n. AreNoted g.W.Space.after g.W.Space.passes (g.W.Space.origin c.args.walker.now) c.loop-depth.store.nodes.items c.loop-depth.chart.marks.items n 0)
           (sym inv.chart.opened) inv.chart.noted;
+      small = c.loop-depth.store.small;
     }
     )
 
@@ -175,7 +178,7 @@ returns-clause-through g c =
     let most = c.loop-depth.auto.depth-end in
     let past = c.loop-depth-test.false in
     let last : c.loop-depth.depth ≡ c.args.turns = search (arith, most, past) in
-    subst (λ (s : Survey). GoesSo g.W.Space.after g.W.Space.wanted (g.W.Space.origin c.args.walker.now) c.args.turns c.args.most s.store.nodes.items s.depth s.chart.opened s.how) (sym c.of-2.ensures) (
+    subst (λ (s : Survey). GoesSo g.W.Space.after g.W.Space.wanted (g.W.Space.origin c.args.walker.now) c.args.turns c.args.most s.nodes.items s.depth s.chart.opened s.how) (sym c.of-2.ensures) (
     subst (λ n. IsThrough g.W.Space.after g.W.Space.wanted q c.args.turns nodes c.args.turns n) (sym inv.chart.opened)
     (through_last g.W.Space.after q g.W.Space.wanted nodes c.loop-depth.depth c.loop-depth.begin c.args.turns last inv.explored inv.passed)
     )
