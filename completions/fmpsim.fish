@@ -42,7 +42,7 @@ complete -c fmpsim -n '__fish_seen_subcommand_from explore' -l prompt -d 'Takes 
 complete -c fmpsim -n '__fish_seen_subcommand_from explore' -l drift -x -d 'How many ticks more than another a processor may have taken, 1 to 1000000'
 complete -c fmpsim -n '__fish_seen_subcommand_from explore' -l pace -x -d 'How many ticks a processor takes at most before it does what it can, 1 to 1000000'
 complete -c fmpsim -n '__fish_seen_subcommand_from explore' -l spurious -d 'Lets interrupts come also where no request is pending, or where it is held'
-complete -c fmpsim -n '__fish_seen_subcommand_from explore' -l places -x -d 'For how many places there is room, 1 to 100000000, or else for 1000000'
+complete -c fmpsim -n '__fish_seen_subcommand_from explore' -l places -x -d 'For how many places there is room, 1 to 100000000, or else for 10000000'
 complete -c fmpsim -n '__fish_seen_subcommand_from explore' -l from -r -d 'Begins where this trace ends, and not at boot'
 complete -c fmpsim -n '__fish_seen_subcommand_from explore' -l layer -r -d 'Writes there the traces from which longer orders go on, one a file'
 complete -c fmpsim -n '__fish_seen_subcommand_from explore' -l seconds -x -d 'After how many seconds the search ends that has found nothing, 1 to 1000000'

@@ -49,7 +49,7 @@ IsBound (Some t) n = (k : ℕ) × (n ≡ Some k) × IsNumberWithin 1 1000000 t (
 
 -- 1,000,000 without a text, or its number
 abbrev pub IsPlaces : Option Text → ℕ → Type 0
-IsPlaces None n = n ≡ 1000000
+IsPlaces None n = n ≡ 10000000
 IsPlaces (Some t) n = IsNumberWithin 1 100000000 t (Some n)
 
 -- `deadlock` without a text, or the text

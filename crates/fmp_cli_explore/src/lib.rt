@@ -156,7 +156,7 @@ const PARTS: &[Part<'static>] = &[
     Part {
         id: "places",
         form: Form::Value("N"),
-        about: "For how many places there is room, 1 to 100000000, or else for 1000000",
+        about: "For how many places there is room, 1 to 100000000, or else for 10000000",
     },
     Part {
         id: "from",

@@ -52,12 +52,12 @@ pub(crate) fn bound_in(text: Option<&str>) -> Option<Option<u32>>
     }
 }
 
-/// For how many places there is room: 1,000,000 without a text.
+/// For how many places there is room: 10,000,000 without a text.
 pub(crate) fn places_in(text: Option<&str>) -> Option<u32>
     ensures { IfSome result (IsPlaces (option_map (λ t. t.now) text.entry)) }
 {
     match text {
-        None => Some(1_000_000),
+        None => Some(10_000_000),
         Some(text) => number_in(text, 1, 100_000_000),
     }
 }
