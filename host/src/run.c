@@ -208,6 +208,8 @@ static void make_call(struct context *who, int processor, struct turn *turn) {
         waits_since[number] = ticks[processor];
     } else if (answer->said == CODE && !ends)
         answered(who, answer->code, answer->value);
+    else if (answer->said == TAKEN || answer->said == NONE) /* fmphost_tick() */
+        answered(who, 0, 0);
     else if (answer->said == IDLE || answer->said == HELD)
         give_up("fmpsim says that nobody runs who made a call: %s", who->request);
     after_event(who, processor, answer, turn);

@@ -4,6 +4,8 @@
 #include "options.h"
 #include "outcome.h"
 #include "refused.h"
+#include "requests.h"
+#include "run.h"
 #include "c_library.h"
 #include "syssvc/serial.h"
 #include "syssvc/syslog.h"
@@ -21,6 +23,23 @@ void fmphost_point(void) {
     running->next = POINT;
     running->place = (uintptr_t)__builtin_return_address(0);
     context_stop();
+}
+
+/* For board/board.c: the processor on which the caller runs, and a tick that its timer gives there at once. */
+__attribute__((visibility("default"))) int fmphost_processor(void);
+int fmphost_processor(void) {
+    return run_processor(running);
+}
+
+__attribute__((visibility("default"))) void fmphost_tick(void);
+void fmphost_tick(void) {
+    static const struct call tick = {.name = "tick", .does = TIMED};
+    running->call = &tick;
+    running->next = CALL;
+    running->named = -1;
+    running->place = (uintptr_t)PLACE;
+    snprintf(running->request, sizeof running->request, "%s", tick.name);
+    reply();
 }
 
 void fmphost_claim(bool holds, const char *text, const char *file, int line) {

@@ -44,8 +44,8 @@ twice_the_same() {
 # Each file of the commit that a user or a case needs is in it as it was committed, and so is what is made.
 has_all_files() {
     local well=no
-    git -C "$top" archive HEAD Makefile LICENSE NOTICE README{,.ja}.md CHANGELOG.md CONTRIBUTING.md docs man completions editors examples host include tools \
-        tests/README.md tests/cases tests/play > commit.tar && mkdir -p wanted/bin && tar xf commit.tar -C wanted
+    git -C "$top" archive HEAD Makefile LICENSE NOTICE README{,.ja}.md CHANGELOG.md CONTRIBUTING.md board docs man completions editors examples host include tools \
+        tests/README.md tests/board tests/cases tests/play > commit.tar && mkdir -p wanted/bin && tar xf commit.tar -C wanted
     cp "$program" wanted/bin/fmpsim && touch wanted/ABOUT.md wanted/SHA256SUMS
     diff -rq wanted "$name" | LC_ALL=C sort > differing
     printf 'Files wanted/%s and '"$name"'/%s differ\n' {ABOUT.md,ABOUT.md,README.ja.md,README.ja.md,README.md,README.md,SHA256SUMS,SHA256SUMS} | diff - differing && well=yes

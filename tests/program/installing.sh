@@ -44,11 +44,11 @@ found_in() {
 
 # What is installed.
 wanted() {
-    printf '%s\n' bin/fmpsim bin/fmphost-cfg bin/fmpsim-{from-{toppers,log,trace},to-log,to-perfetto,run-list} share/man/man1/fmpsim.1 share/bash-completion/completions/fmpsim \
+    printf '%s\n' bin/fmpsim bin/fmphost-cfg bin/fmpsim-{from-{toppers,log,trace},to-log,to-perfetto,to-board,run-list} share/man/man1/fmpsim.1 share/bash-completion/completions/fmpsim \
         share/fish/vendor_completions.d/fmpsim.fish share/zsh/site-functions/_fmpsim \
-        share/fmpsim/{LICENSE,include/fmp.h,tools/{from-toppers,from-log,to-log,from-trace,to-perfetto,run-list,{c_numbers,log_calls,log_lines,log_tasks,log_written,perfetto_tracks,toppers_settings,trace_lines}.py},host/{README.md,fmphost.mk},editors/README.md,docs/{GUIDE.md,GUIDE.ja.md,HOST.md,FORMATS.md,PROFILE.md,DECISIONS.md,view.png,wave.png}}
+        share/fmpsim/{LICENSE,include/fmp.h,tools/{from-toppers,from-log,to-log,from-trace,to-perfetto,to-board,run-list,{board_case,board_files,board_kit,board_log,board_machine,board_play,c_numbers,fmpsim_program,log_calls,log_lines,log_tasks,log_written,perfetto_tracks,test_reports,toppers_settings,trace_lines}.py},tests/play,host/{README.md,fmphost.mk},editors/README.md,docs/{BOARD.md,GUIDE.md,GUIDE.ja.md,HOST.md,FORMATS.md,PROFILE.md,DECISIONS.md,view.png,wave.png}}
     [ ! -e "$top/out/libfmp.a" ] || printf '%s\n' include/fmp.h lib/libfmp.a
-    (cd "$top" && find editors/{vim,vscode} tools/toppers-stub docs/formats examples host/{include,src,gen,programs} -type f | sed 's|^|share/fmpsim/|')
+    (cd "$top" && find board tests/cases editors/{vim,vscode} tools/toppers-stub docs/formats examples host/{include,src,gen,programs} -type f | sed 's|^|share/fmpsim/|')
 }
 
 # is_same FOLDER: each installed file is the repository's, and may be executed where that one may.
@@ -98,6 +98,10 @@ tools_run() {
     well=no
     "$1/fmpsim-to-perfetto" "$late/machine.cfg" "$late/trace.txt" > made 2> told && "$top/tools/to-perfetto" "$late/machine.cfg" "$late/trace.txt" 2> told | cmp - made && [ -s made ] && well=yes
     count "$well" "# $1/fmpsim-to-perfetto"
+    well=no
+    "$1/fmpsim-to-board" --cases --every 500 -o kit > made 2> told && [ -s kit/app001/board.c ] && [ -s kit/app001/app.cfg ] && grep -q ' cases, ' made && well=yes
+    rm -rf kit
+    count "$well" "# $1/fmpsim-to-board"
     well=no
     "$1/fmphost-cfg" "$top/host/programs/queue/machine.cfg" -o . --fmpsim "$1/fmpsim" && grep -q '#define QUEUE 1' kernel_cfg.h && [ -s kernel_cfg.c ] && well=yes
     count "$well" "# $1/fmphost-cfg"

@@ -1,0 +1,1 @@
+/* A compiler for a board has no C library's headers. */
