@@ -17,8 +17,8 @@ declare -A running=()
 
 # What is run of a program beside the cases: the function of this name, in the file of this name in tests/program. As many are played beside
 # one another as there are processors, each in a folder of its own, so those that take longest come first.
-subjects=(processors greatest_texts host in_process lives player from_toppers random_events searches refused_growth reports little_memory from_log to_log board lists
-    seeds views looks from_trace perfetto pipes waves colours contexts command_lines pages page_texts devices_that_fail examples long_lines completions editors
+subjects=(processors greatest_texts host board in_process lives player from_toppers random_events searches refused_growth reports little_memory from_log to_log
+    lists seeds views looks from_trace perfetto pipes waves colours contexts command_lines pages page_texts devices_that_fail examples long_lines completions editors
     scripts questions shrinking help_texts diagnostics states changes host_tests paths texts_at_fault installing archive wrong_bodies run_lists many_events patterns want_of_memory)
 
 # Nothing that was begun goes on, and no file stays.
