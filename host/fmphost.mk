@@ -24,17 +24,17 @@ LD ?= ld
 OBJCOPY ?= objcopy
 
 fmphost_clang := $(findstring clang,$(shell $(CC) --version 2>/dev/null))
-fmphost_c := $(CC) -std=gnu11 -g -MMD -MP -I'$(FMPHOST)/include' -I'$(FMPHOST_OUT)'
+fmphost_c := $(CC) -std=gnu11 -g -MMD -MP -Wno-error=implicit-function-declaration -I'$(FMPHOST)/include' -I'$(FMPHOST_OUT)'
 # The hooks have C's types, which are not those that gcc knows of its sanitizers.
-fmphost_own := -I'$(FMPHOST)/../include' -O2 -fvisibility=hidden -Wall -Wextra $(if $(fmphost_clang),,-Wno-builtin-declaration-mismatch)
+fmphost_own := -fno-omit-frame-pointer -I'$(FMPHOST)/../include' -O2 -fvisibility=hidden -Wall -Wextra $(if $(fmphost_clang),,-Wno-builtin-declaration-mismatch)
 # Each access and each function calls a hook, each line is its own (-O0), and a call's place is that of its caller. The project's code has a
 # section of its own, so that its functions are known.
-fmphost_seen := -O0 -fno-optimize-sibling-calls -finstrument-functions -fno-builtin -fsanitize=thread \
+fmphost_seen := -O0 -fno-omit-frame-pointer -fno-optimize-sibling-calls -finstrument-functions -fno-builtin -fsanitize=thread \
     $(if $(fmphost_clang),-mllvm -tsan-distinguish-volatile=1 -mllvm -tsan-instrument-read-before-write=1,--param tsan-distinguish-volatile=1)
 # what of the C library the project's files call by way of the host
 fmphost_wrapped := memcpy memmove memset memcmp memchr strlen strnlen strcpy stpcpy strncpy strcat strncat strcmp strncmp strcasecmp strncasecmp \
     strchr strrchr strstr strspn strcspn strpbrk atoi atol strtol strtoul sprintf snprintf vsprintf vsnprintf strdup strndup \
-    malloc calloc realloc free
+    malloc calloc realloc free exit _exit _Exit quick_exit fork vfork pthread_create execve execv execvp raise kill
 fmphost_objects := $(patsubst %.c,$(FMPHOST_OUT)/%.o,$(notdir $(FMPHOST_SOURCES)))
 fmphost_kernel := $(if $(FMPHOST_FMP),pipes,in_process)
 fmphost_parts := $(patsubst $(FMPHOST)/src/%.c,$(fmphost_room)/%.o,$(filter-out %/$(fmphost_kernel).c,$(wildcard $(FMPHOST)/src/*.c)))
@@ -46,8 +46,8 @@ fmphost: $(FMPHOST_RUN)
 # Addresses of variables are the same in each start of the program (-no-pie), since they may be in a trace and are in an order.
 $(FMPHOST_RUN): $(fmphost_objects) $(FMPHOST_OUT)/kernel_cfg.o $(FMPHOST_OUT)/outside.o $(FMPHOST_LIBRARY)
 	$(CC) $(FMPHOST_SANITIZERS) -no-pie -o $@ $^ $(fmphost_wrapped:%=-Wl,--wrap=%)
-$(FMPHOST_OUT)/outside.o: $(fmphost_objects) $(FMPHOST_LIBRARY) $(FMPHOST)/gen/fmphost-outside
-	'$(FMPHOST)/gen/fmphost-outside' $(fmphost_objects) $(FMPHOST_LIBRARY) > $(FMPHOST_OUT)/outside.c
+$(FMPHOST_OUT)/outside.o: $(fmphost_objects) $(FMPHOST_OUT)/kernel_cfg.o $(FMPHOST_LIBRARY) $(FMPHOST)/gen/fmphost-outside
+	@'$(FMPHOST)/gen/fmphost-outside' $(fmphost_objects) $(FMPHOST_OUT)/kernel_cfg.o $(FMPHOST_LIBRARY) > $(FMPHOST_OUT)/outside.c
 	$(fmphost_c) $(FMPHOST_SANITIZERS) -c -o $@ $(FMPHOST_OUT)/outside.c
 $(fmphost_objects): $(FMPHOST_OUT)/%.o: %.c $(FMPHOST_OUT)/kernel_cfg.h
 	$(fmphost_c) $(fmphost_seen) $(FMPHOST_FLAGS) -c -o $@ $<

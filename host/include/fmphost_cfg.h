@@ -12,6 +12,7 @@ struct fmphost_object {
     void (*body)(intptr_t exinf); /* of a task or a handler */
     intptr_t exinf;
     int blocks;         /* of a pool */
+    size_t stack;       /* of a task: what its configuration gives, or 0 where that is not known */
     size_t size;        /* from one block to the next */
     size_t length;      /* of a block */
     unsigned char *memory;
@@ -27,5 +28,6 @@ extern const char fmphost_configuration[]; /* the path of its text */
 extern const char fmphost_version[];       /* of the fmpsim that read it, */
 extern const uint64_t fmphost_listed;      /* and a hash of what that said of it */
 extern const char fmphost_folder[] __attribute__((weak));  /* where the project was compiled: paths of its files are from there */
+extern const char fmphost_tools[] __attribute__((weak));   /* where fmpsim's tools are, of which one writes reports */
 extern const char fmphost_outside[] __attribute__((weak)); /* functions that the project calls, and whose accesses are not seen */
 #endif

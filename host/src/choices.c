@@ -2,6 +2,7 @@
 #include "memory.h"
 #include "outcome.h"
 #include "report.h"
+#include "until.h"
 #include <errno.h>
 #include <stdio.h>
 #include <stdlib.h>
@@ -77,7 +78,7 @@ int by_path(uint32_t enabled, long turn) {
 
 static FILE *replayed;
 static long line_number;
-static bool replays_trace, has_points;
+static bool replays_trace, has_points, stopped;
 static char line[1 << 16];
 
 /* The next line that is no comment. One without its line feed was cut. */
@@ -178,6 +179,10 @@ int by_replay(uint32_t enabled, long turn) {
     int action = action_of_line();
     if (!(enabled & 1u << action))
         give_up("%s:%ld: this cannot happen here: %s", options.replay, line_number, line);
+    if (line_number == options.until) {
+        stopped = true;
+        stop_before(options.replay, line_number, action);
+    }
     if (replays_trace && action % ACTS == GO)
         again = action;
     return action;
@@ -220,6 +225,8 @@ static void compare_line(const char *wanted, const char *was) {
 void replay_compare(bool found) {
     char was[2048];
     long turn = 0, record = 0;
+    if (options.until > 0 && !stopped)
+        give_up("%s has no turn in line %ld", options.replay, options.until);
     rewind(replayed);
     line_number = 0;
     while (next_line()) {

@@ -83,6 +83,28 @@ void clocks_fence(int context, bool acquires, bool releases) {
     any_fence = true;
 }
 
+/* Whether it is known is all that a later access asks of a clock, and so of whatever hands one on. */
+static uint64_t add_known(uint64_t sum, const Clock *clocks, int room, int context, uint32_t count) {
+    for (int i = 0; i < room; i++)
+        sum = (sum ^ (clocks[i][context] >= count ? 3u : 1u)) * 0x9e3779b97f4a7c15u;
+    return sum ^ sum >> 29;
+}
+
+uint64_t clocks_know(int context, uint32_t count) {
+    bool all = true;
+    for (int i = 0; i < context_count && all; i++)
+        all = own[i][context] >= count;
+    if (all)
+        return 0;
+    uint64_t sum = add_known(1, own, context_count, context, count);
+    sum = add_known(sum, given, fmphost_object_count, context, count);
+    sum = add_known(sum, taken, fmphost_object_count, context, count);
+    sum = add_known(sum, cpu, fmphost_processors + 1, context, count);
+    sum = add_known(sum, dispatch, fmphost_processors + 1, context, count);
+    sum = add_known(sum, fenced, context_count, context, count);
+    return add_known(sum, read_so_far, context_count, context, count);
+}
+
 bool clocks_fences(void) {
     return any_fence;
 }

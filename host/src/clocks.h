@@ -12,5 +12,6 @@ bool clock_knows(int context, int other, uint32_t count);
 void clocks_read(int context, const uint32_t *kept, bool acquires);
 void clocks_write(int context, uint32_t *kept, bool releases);
 void clocks_fence(int context, bool acquires, bool releases);
+uint64_t clocks_know(int context, uint32_t count); /* which clocks know what this one did at this count, or 0 where all do that may look */
 bool clocks_fences(void); /* there was one in this run */
 #endif

@@ -56,7 +56,7 @@ static unsigned char *make_stack(int number) {
 
 bool on_guard(uintptr_t at, const char **whose) {
     for (int i = 0; i < context_count; i++)
-        if (at < (uintptr_t)contexts[i].stack && at >= (uintptr_t)contexts[i].stack - (uintptr_t)sysconf(_SC_PAGESIZE)) {
+        if (at < (uintptr_t)contexts[i].stack && at >= (uintptr_t)contexts[i].stack - STACK) { /* nothing else lies there: a large frame steps over the page */
             *whose = context_name(i);
             return true;
         }
@@ -123,8 +123,8 @@ static void life(void) {
     __sanitizer_finish_switch_fiber(NULL, &runner_stack, &runner_size);
 #endif
     fmphost_objects[me->object].body(fmphost_objects[me->object].exinf);
-    request_of(me, NULL, me->processor ? RET_HDR : EXT_TSK, (const int64_t[MOST_ARGUMENTS]){0});
-    to_runner(me);
+    request_of(running, NULL, running->processor ? RET_HDR : EXT_TSK, (const int64_t[MOST_ARGUMENTS]){0});
+    context_stop();
     give_up("one that has ended goes on");
 }
 
@@ -146,14 +146,12 @@ static void begin_life(struct context *context) {
     context->registers.uc_link = NULL;
     makecontext(&context->registers, life, 0);
     context->started = true;
+    context->base = context->lowest = 0;
 }
 
-void context_resume(struct context *context) {
-    if (!context->started)
-        begin_life(context);
-    context->next = NOTHING;
-    context->answered = false;
+static void enter(struct context *context) {
     running = context;
+    outcome->runs = (int)(context - contexts);
 #ifdef FIBERS
     __sanitizer_start_switch_fiber(&runner_fiber, context->stack, STACK);
 #endif
@@ -162,16 +160,35 @@ void context_resume(struct context *context) {
     __sanitizer_finish_switch_fiber(runner_fiber, NULL, NULL);
 #endif
     running = NULL;
+    outcome->runs = -1;
+}
+
+void context_resume(struct context *context) {
+    if (!context->started)
+        begin_life(context);
+    context->next = NOTHING;
+    context->answered = false;
+    enter(context);
     if (options.mode == BY_PLACES)
         clear_below(context);
+}
+
+void context_show(struct context *context, void (*look)(void)) {
+    context->look = look;
+    enter(context);
 }
 
 /* The code of one may only stand on its own stack: a jump to a place that another one kept leaves it on that one's. */
 void context_stop(void) {
     char here;
     if (!own_stack(running, (uintptr_t)&here) && owner_of_stack((uintptr_t)&here) >= 0)
-        end_run(CRASH, "%s has jumped to the stack of %s", context_name((int)(running - contexts)), context_name(owner_of_stack((uintptr_t)&here)));
-    to_runner(running);
+        end_with_place(CRASH, "%s has jumped to the stack of %s", context_name((int)(running - contexts)), context_name(owner_of_stack((uintptr_t)&here)));
+    struct context *me = running;
+    to_runner(me);
+    for (; me->look != NULL; to_runner(me)) {
+        me->look();
+        me->look = NULL;
+    }
 }
 
 void context_end(struct context *context) {

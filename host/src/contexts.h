@@ -12,10 +12,11 @@ struct context {
     int object, processor;      /* a handler has one context for each processor, since it may be due on two; a task's is 0 */
     bool lives, started, answered, waits;
     uint32_t ended;             /* how often another ended its life */
+    void (*look)(void);         /* is called, and nothing else, where it is entered */
     enum operation next;        /* what it stands before */
     const struct call *call;    /* CALL: the call, */
     int64_t argument[MOST_ARGUMENTS];
-    char request[REQUEST];      /* and as an event has it */
+    char request[REQUEST];      /* and as an event has it, by numbers: `wai_flg(1, 3, TWF_ANDW)` */
     int named;                  /* the object that the call names, or -1 */
     uintptr_t at, place;        /* ACCESS */
     unsigned size;
@@ -24,6 +25,7 @@ struct context {
     int64_t value;
     ucontext_t registers;
     unsigned char *stack;
+    uintptr_t base, lowest;     /* of what the project used of it in this life, or 0 */
     void *fiber;                /* AddressSanitizer's own */
 };
 
@@ -40,6 +42,7 @@ struct context *context_of_handler(int object, int processor);
 const char *context_name(int context);
 void context_resume(struct context *context); /* until it stands before something */
 void context_stop(void);                      /* called by the running one, which has said before what it stands */
+void context_show(struct context *context, void (*look)(void)); /* calls it on this one's stack, which stands where it stood */
 void context_end(struct context *context);    /* its life is over: next time it begins anew */
 bool own_stack(const struct context *who, uintptr_t at);
 int owner_of_stack(uintptr_t at);             /* the context in whose stack this lies, or -1 */

@@ -3,6 +3,7 @@
 #include "memory.h"
 #include "options.h"
 #include "run.h"
+#include "stacks.h"
 #include <stddef.h>
 #define PUBLIC __attribute__((visibility("default")))
 #define PLACE ((uintptr_t)__builtin_return_address(0))
@@ -26,7 +27,11 @@ ACCESSES(16)
 PUBLIC void __tsan_read_range(void *at, unsigned long size) { memory_touch((uintptr_t)at, (unsigned)size, false, false, PLACE); }
 PUBLIC void __tsan_write_range(void *at, unsigned long size) { memory_touch((uintptr_t)at, (unsigned)size, true, false, PLACE); }
 PUBLIC void __tsan_init(void) { instrumented = true; }
-PUBLIC void __cyg_profile_func_enter(void *function, void *caller) { (void)caller, coverage_function((uintptr_t)function); }
+PUBLIC void __cyg_profile_func_enter(void *function, void *caller) {
+    (void)caller;
+    coverage_function((uintptr_t)function);
+    stacks_enter((uintptr_t)__builtin_frame_address(0));
+}
 PUBLIC void __cyg_profile_func_exit(void *function, void *caller) { (void)function, (void)caller; }
 PUBLIC void __tsan_func_entry(void *place) { (void)place; }
 PUBLIC void __tsan_func_exit(void) { }

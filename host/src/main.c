@@ -1,16 +1,19 @@
 #define _GNU_SOURCE
 #include "clocks.h"
 #include "coverage.h"
+#include "findings.h"
 #include "memory.h"
 #include "options.h"
 #include "outcome.h"
 #include "machine.h"
+#include "pipeline.h"
 #include "places.h"
 #include "process.h"
 #include "refused.h"
 #include "report.h"
 #include "search.h"
 #include "searches.h"
+#include "stacks.h"
 #include <signal.h>
 #include <stdio.h>
 #include <sys/personality.h>
@@ -33,6 +36,7 @@ static void fix_addresses(char **words) {
 __attribute__((visibility("default"))) int main(int count, char **words) {
     fix_addresses(words);
     read_options(count, words);
+    pipeline_report(words);
     signal(SIGPIPE, SIG_IGN);
     process_rooms();
     learned = shared_room(sizeof *learned);
@@ -42,8 +46,11 @@ __attribute__((visibility("default"))) int main(int count, char **words) {
     places_make();
     search_make();
     report_make();
+    findings_make();
+    recording_make();
     refused_make();
     coverage_make();
+    stacks_make();
     proved_check(options.fmpsim, options.configuration);
     machine_prepare(options.fmpsim, options.configuration);
     return options.mode == BY_REPLAY ? play_file() : options.mode == BY_PLACES ? play_places() : options.mode == BY_SEEDS ? play_seeds() : play_orders();

@@ -3,6 +3,7 @@
 #include "outcome.h"
 #include "pools.h"
 #include "run.h"
+#include "stacks.h"
 #include <stdio.h>
 #include <string.h>
 
@@ -37,11 +38,13 @@ static struct seen *seen_room;        /* from 1 */
 static long word_count, cell_count, seen_count;
 static uint32_t unused_seen;          /* what was given back, as a list */
 struct learned *learned;
+static struct callers *seen_callers; /* of each that was seen, where the run is told */
 
 void memory_make(void) {
     words = own_room(MOST_WORDS * sizeof *words);
     slots = own_room(WORD_SLOTS * sizeof *slots);
     seen_room = own_room(MOST_SEEN * sizeof *seen_room);
+    seen_callers = own_room(MOST_SEEN * sizeof *seen_callers);
     cells = own_room(CELL_SLOTS * sizeof *cells);
     cell_clock = own_room(CELL_SLOTS * sizeof *cell_clock);
 }
@@ -93,10 +96,13 @@ void learn_word(uintptr_t number) {
 }
 
 void learned_only(long count) {
+    bool full = learned->full;
     memset(learned->slot, 0, sizeof learned->slot);
     learned->count = 0;
+    learned->full = false;
     for (long i = 0; i < count; i++)
         learn_word(learned->word[i]);
+    learned->full = full;
 }
 
 /* --- points --- */
@@ -131,8 +137,12 @@ static unsigned char bytes_in(uintptr_t number, uintptr_t at, unsigned size) {
 }
 
 static _Noreturn void end_at_race(const struct seen *seen, const struct seen *now, uintptr_t at, unsigned size) {
-    outcome->race[0] = (struct access){at, seen->place, size, seen->context, seen->writes, seen->frees, seen->processor};
-    outcome->race[1] = (struct access){at, now->place, size, now->context, now->writes, now->frees, now->processor};
+    outcome->race[0] = (struct access){.at = at, .place = seen->place, .size = size, .context = seen->context, .writes = seen->writes, .frees = seen->frees, .processor = seen->processor};
+    outcome->race[1] = (struct access){.at = at, .place = now->place, .size = size, .context = now->context, .writes = now->writes, .frees = now->frees, .processor = now->processor};
+    if (recording) {
+        outcome->race[0].callers = seen_callers[seen - seen_room];
+        callers_of(running, (uintptr_t)__builtin_frame_address(0), now->place, &outcome->race[1].callers);
+    }
     end_run(RACE, " ");
 }
 
@@ -185,6 +195,8 @@ static void look_and_keep(struct word *word, struct seen now, uintptr_t at, unsi
     } else
         return;
     seen_room[mine] = now;
+    if (recording)
+        callers_of(running, (uintptr_t)__builtin_frame_address(0), now.place, &seen_callers[mine]);
 }
 
 static void record(struct context *me, uintptr_t number, const struct context *access) {
@@ -203,6 +215,7 @@ void memory_touch(uintptr_t at, unsigned size, bool writes, bool atomic, uintptr
     bool point = false;
     me->place = place; /* before memory is looked at: a crash there is that of the access */
     pools_touch(at, size, writes);
+    stacks_touch(me, at, place);
     for (uintptr_t number = at / WORD; number <= (at + size - 1) / WORD; number++)
         point |= is_point(me, number, writes);
     me->at = at, me->size = size, me->writes = writes, me->atomic = atomic;
@@ -311,4 +324,25 @@ uint64_t memory_hash(void) {
 
 uint64_t memory_hash_all(void) {
     return hash_words(true);
+}
+
+/* A place with other clocks may have other races behind it, though the memory is the same. */
+static uint64_t hash_seen(const struct word *word, const struct seen *seen) {
+    uint64_t sum = clocks_know(seen->context, seen->count);
+    if (sum == 0)
+        return 0;
+    for (size_t i = 0; i < CELL_SLOTS && cell_count > 0; i++)
+        if (cells[i].at != 0)
+            sum = (sum ^ (cell_clock[i][seen->context] >= seen->count ? cells[i].at : 1)) * 0x9e3779b97f4a7c15u;
+    uint64_t what = (uint64_t)seen->context << 16 | (uint64_t)seen->bytes << 8 | (uint64_t)(seen->writes * 4 + seen->atomic * 2 + seen->frees);
+    uint64_t part = (sum ^ what * 0x94d049bb133111ebu ^ (uint64_t)seen->processor << 56) * (word->number | 1);
+    return part ^ part >> 31;
+}
+
+uint64_t memory_hash_races(void) {
+    uint64_t sum = 0; /* in no order, as those of words are */
+    for (long i = 0; i < word_count; i++)
+        for (uint32_t at = words[i].seen; at != 0; at = seen_room[at].next)
+            sum += hash_seen(&words[i], &seen_room[at]);
+    return sum;
 }

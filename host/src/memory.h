@@ -28,6 +28,7 @@ void memory_fence(int order);
 void memory_given(uintptr_t at, uint64_t size);                   /* the allocator hands it out: nobody used it before */
 void memory_freed(uintptr_t at, uint64_t size, uintptr_t place);
 uint64_t memory_hash(void);      /* of words that several contexts touch */
+uint64_t memory_hash_races(void); /* of what was accessed, and who knows of it: what later accesses race with */
 uint64_t memory_hash_all(void);  /* of all words that were touched, but for stacks */
 void learn_word(uintptr_t number);
 void learned_only(long count);   /* forgets what was learned later */

@@ -160,3 +160,16 @@ const char *variable_name(uintptr_t address) {
         ask_symbol(address, name, room);
     return name;
 }
+
+/* Where the linker has laid the program's code and variables. */
+extern char __executable_start[], end[];
+
+const char *address_name(uint64_t value) {
+    uintptr_t address = (uintptr_t)value;
+    char block[600];
+    bool own = address >= (uintptr_t)__executable_start && address < (uintptr_t)end;
+    if (!own && owner_of_stack(address) < 0 && !in_block(address, block, sizeof block))
+        return NULL;
+    const char *name = variable_name(address);
+    return strncmp(name, "0x", 2) == 0 ? NULL : name;
+}

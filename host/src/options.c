@@ -19,6 +19,7 @@ static const char usage[] =
     "  --preemptions N     every order with at most N places where a processor is left that could go on\n"
     "  --places            every order, and no place is gone on from twice: for programs that never end\n"
     "  --replay FILE       a file: an order that --order wrote, or a trace\n"
+    "  --until LINE        with --replay: stops before the turn of this line of the file, where a debugger may look on (HOST.md)\n"
     "How far:\n"
     "  --ticks N|any       so many times on each processor ticks go on to what is due next (3); any goes with --places\n"
     "  --turns N           so many turns in a run (2000)\n"
@@ -34,6 +35,8 @@ static const char usage[] =
     "  --shared V[,V]..    these variables are shared on purpose: no race on them is one\n"
     "  --refused none|own|all|E_..[,E_..]   a call that is refused with such a code, at which nothing looks: E_CTX, E_ID, E_PAR,\n"
     "                      E_ILUSE, and whatever reaches t_perror (own)\n"
+    "  --stacks            a task that uses more stack than its configuration gives is one; at the end, how much each used at most\n"
+    "  --stack-factor N    with --stacks: it may use N times as much, as frames are larger on this machine than on a board (1)\n"
     "  --patience N        a wait without a timeout that lasts more than N ticks is one\n"
     "  --no-points         others go on at service calls alone, and not at accesses of what is shared\n"
     "  --all               goes on after a finding\n"
@@ -42,7 +45,9 @@ static const char usage[] =
     "  --trace FILE        the trace of the first finding, or of the last run\n"
     "  --order FILE        its order, turn by turn\n"
     "  --view FILE         its picture: the page that fmpsim view makes of the trace\n"
-    "  --log               what the program logs, on standard error\n"
+    "  --junit FILE        JUnit's XML, in which this run is a case\n"
+    "  --tap               the same in the Test Anything Protocol, on standard output\n"
+    "  --log               what the program logs in that run, on standard error\n"
     "  --ends              how many ends there were that differ, after all findings\n"
     "  --check             fmpsim check judges the trace of each run\n"
     "With what:\n"
@@ -177,16 +182,17 @@ static void read_replay(const char *text) {
 /* The words that have a value, by what becomes of it. */
 static const struct { const char *word; const char **text; } texts[] = {
     {"--serial", &options.serial}, {"--trace", &options.trace}, {"--order", &options.order}, {"--view", &options.view},
-    {"--config", &options.configuration}, {"--fmpsim", &options.fmpsim}};
+    {"--junit", &options.junit}, {"--config", &options.configuration}, {"--fmpsim", &options.fmpsim}};
 static const struct { const char *word; long *value, least, most; } numbers[] = {
     {"--turns", &options.turns, 1, MOST_TURNS - 1}, {"--runs", &options.most_runs, 1, LONG_MAX}, {"--patience", &options.patience, 0, 1000000},
-    {"--seconds", &options.seconds, 1, 1000000}, {"--jobs", &options.jobs, 1, 256}, {"--stalls", &options.stalls, 1, 1000}, {"--late", &options.late, 1, 1000000}};
+    {"--seconds", &options.seconds, 1, 1000000}, {"--jobs", &options.jobs, 1, 256}, {"--stalls", &options.stalls, 1, 1000}, {"--late", &options.late, 1, 1000000},
+    {"--until", &options.until, 1, LONG_MAX}, {"--stack-factor", &options.stack_factor, 1, 100}};
 static const struct { const char *word; void (*read)(const char *text); } readers[] = {
     {"--seeds", read_seeds}, {"--ticks", read_ticks}, {"--races", read_races}, {"--may-wait", read_sleepers}, {"--shared", read_shared}, {"--refused", read_refused},
     {"--preemptions", read_preemptions}, {"--replay", read_replay}};
 static const struct { const char *word; bool *flag, value; } flags[] = {
     {"--volatile", &options.volatiles, true}, {"--no-points", &options.points, false}, {"--log", &options.logs, true}, {"--all", &options.goes_on, true},
-    {"--ends", &options.tells_ends, true}, {"--progress", &options.progress, true}, {"--check", &options.judged, true}};
+    {"--ends", &options.tells_ends, true}, {"--progress", &options.progress, true}, {"--stacks", &options.stacks, true}, {"--tap", &options.tap, true}, {"--check", &options.judged, true}};
 static const struct { const char *word; enum mode mode; } modes[] = {
     {"--every-order", EVERY_ORDER}, {"--all-orders", ALL_ORDERS}, {"--places", BY_PLACES}};
 #define COUNT(list) (sizeof list / sizeof *list)
@@ -227,6 +233,10 @@ static void look_together(void) {
     joins_returns = options.mode == EVERY_ORDER;
     if (options.ticks_any && options.mode != BY_PLACES)
         misused("--ticks any", "goes with --places alone");
+    if (options.stack_factor > 1 && !options.stacks)
+        misused("--stack-factor", "goes with --stacks alone");
+    if (options.until > 0 && options.mode != BY_REPLAY)
+        misused("--until", "goes with --replay alone");
     if ((options.jobs > 1 || options.stalls || options.late) && options.mode != BY_SEEDS)
         misused(options.jobs > 1 ? "--jobs" : options.stalls ? "--stalls" : "--late", "goes with --seeds alone");
 #if !defined __x86_64__
@@ -238,7 +248,7 @@ static void look_together(void) {
 void read_options(int count, char **words) {
     options = (struct options){.fmpsim = getenv("FMPSIM") ? getenv("FMPSIM") : "fmpsim", .configuration = fmphost_configuration, .serial = "",
                                .first_seed = 1, .last_seed = 100, .ticks = 3, .turns = 2000, .preemptions = -1, .patience = -1, .most_runs = LONG_MAX,
-                               .races = RACES_ALL, .refused = REFUSED_OWN, .seconds = 10, .jobs = 1, .points = true};
+                               .races = RACES_ALL, .refused = REFUSED_OWN, .seconds = 10, .jobs = 1, .stack_factor = 1, .points = true};
     for (int i = 1; i < count; i++) {
         if (!strcmp(words[i], "--help")) {
             fputs(usage, stdout);

@@ -12,13 +12,14 @@ struct options {
     enum races races;
     enum refused refused;
     int named_count, named[MOST_NAMED]; /* the codes that --refused names */
-    const char *fmpsim, *configuration, *serial, *trace, *order, *view, *replay;
+    const char *fmpsim, *configuration, *serial, *trace, *order, *view, *replay, *junit;
     uint64_t first_seed, last_seed;
-    bool progress, points, volatiles, goes_on, tells_ends, judged, logs;
+    bool stacks, tap, progress, points, volatiles, goes_on, tells_ends, judged, logs;
     bool ticks_any, ticks_named, may_wait[MOST_OBJECTS];
     int shared_count;         /* variables that race on purpose */
     struct { uintptr_t at; uint64_t size; } shared[MOST_SHARED];
-    long ticks, turns, preemptions, patience, most_runs, jobs, seconds, stalls, late;
+    long until;               /* the line of the order at which to stop, or 0 */
+    long ticks, turns, preemptions, patience, most_runs, jobs, seconds, stalls, late, stack_factor;
 };
 extern struct options options;
 

@@ -1,6 +1,7 @@
 /* The searches, and the replay of a file. */
 #include "choices.h"
 #include "coverage.h"
+#include "findings.h"
 #include "memory.h"
 #include "outcome.h"
 #include "places.h"
@@ -8,13 +9,12 @@
 #include "report.h"
 #include "search.h"
 #include "searches.h"
+#include "stacks.h"
 #include <stdio.h>
 #include <stdlib.h>
 #include <string.h>
 
 static long runs;
-static struct path first_path;      /* of the first finding, */
-static long first_learned;          /* and what was known when its run began */
 
 static bool is_enough(void) {
     return (found_so_far() && !options.goes_on) || runs >= options.most_runs;
@@ -22,11 +22,6 @@ static bool is_enough(void) {
 
 static void count(bool counts_end) {
     runs++;
-    if (is_finding() && !found_so_far()) {
-        path_of_outcome();
-        first_path = path;
-        first_learned = learned_before;
-    }
     note_run((uint64_t)runs, counts_end);
 }
 
@@ -34,28 +29,33 @@ static void begin_anew(void) {
     runs = 0;
     kept->valid = 0;
     coverage_forget();
+    stacks_forget();
     forget_runs();
 }
 
-/* The run that is told is made again, so that it is known to be so: the first finding's, or the last one. Its trace and its order are of that. */
-static int tell(const char *what, bool complete) {
+/* The last run, where nothing was found: is it the same again? */
+static bool last_again(void) {
     uint64_t hash = outcome->trace_hash;
-    if (found_so_far()) {
-        tell_findings(what);
-        first_finding(&hash);
-        learned_only(first_learned);
-        path = first_path;
-    } else
-        path_of_outcome();
+    path_of_outcome();
     kept->valid = 0;
+    recording = true;
     process_run(by_path);
-    int again = outcome->trace_hash != hash;
-    if (again)
-        fputs("fmphost: it does not do the same again: does the program use the time, a random number, or what it left in a file?\n", stderr);
-    if (!again)
-        write_files();
-    int status = tell_summary(what, complete && !again);
-    return again ? 3 : status;
+    if (outcome->trace_hash != hash) {
+        tell_unsteady();
+        return false;
+    }
+    write_files();
+    if (options.logs)
+        log_tell();
+    return true;
+}
+
+/* The run that is told is made again, so that it is known to be so: each finding's, or the last one. Trace and order are of the first. */
+static int tell(const char *what, bool complete) {
+    end_progress();
+    bool steady = found_so_far() ? tell_findings(what) : last_again();
+    int status = tell_summary(what, complete && steady);
+    return steady ? status : 3;
 }
 
 /* --- orders --- */
@@ -124,9 +124,7 @@ static bool go_on_from(long place, int action) {
     if (place >= 0)
         keep_common();
     process_run(by_place);
-    struct path gone = path;
     count(outcome->ending != LEFT_OFF);
-    path = gone;
     return true;
 }
 
@@ -183,11 +181,14 @@ int play_file(void) {
     if (!replay_has_points())
         learn_words();
     kept->valid = 0;
+    recording = true;
     process_run(by_replay);
     replay_compare(is_finding());
     count(true);
     if (is_finding())
-        tell_findings("order");
+        tell_replayed("order");
+    else if (options.logs)
+        log_tell();
     write_files();
     bool cut = outcome->ending == CUT_SHORT;
     if (cut)

@@ -2,13 +2,15 @@
  * Two orders that come to the same place go on alike, so one is enough. A place is all that what comes next can depend on: the kernel's state
  * as it tells it, the program's memory as far as it was touched, and for each task and handler its stack, registers and what it stands before.
  * The kernel does not tell all: in which order tasks wait, where they and handlers are assigned, which blocks are handed out. That is put
- * together here from the calls, so that two places are never taken for one. A stack has old bytes in it, so one may be taken for two.
+ * together here from the calls. Nor does the memory tell all: who comes after whom, which decides what races, and how far the serial port was read. So two
+ * places are not taken for one, unless their hashes are the same. A stack has old bytes in it, so one may be taken for two.
  */
 #define _GNU_SOURCE
 #include "places.h"
 #include "memory.h"
 #include "outcome.h"
 #include "pools.h"
+#include "requests.h"
 #include "run.h"
 #include "timers.h"
 #include <stdio.h>
@@ -78,7 +80,9 @@ static uint64_t kernel_part(uint64_t sum) {
 }
 
 static uint64_t this_place(void) {
-    uint64_t sum = kernel_part(memory_hash_all());
+    uint64_t sum = mix(kernel_part(memory_hash_all()), serial_read());
+    if (options.races != RACES_NONE)
+        sum = mix(sum, memory_hash_races());
     for (int i = 0; i < context_count; i++) {
         const struct context *who = &contexts[i];
         if (!who->lives) {
@@ -86,6 +90,8 @@ static uint64_t this_place(void) {
             continue;
         }
         sum = mix(sum, (uint64_t)(who->next * 8 + who->waits * 4 + who->answered * 2 + run_spins(i)));
+        if (options.patience >= 0 && who->waits)
+            sum = mix(sum, (uint64_t)run_waited(i));
         if (who->answered)
             sum = mix(mix(sum, (uint64_t)who->code), (uint64_t)who->value);
         sum = stack_of(sum, who); /* the call or the access before which it stands follows from it */

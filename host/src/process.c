@@ -4,6 +4,7 @@
 #include "coverage.h"
 #include "memory.h"
 #include "outcome.h"
+#include "stacks.h"
 #include <errno.h>
 #include <signal.h>
 #include <stdio.h>
@@ -73,12 +74,24 @@ static uintptr_t crashing_code(const void *context) {
     return !project && (own || outside) ? outcome->last : code + 1;
 }
 
+/* From where the code was called that crashed. */
+static void keep_callers(const void *context) {
+#if defined __x86_64__
+    const greg_t *registers = ((const ucontext_t *)context)->uc_mcontext.gregs;
+    if (recording && running != NULL)
+        callers_of(running, (uintptr_t)registers[REG_RBP], outcome->crash, &outcome->callers);
+#else
+    (void)context;
+#endif
+}
+
 static void crashed(int number, siginfo_t *info, void *context) {
     const char *whose, *who = running ? context_name((int)(running - contexts)) : "the runner";
     if (number == SIGALRM && running == NULL)
         give_up("fmpsim does not answer for %ld s", options.seconds);
     outcome->last = running ? running->place : 0;
     outcome->crash = crashing_code(context);
+    keep_callers(context);
     seal_outcome(number == SIGALRM ? HANG : CRASH);
     if (number == SIGALRM)
         say_words("%s comes to no service call for %ld s", who, options.seconds);
@@ -88,7 +101,7 @@ static void crashed(int number, siginfo_t *info, void *context) {
         say_words("%s in %s", strsignal(number), who);
     else
         say_words("%s in %s, at address 0x%lx", strsignal(number), who, (unsigned long)(uintptr_t)info->si_addr);
-    _exit(0);
+    leave_run();
 }
 
 static void catch_crashes(void) {
@@ -99,6 +112,29 @@ static void catch_crashes(void) {
     sigaltstack(&own, NULL);
     for (size_t i = 0; i < sizeof signals / sizeof *signals; i++)
         sigaction(signals[i], &action, NULL);
+}
+
+/* With a debugger the run is made in this process, or it would have to follow into another; who leaves it comes back here. */
+static ucontext_t back;
+static volatile bool is_here, has_left;
+
+void leave_run(void) {
+    if (!is_here)
+        _exit(0);
+    is_here = false;
+    has_left = true;
+    running = NULL;
+    setcontext(&back);
+    abort();
+}
+
+static void run_here(chooser *choose) {
+    is_here = true;
+    getcontext(&back);
+    if (has_left)
+        return;
+    catch_crashes();
+    run(choose);
 }
 
 /* The program has called exit(), whose number the process that waits is told. */
@@ -112,7 +148,8 @@ static void left_by_exit(void) {
 static void look_at_status(int status) {
     if (WIFSIGNALED(status)) {
         outcome->ending = CRASH;
-        say_words("the run was ended by %s", strsignal(WTERMSIG(status)));
+        outcome->crash = 0;
+        say_words("%s in %s", strsignal(WTERMSIG(status)), outcome->runs >= 0 ? context_name(outcome->runs) : "the runner");
     } else if (outcome->ending == UNENDED) {
         outcome->ending = CRASH;
         say_words("the program called exit(%d)", WEXITSTATUS(status));
@@ -123,10 +160,19 @@ static void look_at_status(int status) {
 void process_run(chooser *choose) {
     outcome->ending = UNENDED;
     outcome->turns = outcome->events = outcome->trace_length = 0;
+    outcome->runs = -1;
     outcome->crash = outcome->last = outcome->end = outcome->trace_hash = 0;
+    outcome->callers.count = 0;
+    outcome->callers.more = false;
+    if (recording)
+        log_begin();
     for (int kind = 0; kind < LEFT_KINDS; kind++)
         outcome->left[kind][0] = '\0';
     learned_before = learned->count;
+    if (options.until > 0 && choose == by_replay) {
+        run_here(choose);
+        return;
+    }
     pid_t child = fork();
     if (child < 0)
         give_up("no process could be started: %s", strerror(errno));
@@ -149,7 +195,6 @@ bool is_finding(void) {
 /* The words that contexts share are learned in a few runs first, by fixed seeds: so what a seed does depends on the seed alone. */
 void learn_words(void) {
     struct options asked = options;
-    options.logs = false;
     options.stalls = options.late = 0;
     learned->learns = true;
     for (uint64_t seed = 1; seed <= 8 && options.points; seed++) {
@@ -161,5 +206,6 @@ void learn_words(void) {
     }
     options = asked;
     coverage_forget();
+    stacks_forget();
     learned->learns = options.mode != BY_SEEDS && options.mode != BY_REPLAY;
 }

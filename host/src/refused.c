@@ -8,6 +8,7 @@
 #include "names.h"
 #include "options.h"
 #include "outcome.h"
+#include "requests.h"
 #include <stdio.h>
 #include <stdlib.h>
 #include <string.h>
@@ -107,13 +108,13 @@ void refused_call(ER code) {
     const struct context *me = running;
     if (code >= 0 || me->place == 0 || !is_asked_for(code, false) || reads_result((const unsigned char *)me->place) || place_names(me->place, code))
         return;
-    end_with_place(REFUSED, "%s answers %s in %s, which does not look at it", me->request, code_name(code), context_name((int)(me - contexts)));
+    end_with_place(REFUSED, "%s answers %s in %s, which does not look at it", request_text(me), code_name(code), context_name((int)(me - contexts)));
 }
 
 void refused_told(ER code, const char *file, int line) {
     const struct context *me = running;
     if (me == NULL || code >= 0 || !is_asked_for(code, true) || line_names(file, line, code_name(code)))
         return;
-    end_with_place(REFUSED, "%s answers %s in %s, which has it logged", me->code == code ? me->request : "a call", code_name(code),
+    end_with_place(REFUSED, "%s answers %s in %s, which has it logged", me->code == code ? request_text(me) : "a call", code_name(code),
                    context_name((int)(me - contexts)));
 }

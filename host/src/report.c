@@ -2,12 +2,14 @@
 #include "report.h"
 #include "run.h"
 #include "coverage.h"
+#include "findings.h"
 #include "memory.h"
 #include "names.h"
 #include "options.h"
 #include "places.h"
 #include "process.h"
 #include "search.h"
+#include "stacks.h"
 #include <errno.h>
 #include <stdarg.h>
 #include <stdatomic.h>
@@ -17,15 +19,7 @@
 #include <time.h>
 #include <unistd.h>
 
-enum { MOST_FINDINGS = 64, MOST_ENDS = 1 << 16 };
-struct finding {
-    enum ending ending;
-    uint64_t number, trace_hash;
-    long count;
-    char words[1024];
-    struct access race[2];
-    uintptr_t crash, last;
-};
+enum { MOST_ENDS = 1 << 16 };
 struct untried { /* of one kind: how many runs left something, and the first of them what */
     long count;
     uint64_t number;
@@ -34,10 +28,9 @@ struct untried { /* of one kind: how many runs left something, and the first of 
 /* Shared by those that play seeds side by side. */
 static struct tally {
     atomic_flag taken;
-    long runs, cut, findings, turns, events, end_count, kinds;
+    long runs, cut, turns, events, end_count;
     double told_at;
     uint64_t ends_sum, ends[MOST_ENDS];
-    struct finding finding[MOST_FINDINGS];
     struct untried untried[LEFT_KINDS];
 } *tally;
 static double began;
@@ -61,30 +54,6 @@ static void note_end(void) {
         i = (i + 1) & (MOST_ENDS - 1);
     if (tally->ends[i] == 0 && tally->end_count < MOST_ENDS / 2)
         tally->ends[i] = outcome->end, tally->end_count++, tally->ends_sum += outcome->end;
-}
-
-static bool is_alike(const struct finding *one, const struct finding *other) {
-    if (one->ending != other->ending)
-        return false;
-    if (one->ending == RACE)
-        return one->race[0].place == other->race[0].place && one->race[1].place == other->race[1].place;
-    return strcmp(one->words, other->words) == 0;
-}
-
-static void note_finding(uint64_t number) {
-    struct finding found = {.ending = outcome->ending, .number = number, .trace_hash = outcome->trace_hash, .count = 1, .crash = outcome->crash, .last = outcome->last};
-    snprintf(found.words, sizeof found.words, "%.1000s", outcome->words);
-    memcpy(found.race, outcome->race, sizeof found.race);
-    for (long i = 0; i < tally->kinds; i++)
-        if (is_alike(&tally->finding[i], &found)) {
-            found.count += tally->finding[i].count;
-            if (number < tally->finding[i].number)
-                tally->finding[i] = found;
-            tally->finding[i].count = found.count;
-            return;
-        }
-    if (tally->kinds < MOST_FINDINGS)
-        tally->finding[tally->kinds++] = found;
 }
 
 static void note_left(uint64_t number) {
@@ -141,7 +110,7 @@ static void tell_progress(void) {
             tally->turns, now - began, changes ? "\033[K" : "\n");
 }
 
-static void end_progress(void) {
+void end_progress(void) {
     if (tally->told_at > 0 && isatty(STDERR_FILENO))
         fputs("\r\033[K", stderr);
     tally->told_at = 0;
@@ -156,7 +125,6 @@ void note_run(uint64_t number, bool counts_end) {
     tally->cut += outcome->ending == LIMIT;
     tally->turns += outcome->turns;
     tally->events += outcome->events;
-    tally->findings += is_finding();
     if (is_finding())
         note_finding(number);
     if (counts_end)
@@ -167,60 +135,11 @@ void note_run(uint64_t number, bool counts_end) {
 }
 
 void forget_runs(void) {
+    forget_findings();
     memset(tally, 0, sizeof *tally);
 }
 
-bool found_so_far(void) {
-    return tally->findings > 0;
-}
-
-static int earliest(uint64_t above) {
-    int best = -1;
-    for (int i = 0; i < tally->kinds; i++)
-        if (tally->finding[i].number >= above && (best < 0 || tally->finding[i].number < tally->finding[best].number))
-            best = i;
-    return best;
-}
-
-uint64_t first_finding(uint64_t *trace_hash) {
-    int first = earliest(0);
-    *trace_hash = tally->finding[first].trace_hash;
-    return tally->finding[first].number;
-}
-
 /* --- telling --- */
-
-static void tell_access(const struct access *access) {
-    fprintf(stderr, "fmphost:   %s on P%d %s it: %s\n", context_name(access->context), access->processor, access->frees ? "frees" : access->writes ? "writes" : "reads", place_name(access->place));
-}
-
-static void tell_finding(const struct finding *found) {
-    if (found->ending == RACE) {
-        const struct access *race = found->race;
-        fprintf(stderr, "fmphost: race on %s, %u bytes at 0x%lx: nothing orders these two\n", variable_name(race->at), race->size, (unsigned long)race->at);
-        tell_access(&race[0]);
-        tell_access(&race[1]);
-        return;
-    }
-    fprintf(stderr, "fmphost: %s%s%s\n", found->words, found->crash ? ": " : "", found->crash ? place_name(found->crash) : "");
-    if (found->last && found->last != found->crash)
-        fprintf(stderr, "fmphost:   its last call or access: %s\n", place_name(found->last));
-}
-
-/* The first one; with --all one of each kind. What seeds beside the first one found is not told without it, as that is chance. */
-void tell_findings(const char *what) {
-    end_progress();
-    for (int i = earliest(0); i >= 0; i = options.goes_on ? earliest(tally->finding[i].number + 1) : -1) {
-        const struct finding *found = &tally->finding[i];
-        fprintf(stderr, "fmphost: %s %llu", what, (unsigned long long)found->number);
-        if (options.goes_on && found->count > 1)
-            fprintf(stderr, ", and %ld more", found->count - 1);
-        fputc('\n', stderr);
-        tell_finding(found);
-    }
-    if (tally->kinds == MOST_FINDINGS)
-        fprintf(stderr, "fmphost: and perhaps other kinds: there is room for %d\n", MOST_FINDINGS);
-}
 
 static const char *where_left(enum left kind, char *into, size_t room) {
     if (kind == LEFT_TICKS)
@@ -279,7 +198,7 @@ static void tell_extent(void) {
 int tell_summary(const char *what, bool complete) {
     double took = seconds() - began;
     end_progress();
-    bool told = !tally->findings || options.goes_on; /* else the search stopped at what it found */
+    bool told = !found_so_far() || options.goes_on; /* else the search stopped at what it found */
     bool all = complete;
     if (told)
         all &= !tell_untried(what, complete);
@@ -287,7 +206,9 @@ int tell_summary(const char *what, bool complete) {
         coverage_tell();
     if (told && fmphost_outside != NULL && fmphost_outside[0] != '\0')
         fprintf(stderr, "fmphost: not seen: what these do with memory: %s\n", fmphost_outside);
-    if (!outcome->instrumented)
+    if (options.stacks)
+        stacks_tell();
+    if (!instrumented)
         fputs("fmphost: the program was not compiled with -fsanitize=thread, so no race was looked for\n", stderr);
     fprintf(stderr, "fmphost: %ld %s%s, %ld turns, %ld events, %.2f s", tally->runs, what, tally->runs == 1 ? "" : "s", tally->turns, tally->events, took);
     if (options.mode == BY_PLACES)
@@ -298,15 +219,15 @@ int tell_summary(const char *what, bool complete) {
         fprintf(stderr, ", %ld cut at %ld turns", tally->cut, options.turns);
     if (options.tells_ends)
         fprintf(stderr, ", %ld ends %016llx", tally->end_count, (unsigned long long)tally->ends_sum);
-    if (options.goes_on && tally->findings > 1)
-        fprintf(stderr, ", %ld findings", tally->findings);
+    if (options.goes_on && findings_count() > 1)
+        fprintf(stderr, ", %ld findings", findings_count());
     if (!complete && tally->runs >= options.most_runs)
         fprintf(stderr, ", cut at %ld %ss", tally->runs, what);
-    if (!tally->findings && all)
+    if (!found_so_far() && all)
         tell_extent();
     else
-        fputs(tally->findings ? (all ? "\n" : ", not all\n") : ": nothing found, but not all was looked at\n", stderr);
-    return tally->findings ? 5 : all ? 0 : 6;
+        fputs(found_so_far() ? (all ? "\n" : ", not all\n") : ": nothing found, but not all was looked at\n", stderr);
+    return found_so_far() ? 5 : all ? 0 : 6;
 }
 
 /* --- files --- */
@@ -333,14 +254,50 @@ bool record_text(long record, char *into, uint64_t size) {
     return true;
 }
 
-/* `CTRL sus_tsk(COPY) E_OK ipi=2`, or `CTRL reads busy`. */
+static void add_text(char *into, uint64_t size, const char *form, ...) __attribute__((format(printf, 3, 4)));
+static void add_text(char *into, uint64_t size, const char *form, ...) {
+    size_t length = strlen(into);
+    va_list values;
+    va_start(values, form);
+    vsnprintf(into + length, size - length, form, values);
+    va_end(values);
+}
+
+/* `= 3`; a number that may be one below zero is told both ways, and an address with the name of what is there. */
+static void add_number(const struct turn *turn, char *into, uint64_t size) {
+    uint64_t value = 0;
+    memcpy(&value, turn->value, turn->size); /* of a machine with the low byte first */
+    int64_t low = (int64_t)(value << (64 - 8 * turn->size)) >> (64 - 8 * turn->size);
+    const char *name = turn->size == sizeof(void *) ? address_name(value) : NULL;
+    if (name != NULL)
+        add_text(into, size, " = 0x%llx (%s)", (unsigned long long)value, name);
+    else if (low < 0)
+        add_text(into, size, " = 0x%llx (%lld)", (unsigned long long)value, (long long)low);
+    else
+        add_text(into, size, " = %llu", (unsigned long long)value);
+}
+
+static void access_text(const struct turn *turn, char *into, uint64_t size) {
+    snprintf(into, size, "%s %s %s", context_name(turn->context), turn->writes ? "writes" : "reads", variable_name(turn->at));
+    if (!turn->valued)
+        return;
+    if (turn->size <= 8 && (turn->size & (turn->size - 1)) == 0) {
+        add_number(turn, into, size);
+        return;
+    }
+    for (unsigned i = 0; i < turn->size && i < MOST_VALUE; i++)
+        add_text(into, size, "%s%02x", i ? " " : " = bytes ", turn->value[i]);
+    add_text(into, size, turn->size > MOST_VALUE ? " .." : "");
+}
+
+/* `CTRL sus_tsk(COPY) E_OK ipi=2`, or `CTRL reads busy = 1`. */
 void turn_text(long number, char *into, uint64_t size) {
     const struct turn *turn = &outcome->turn[number];
     char record[2048];
     if (turn->record > 0 && record_text(turn->record, record, sizeof record))
         snprintf(into, size, turn->ticks > 1 ? "%s   (%ld ticks)" : "%s", strchr(record, ' ') + 1, turn->ticks);
     else if (turn->size != 0)
-        snprintf(into, size, "%s %s %s", context_name(turn->context), turn->writes ? "writes" : "reads", variable_name(turn->at));
+        access_text(turn, into, size);
     else
         snprintf(into, size, "%s", context_name(turn->context));
 }
@@ -355,6 +312,7 @@ static void write_order(const char *path) {
     for (long i = 0; i < learned_before; i++)
         fprintf(file, " %lx", (unsigned long)learned->word[i]);
     fputc('\n', file);
+    log_write(file, 0);
     for (long i = 0; i < outcome->turns; i++) {
         const struct turn *turn = &outcome->turn[i];
         turn_text(i, text, sizeof text);
@@ -362,6 +320,7 @@ static void write_order(const char *path) {
         if (turn->place != 0)
             fprintf(file, "   [%s]", place_name(turn->place));
         fputc('\n', file);
+        log_write(file, i + 1);
     }
     if (ferror(file) | fclose(file))
         unwritten(path);

@@ -5,10 +5,8 @@
 
 void note_run(uint64_t number, bool counts_end); /* of the outcome: a seed, or the how manieth */
 void forget_runs(void);                          /* what was gone through so far is gone through again */
-bool found_so_far(void);
 void leave_untried(enum left kind, const char *form, ...) __attribute__((format(printf, 2, 3))); /* something of all runs together */
-uint64_t first_finding(uint64_t *trace_hash);    /* its number */
-void tell_findings(const char *what);            /* on standard error */
+void end_progress(void);                         /* before anything else is told */
 int tell_summary(const char *what, bool complete);
 void write_files(void);                          /* of the outcome, those that the command line names */
 void write_trace(const char *path);

@@ -16,19 +16,38 @@ static int object_in(const struct context *me) {
     return object_of(kind - A_TASK, (int)me->argument[0]);
 }
 
-/* As an event has it: `wai_flg(1, 3, TWF_ANDW)`. */
-static void write_request(struct context *me) {
-    char *at = me->request, *end = at + sizeof me->request;
+/* The name of what an argument is, or NULL where it is a number. */
+static const char *argument_name(const struct context *me, int i, bool names) {
+    int kind = me->call->argument[i];
+    if (kind == A_MODE)
+        return me->argument[i] == TWF_ANDW ? "TWF_ANDW" : "TWF_ORW";
+    if (!names || kind < A_TASK || kind > A_SPIN_LOCK)
+        return NULL;
+    if (kind == A_TASK && me->argument[i] == TSK_SELF)
+        return "TSK_SELF";
+    int object = object_of(kind - A_TASK, (int)me->argument[i]);
+    return object < 0 ? NULL : fmphost_objects[object].name;
+}
+
+static void write_request(const struct context *me, char *at, const char *end, bool names) {
     at += snprintf(at, (size_t)(end - at), me->call->does & RETURNS ? "%s" : "%s(", me->call->name);
     for (int i = 0; i < MOST_ARGUMENTS && me->call->argument[i] != A_NOTHING; i++) {
-        const char *comma = i > 0 ? ", " : "";
-        if (me->call->argument[i] == A_MODE)
-            at += snprintf(at, (size_t)(end - at), "%s%s", comma, me->argument[i] == TWF_ANDW ? "TWF_ANDW" : "TWF_ORW");
+        const char *comma = i > 0 ? ", " : "", *name = argument_name(me, i, names);
+        if (name != NULL)
+            at += snprintf(at, (size_t)(end - at), "%s%s", comma, name);
         else
             at += snprintf(at, (size_t)(end - at), "%s%lld", comma, (long long)me->argument[i]);
+        if (at >= end)
+            return;
     }
     if (!(me->call->does & RETURNS))
         snprintf(at, (size_t)(end - at), ")");
+}
+
+const char *request_text(const struct context *me) {
+    static char text[1024];
+    write_request(me, text, text + sizeof text, true);
+    return text;
 }
 
 void request_of(struct context *me, const void *place, enum call_number number, const int64_t *arguments) {
@@ -37,7 +56,7 @@ void request_of(struct context *me, const void *place, enum call_number number, 
     me->next = CALL;
     me->named = object_in(me);
     me->place = (uintptr_t)place;
-    write_request(me);
+    write_request(me, me->request, me->request + sizeof me->request, false);
 }
 
 void request(const void *place, enum call_number number, const int64_t *arguments) {

@@ -5,6 +5,7 @@
 #include "outcome.h"
 #include "places.h"
 #include "pools.h"
+#include "requests.h"
 #include "timers.h"
 #include <stdarg.h>
 #include <stdio.h>
@@ -69,9 +70,11 @@ void end_run(enum ending ending, const char *form, ...) {
     outcome->end = end_hash(ending) ^ (uint64_t)ending << 56;
     for (const char *at = outcome->words; *at != '\0'; at++)
         outcome->end = (outcome->end ^ (unsigned char)*at) * 1099511628211u;
+    if (recording && running != NULL && ending != RACE)
+        callers_of(running, (uintptr_t)__builtin_frame_address(0), running->place, &outcome->callers);
     running = NULL;
     proved_stop();
-    _exit(0);
+    leave_run();
 }
 
 void end_with_place(enum ending ending, const char *form, ...) {
@@ -276,6 +279,11 @@ static void make_ticks(int processor, struct turn *turn) {
         footprint_quiet_tick(footprint, processor);
 }
 
+/* Whoever was to write is behind its next access by then, but that is none of the same bytes, or it would be a turn. */
+static void keep_value(struct turn *turn) {
+    turn->valued = turn->size > 0 && bytes_at(turn->at, turn->value, turn->size < MOST_VALUE ? turn->size : MOST_VALUE);
+}
+
 static void make_turn(int action) {
     int processor = action / ACTS + 1;
     struct turn *turn = &outcome->turn[outcome->turns];
@@ -296,7 +304,11 @@ static void make_turn(int action) {
         return;
     }
     turn->at = who->at, turn->size = who->next == ACCESS ? who->size : 0, turn->writes = who->writes;
+    if (recording && !turn->writes)
+        keep_value(turn);
     context_resume(who);
+    if (recording && turn->writes)
+        keep_value(turn);
 }
 
 /* --- those that wait for ever --- */
@@ -306,6 +318,11 @@ static long most_ticks(void) {
     for (int p = 1; p <= fmphost_processors; p++)
         most = ticks[p] > most ? ticks[p] : most;
     return most;
+}
+
+long run_waited(int context) {
+    long waited = most_ticks() - waits_since[context];
+    return waited > options.patience ? options.patience + 1 : waited;
 }
 
 /* At an end nothing goes on. Before it only patience says that one waits for too long. */
@@ -347,7 +364,7 @@ static void end_at_sleepers(bool ended) {
     for (int i = 0; i < context_count && length < sizeof words - 600; i++)
         if (is_stuck(i, ended))
             length += (size_t)snprintf(words + length, sizeof words - length, "%s%s %s for ever in %s", length ? "; " : "", context_name(i),
-                                       contexts[i].waits ? "waits" : "spins", contexts[i].request);
+                                       contexts[i].waits ? "waits" : "spins", request_text(&contexts[i]));
     if (length > 0) {
         add_servers(words + length, sizeof words - length, ended);
         end_run(ASLEEP, "%s", words);
@@ -374,7 +391,7 @@ void run_leaves_ticks(bool ended) {
         const struct context *who = &contexts[i];
         bool waits = who->processor == 0 && who->waits && !options.may_wait[who->object];
         if ((waits && (ended || state.counting[who->object])) || (ended && is_stuck(i, true)))
-            add_left(LEFT_TICKS, "%s%s %s in %s", comma(LEFT_TICKS), context_name(i), waits ? "waits" : "spins", who->request);
+            add_left(LEFT_TICKS, "%s%s %s in %s", comma(LEFT_TICKS), context_name(i), waits ? "waits" : "spins", request_text(who));
     }
     for (int i = 0; i < fmphost_object_count && ended; i++)
         if (fmphost_objects[i].kind != FMPHOST_TASK && counts(i) && !began[i])
@@ -430,14 +447,20 @@ static bool only_ticks(uint32_t may) {
     return may == 0;
 }
 
+/* For each turn anew: code that comes to nothing in that time hangs. Who looks on in a debugger takes as long as it takes. */
+static void wait_at_most(void) {
+    if (options.until == 0)
+        alarm((unsigned)options.seconds);
+}
+
 void run(chooser *choose) {
-    alarm((unsigned)options.seconds);
+    wait_at_most();
     proved_start();
     timers_begin();
     note_counting();
     outcome->turns = 0;
     while (outcome->turns < options.turns && !proved_full()) {
-        alarm((unsigned)options.seconds); /* for each turn anew: code that comes to nothing in that time hangs */
+        wait_at_most();
         settle();
         uint32_t may = may_happen();
         int action = choose(may, outcome->turns);

@@ -11,6 +11,7 @@ typedef int chooser(uint32_t enabled, long turn);
 void run(chooser *choose);
 long run_ticks(int processor);
 bool run_spins(int context);
+long run_waited(int context); /* for how many ticks, as far as --patience asks */
 int run_processor(const struct context *who); /* the processor on which it runs, or 0 */
 struct context *run_current(int processor);   /* who runs there, or NULL */
 void say_words(const char *form, ...) __attribute__((format(printf, 1, 2))); /* into the outcome */

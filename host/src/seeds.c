@@ -1,6 +1,7 @@
 /* Seeds, one after the other or several side by side: what is told is that of the lowest that finds something, however many play. */
 #define _GNU_SOURCE
 #include "choices.h"
+#include "findings.h"
 #include "memory.h"
 #include "outcome.h"
 #include "process.h"
@@ -64,20 +65,23 @@ static void play_side_by_side(uint64_t last) {
         exit(3);
 }
 
-/* The run that is told is played once more, for its trace and its order, and to see that it is the same again. */
-static int play_again(uint64_t seed, uint64_t trace_hash) {
+/* The last one, where nothing was found, is played once more, for its trace and its order, and to see that it is the same again. */
+static bool last_again(uint64_t seed) {
+    recording = true;
     play_seed(seed);
-    if (outcome->trace_hash != trace_hash) {
-        fprintf(stderr, "fmphost: seed %llu does not do the same again: does the program use the time, a random number, or what it left in a file?\n",
-                (unsigned long long)seed);
-        return 3;
+    if (outcome->trace_hash != together->last_hash) {
+        fprintf(stderr, "fmphost: seed %llu\n", (unsigned long long)seed);
+        tell_unsteady();
+        return false;
     }
     write_files();
-    return 0;
+    if (options.logs)
+        log_tell();
+    return true;
 }
 
 int play_seeds(void) {
-    uint64_t last = options.last_seed - options.first_seed, hash;
+    uint64_t last = options.last_seed - options.first_seed;
     bool complete = (uint64_t)options.most_runs > last;
     if (!complete)
         last = (uint64_t)options.most_runs - 1;
@@ -88,13 +92,8 @@ int play_seeds(void) {
         play_side_by_side(last);
     else
         play_some(last);
-    uint64_t told = options.first_seed + last;
-    if (found_so_far()) {
-        tell_findings("seed");
-        told = first_finding(&hash);
-    } else
-        hash = together->last_hash;
-    int again = play_again(told, hash);
+    end_progress();
+    bool steady = found_so_far() ? tell_findings("seed") : last_again(options.first_seed + last);
     int status = tell_summary("seed", complete);
-    return again ? again : status;
+    return steady ? status : 3;
 }

@@ -42,17 +42,22 @@ void fmphost_tick(void) {
     reply();
 }
 
+static _Noreturn void claim_fails(const char *text, const char *file, int line, uintptr_t place) {
+    if (running != NULL)
+        running->place = place;
+    end_run(CLAIM, "%s:%d: %s is false%s%s", file, line, text, running ? ", in " : "", running ? runner_name() : "");
+}
+
 void fmphost_claim(bool holds, const char *text, const char *file, int line) {
     if (!holds)
-        end_run(CLAIM, "%s:%d: %s is false%s%s", file, line, text, running ? ", in " : "", running ? runner_name() : "");
+        claim_fails(text, file, line, (uintptr_t)__builtin_return_address(0));
 }
 
 /* What <assert.h> of C makes of an assertion: the program's own header may be that. */
 __attribute__((visibility("default"))) _Noreturn void __assert_fail(const char *text, const char *file, unsigned line, const char *function);
 void __assert_fail(const char *text, const char *file, unsigned line, const char *function) {
     (void)function;
-    fmphost_claim(false, text, file, (int)line);
-    __builtin_unreachable();
+    claim_fails(text, file, (int)line, (uintptr_t)__builtin_return_address(0));
 }
 
 ER ext_ker(void) {
@@ -65,12 +70,10 @@ void fmphost_log(uint_t priority, const char *form, ...) {
     va_start(values, form);
     format_reads(form, values, (uintptr_t)__builtin_return_address(0));
     va_end(values);
-    if (!options.logs)
+    if (!recording)
         return;
     va_start(values, form);
-    fprintf(stderr, "[%ld %s] ", answers - 1, runner_name());
-    vfprintf(stderr, form, values);
-    fputc('\n', stderr);
+    log_line(runner_name(), form, values);
     va_end(values);
 }
 
@@ -89,6 +92,10 @@ ER syslog_msk_log(uint_t logmask, uint_t lowmask) { (void)logmask, (void)lowmask
 
 static size_t read_so_far;
 
+uint64_t serial_read(void) {
+    return read_so_far;
+}
+
 ER serial_opn_por(ID portid) { (void)portid; return E_OK; }
 ER serial_cls_por(ID portid) { (void)portid; return E_OK; }
 ER serial_ctl_por(ID portid, uint_t ioctl) { (void)portid, (void)ioctl; return E_OK; }
@@ -97,7 +104,8 @@ ER_UINT serial_rea_dat(ID portid, char *buf, uint_t len) {
     (void)portid;
     uintptr_t place = (uintptr_t)__builtin_return_address(0);
     for (uint_t i = 0; i < len; i++) {
-        ER ercd = options.serial[read_so_far] != '\0' ? dly_tsk(0) : slp_tsk(); /* a port from which nothing more comes */
+        /* a port from which nothing more comes is waited for */
+        ER ercd = options.serial[read_so_far] != '\0' ? ask((const void *)place, DLY_TSK, 0) : ask((const void *)place, SLP_TSK, 0);
         if (ercd != E_OK)
             return i > 0 ? (ER_UINT)i : ercd;
         string_writes(&buf[i], 1, place);
@@ -109,7 +117,7 @@ ER_UINT serial_rea_dat(ID portid, char *buf, uint_t len) {
 ER_UINT serial_wri_dat(ID portid, const char *buf, uint_t len) {
     (void)portid;
     string_reads(buf, len, (uintptr_t)__builtin_return_address(0));
-    if (options.logs)
-        fwrite(buf, 1, len, stderr);
+    if (recording)
+        log_bytes(buf, len);
     return (ER_UINT)len;
 }

@@ -15,7 +15,8 @@ WORDS = [
     (["--ticks", "any"], 2, "goes with --places alone"), (["--turns", "0"], 2, "--turns: expected a number from 1"),
     (["--every-order", "--places"], 2, "--places: says another way"), (["--races", "some"], 2, "--races: expected none"),
     (["--may-wait", "NOBODY"], 2, "--may-wait: no task has that name"), (["--jobs", "2", "--every-order"], 2, "--jobs: goes with --seeds alone"),
-    (["--refused", "E_NOTHING"], 2, "--refused: expected none, own, all or codes"), (["--shared", "nothing_of_this"], 2, "--shared: no variable has that name"), (["--replay", "/nowhere/it"], 3, "/nowhere/it: No such file"), (["--trace", "/nowhere/it"], 3, "/nowhere/it: No such file"),
+    (["--until", "3"], 2, "--until: goes with --replay alone"), (["--stack-factor", "2"], 2, "--stack-factor: goes with --stacks alone"),
+    (["--stacks", "--stack-factor", "0"], 2, "--stack-factor: expected a number from 1"), (["--refused", "E_NOTHING"], 2, "--refused: expected none, own, all or codes"), (["--shared", "nothing_of_this"], 2, "--shared: no variable has that name"), (["--replay", "/nowhere/it"], 3, "/nowhere/it: No such file"), (["--trace", "/nowhere/it"], 3, "/nowhere/it: No such file"),
     (["--order", "/dev/full"], 3, "/dev/full: No space left"), (["--view", "/nowhere/it"], 3, "/nowhere/it: fmpsim view failed"),
 ]
 # What the program `bad` does by HOW: status, and what is told. Where it is found, its seed is, too.
@@ -23,10 +24,14 @@ HOW = {
     "null": (5, "Segmentation fault in BAD, at address 0x0: bad_task bad.c:"), "divide": (5, "Floating point exception in BAD"),
     "deep": (5, "stack overflow in BAD: deep bad.c:"), "loop": (5, "BAD comes to no service call for 2 s: bad_task bad.c:"),
     "exit": (5, "the program called exit(0)"), "abort": (5, "Aborted in BAD"), "out": (5, "Segmentation fault in BAD, at address 0x0: bad_task bad.c:"),
-    "jump": (5, "BAD has jumped to the stack of OTHER"), "claim": (5, "n == 2 is false, in BAD"), "claim of C": (5, "claims.c:6: n == 3 is false, in BAD"),
+    "jump": (5, "BAD has jumped to the stack of OTHER: other_task bad.c:"), "jump and end": (5, "BAD has jumped to the stack of OTHER"),
+    "_exit": (5, "the program called _exit(7): leave bad.c:"), "quick_exit": (5, "the program called quick_exit(7): leave bad.c:"),
+    "kill": (5, "the program sent itself the signal 9: leave bad.c:"), "stop": (5, "the program sent itself the signal 19: leave bad.c:"), "killed": (5, "fmphost: Killed in BAD\n"),
+    "fork": (5, "the program called fork(): a task has no process of its own: leave bad.c:"), "thread": (5, "the program called pthread_create()"),
+    "exec": (5, "the program called execvp(): leave bad.c:"), "claim": (5, "n == 2 is false, in BAD"), "claim of C": (5, "claims.c:6: n == 3 is false, in BAD"),
     "handler aborts": (5, "Aborted in CLOCK"),
     "handler waits": (0, "nothing found"), "handler ends": (0, "nothing found"), "poll": (6, "what comes after 2000 turns: BAD goes on (seed 1, and 2 more)"),
-    "time": (3, "does not do the same again"),
+    "wide": (5, "stack overflow in BAD: wide bad.c:"), "time": (3, "does not do the same again"), "unsteady": (3, "does not do the same again"),
 }
 
 
@@ -39,7 +44,7 @@ def programs_at_fault(test):
                 if "fmpsim does not answer" not in told:
                     break
             wanted = wanted.replace("for 2 s", "for %s s" % patience[1]) if patience else wanted
-            test.check(ended == status and wanted in told and (status != 5 or "seed 1" in told), "%s: bad, HOW=%s: status %s" % (cc, how, ended), told)
+            test.check(ended == status and wanted in told and (status != 5 or "seed 1" in told) and "-fsanitize" not in told and (status != 3 or "is false" not in told), "%s: bad, HOW=%s: status %s" % (cc, how, ended), told)
         for words in (["--every-order"], ["--places"]):
             ended, told = test.run(cc, "bad", *words, "--may-wait", "OTHER", env={"HOW": "time"})
             test.check(ended == 3 and "does not do the same again" in told, "%s: bad, HOW=time %s" % (cc, words[0]), told)
@@ -123,6 +128,32 @@ def generator_at_fault(test):
         test.check(told.returncode == status and wanted in told.stderr, "fmphost-cfg %s: status %d" % (" ".join(map(str, words)), told.returncode), told.stderr)
 
 
+MAIN = '#include "kernel.h"\n#include "kernel_cfg.h"\nvoid main_task(intptr_t exinf)\n{\n    wai_sem(S);\n%s}\n'
+CFG = "PROCESSORS(1);\nDEF_CLASS(C1, 1, {1});\nCLASS(C1) {\n  CRE_TSK(MAIN, {TA_ACT,\n    /* first */ %s, %s, 5, %s, NULL});\n  CRE_SEM(S, {TA_NULL, 0, 2});\n}\n"
+# What a project names and does not have: a line of C, the exinf, the function and the stack's size in the configuration; and what make tells, or nothing.
+MISSING = {
+    "nothing": ("", "1", "main_task", "4096", ""), "exinf": ("", "MISSING + 1", "main_task", "4096", "machine.cfg:5:17: error: "), "function": ("", "1", "other_task", "4096", "machine.cfg:4: error: no file of the project has the function other_task"),
+    "call": ("    loc_mtx(1);\n", "1", "main_task", "4096", "main.c:6: error: loc_mtx is not in the profile"), "size": ("", "1", "main_task", "STACK_SIZE", ""),
+    "two calls": ("    get_tim(0);\n    wai_sem(S);\n    ref_tsk(1, 0);\n", "1", "main_task", "4096", "main.c:8: error: ref_tsk is not in the profile"),
+    "own call": ("    ref_sem(1);\n}\nint ref_sem(int semid)\n{\n    return semid;\n", "1", "main_task", "4096", ""),
+}
+
+
+def names_at_fault(test):
+    """A name that is nowhere is told with the line that has it, of the user's own file."""
+    for cc in test.compilers:
+        for name, (line, exinf, function, size, wanted) in MISSING.items():
+            folder = test.out / ("missing %s" % name)
+            shutil.rmtree(folder, ignore_errors=True)
+            folder.mkdir(parents=True)
+            (folder / "main.c").write_text(MAIN % line)
+            (folder / "machine.cfg").write_text(CFG % (exinf, function, size))
+            (folder / "Makefile").write_text("FMPHOST_CFG = machine.cfg\nFMPHOST_LIBRARY = %s/libfmphost.a\ninclude %s/fmphost.mk\n" % (test.room(cc), HOST))
+            told = subprocess.run(["make", "-s", "-C", str(folder), "CC=" + cc, "FMPSIM=" + test.fmpsim, "FMPHOST_FMP=" + test.library], capture_output=True, text=True)
+            well = (told.returncode == 0) == (wanted == "") and wanted in told.stderr and "kernel_cfg.c" not in told.stderr
+            test.check(well, "%s: a project without its %s: status %d" % (cc, name, told.returncode), told.stderr)
+
+
 def project(test, name, program, line, words, wanted):
     """Two lines in a project's Makefile, in a folder whose path has a blank."""
     folder = test.out / name
@@ -143,5 +174,6 @@ def all_of_it(test):
     replays_at_fault(test)
     fmpsim_at_fault(test)
     generator_at_fault(test)
+    names_at_fault(test)
     project(test, "a project", "queue", "FMPHOST_CFG = machine.cfg", ["--every-order"], "nothing found")
     project(test, "a project of TOPPERS", "sample1", "FMPHOST_TOPPERS = sample1.cfg -I target", ["--seeds", "1..3", "--serial", "caQ", "--races", "none", "--refused", "none", "--ticks", "100"], "3 seeds")

@@ -20,7 +20,7 @@ def line_of(name, text, nth=1):
 def rows():
     total, busy = line_of("count", "total++"), "suspend.c"
     beats = [line_of("handler", "beats++", 1), line_of("handler", "beats++", 2)]
-    deadlock = "PHIL1 waits for ever in wai_sem(2); PHIL2 waits for ever in wai_sem(1)"
+    deadlock = "PHIL1 waits for ever in wai_sem(FORK2); PHIL2 waits for ever in wai_sem(FORK1)"
     yield "count", ["--seeds", "1..20"], 5, ["race on total, 4 bytes", "count_task " + total]
     yield "count", ["--every-order"], 5, ["race on total, 4 bytes", "count_task " + total]
     yield "count", ["--every-order", "--races", "none"], 5, ["total == 4 is false, in JUDGE"]
@@ -42,12 +42,12 @@ def rows():
     yield "one_message_behind", ["--seeds", "1..100"], 5, ["DISPLAY waits for ever in slp_tsk()"]
     yield "one_message_behind", ["--every-order", "--may-wait", "DISPLAY"], 0, ["nothing found"]
     yield "ring", ["--seeds", "1..20", "--ticks", "4"], 5, ["race on count, 4 bytes", "UART on P1", "READER on P1"]
-    yield "ring", ["--seeds", "1..60", "--ticks", "4", "--races", "none"], 6, ["what comes after 4 ticks of a processor: READER waits in wai_sem(1) (seed 1, and 59 more)"]
+    yield "ring", ["--seeds", "1..60", "--ticks", "4", "--races", "none"], 6, ["what comes after 4 ticks of a processor: READER waits in wai_sem(RECEIVED) (seed 1, and 59 more)"]
     yield "ring", ["--seeds", "1..60", "--ticks", "4", "--races", "none", "--may-wait", "READER"], 0, ["nothing found within 4 ticks, each of 60 seeds to its end"]
     yield "philosophers:two", ["--every-order"], 5, [deadlock]
     yield "philosophers:two", ["--all-orders"], 5, [deadlock]
-    yield "philosophers:three", ["--places"], 5, ["PHIL1 waits for ever in wai_sem(2); PHIL2 waits for ever in wai_sem(3); PHIL3 waits for ever in wai_sem(1)"]
-    yield "philosophers:five", ["--every-order"], 5, ["PHIL5 waits for ever in wai_sem(1)"]
+    yield "philosophers:three", ["--places"], 5, ["PHIL1 waits for ever in wai_sem(FORK2); PHIL2 waits for ever in wai_sem(FORK3); PHIL3 waits for ever in wai_sem(FORK1)"]
+    yield "philosophers:five", ["--every-order"], 5, ["PHIL5 waits for ever in wai_sem(FORK1)"]
     yield "philosophers:two+POLITE", ["--every-order"], 0, ["nothing found"]
     yield "philosophers:three+POLITE", ["--places"], 0, ["nothing found"]
     yield "philosophers:two", ["--preemptions", "0"], 6, ["orders in which a processor that could go on is left more than 0 times", "but not all was looked at"]
@@ -66,7 +66,7 @@ def rows():
     words = ["--seeds", "1..20", "--serial", "caAGwWQ", "--races", "between"]
     yield "sample1", [*words, "--ticks", "12", "--refused", "none"], 6, ["MAIN_TASK waits in dly_tsk(0)"]
     yield "sample1", [*words, "--ticks", "100", "--refused", "none"], 0, ["nothing found"]
-    yield "sample1", [*words, "--ticks", "100"], 5, ["wup_tsk(2) answers E_OBJ in MAIN_TASK, which has it logged: svc_perror sample1.c:"]
+    yield "sample1", [*words, "--ticks", "100"], 5, ["wup_tsk(TASK1_1) answers E_OBJ in MAIN_TASK, which has it logged: svc_perror sample1.c:"]
     yield "signatures", ["--seeds", "1..40", "--stalls", "30", "--late", "20"], 0, ["nothing found"]
     yield "one_message_behind", ["--seeds", "1..300", "--stalls", "50", "--late", "10"], 5, ["DISPLAY waits for ever in slp_tsk()"]
 
@@ -88,7 +88,7 @@ def extents():
     yield "later:wakes", ["--places"], 6, ["what comes after 3 ticks of a processor: WORKER waits in slp_tsk()"]
     yield "later:wakes", ["--places", "--ticks", "any"], 0, ["nothing found within any ticks, every place"]
     yield "later:wakes", ["--every-order", "--patience", "15"], 5, ["WORKER waits for ever in slp_tsk()"]
-    yield "later:deadlock", ["--every-order", "--ticks", "1"], 6, ["ONE waits in wai_sem(2), TWO waits in wai_sem(1)"]
+    yield "later:deadlock", ["--every-order", "--ticks", "1"], 6, ["ONE waits in wai_sem(B), TWO waits in wai_sem(A)"]
     yield "later:deadlock", ["--places", "--ticks", "any"], 5, ["ONE waits for ever, whatever the order is from here on"]
     yield "later:deadlock", ["--every-order", "--ticks", "1", "--may-wait", "ONE,TWO"], 0, ["nothing found within 1 tick, every order"]
     yield "later:alarm", ["--every-order"], 6, ["LATE has not run", "handlers that had ticks left and never ran: LATE"]
@@ -101,7 +101,7 @@ def extents():
 # What is right, and what is beside it and is not: memory that the allocator hands over, C11's fences, a handler that was stopped, a variable that is
 # shared on purpose, a server that waits for its next request.
 def no_false():
-    serves = "SERVER waits for ever in rcv_dtq(1); right if it only serves: --may-wait SERVER\n"
+    serves = "SERVER waits for ever in rcv_dtq(REQUESTS); right if it only serves: --may-wait SERVER\n"
     yield "handover", ["--every-order"], 0, ["nothing found, every order"]
     yield "handover", ["--seeds", "1..50"], 0, ["nothing found, each of 50 seeds to its end"]
     yield "handover:USED", ["--every-order"], 5, ["race on 0x", "GIVER on P1 frees it: give_task handover.c", "TAKER on P2 reads it: take_task handover.c"]
@@ -120,8 +120,8 @@ def no_false():
     yield "server", ["--every-order"], 5, [serves]
     yield "server", ["--seeds", "1..5"], 5, [serves]
     yield "server", ["--every-order", "--may-wait", "SERVER"], 0, ["nothing found"]
-    yield "server:LOST", ["--every-order"], 5, ["SERVER waits for ever in rcv_dtq(1); CLIENT waits for ever in rcv_dtq(2)\n", "not: right if"]
-    yield "philosophers:two", ["--every-order"], 5, ["PHIL1 waits for ever in wai_sem(2); PHIL2 waits for ever in wai_sem(1)\n", "not: right if"]
+    yield "server:LOST", ["--every-order"], 5, ["SERVER waits for ever in rcv_dtq(REQUESTS); CLIENT waits for ever in rcv_dtq(ANSWERS)\n", "not: right if"]
+    yield "philosophers:two", ["--every-order"], 5, ["PHIL1 waits for ever in wai_sem(FORK2); PHIL2 waits for ever in wai_sem(FORK1)\n", "not: right if"]
 
 
 # What is seen of memory: blocks of pools, what a task that was ended left half done, a local variable whose address is given away.
@@ -137,16 +137,21 @@ def seen():
     yield "locals:STATIC", ["--every-order", "--may-wait", "GIVER"], 5, ["race on ", "number", "GIVER on P1 writes it", "TAKER on P2 reads it"]
     yield "locals:STATIC", ["--every-order", "--may-wait", "GIVER", "--shared", "number"], 0, ["nothing found, every order"]
     yield "count:LOCKED", ["--seeds", "1"], 0, ["not: not seen"]
+    for words in (["--every-order"], ["--places"]):
+        yield "unseen", words, 5, ["race on data, 4 bytes", "ONE on P1 writes it", "TWO on P2 reads it"]
+        yield "unseen", [*words, "--races", "none"], 0, ["nothing found"]
+        yield "unseen:ALWAYS_AFTER", words, 0, ["nothing found"]
+    yield "unseen:SERIAL", ["--places", "--ticks", "any", "--serial", "aaaaab"], 5, ["last != 'b' is false, in ONE"]
 
 
 # What refused does by HOW, what --refused says, and what is told: where nothing, the status is 0.
 REFUSED = [
     ("id", [], "wai_sem(99) answers E_ID in TRY, which does not look at it: try_task refused.c:"), ("void", [], "sig_sem(99) answers E_ID"),
-    ("can", [], "can_wup(99) answers E_ID"), ("parameter", [], "chg_pri(0, 99) answers E_PAR"), ("use", [], "unl_spn(1) answers E_ILUSE"),
-    ("locked", [], "dly_tsk(1) answers E_CTX in TRY, which does not look at it"), ("object", [], None), ("object", ["all"], "rel_wai(2) answers E_OBJ"),
-    ("object", ["E_PAR,E_OBJ"], "rel_wai(2) answers E_OBJ"), ("object", ["E_PAR"], None), ("id", ["none"], None), ("id", ["E_OBJ"], None),
-    ("logged object", [], "rel_wai(2) answers E_OBJ in TRY, which has it logged: svc_perror refused.c:"), ("logged object", ["none"], None),
-    ("logged timeout", [], "pol_sem(1) answers E_TMOUT in TRY, which has it logged"), ("logged well", [], None), ("logged expected", [], None),
+    ("can", [], "can_wup(99) answers E_ID"), ("parameter", [], "chg_pri(TSK_SELF, 99) answers E_PAR"), ("use", [], "unl_spn(LOCK) answers E_ILUSE"),
+    ("locked", [], "dly_tsk(1) answers E_CTX in TRY, which does not look at it"), ("object", [], None), ("object", ["all"], "rel_wai(OTHER) answers E_OBJ"),
+    ("object", ["E_PAR,E_OBJ"], "rel_wai(OTHER) answers E_OBJ"), ("object", ["E_PAR"], None), ("id", ["none"], None), ("id", ["E_OBJ"], None),
+    ("logged object", [], "rel_wai(OTHER) answers E_OBJ in TRY, which has it logged: svc_perror refused.c:"), ("logged object", ["none"], None),
+    ("logged timeout", [], "pol_sem(SEMAPHORE) answers E_TMOUT in TRY, which has it logged"), ("logged well", [], None), ("logged expected", [], None),
     ("compared", [], None), ("negative", [], None), ("kept", [], None), ("returned", [], None), ("counted", [], None), ("asserted", [], None),
     ("compared", ["all"], None), ("expected", [], None), ("expected", ["all"], None), ("expected otherwise", [], "wai_sem(99) answers E_ID"),
 ]

@@ -18,6 +18,8 @@ LARGE = [
     ("", "dA|y|xB|x|", 0), ("", "UxV||xy|y|", 0), ("", "Tx|x|Ay||", 0), ("", "luxy||tuy||OQ", 0), ("", "Zx||L||K", 2), ("", "Zx||W||", 2), ("", "z||sy||", 2),
     (":ready", "xy|y|A|1", 0),
 ]
+# Of places: that one waits before the other is in no state.
+PLACES = [("", "As|w|w|", 0)]
 
 
 def steps(chance, letters, most):
@@ -67,6 +69,14 @@ def directed(test):
         for cc in test.compilers if test.full else test.compilers[:1]:
             well, told = same_ends(test, cc, way, text, str(ticks), "--every-order", "6000")
             test.check(well, "%s: steps%s, OPS='%s' --ticks %d: --every-order has the ends of --all-orders" % (cc, way, text, ticks), told)
+    directed_places(test)
+
+
+def directed_places(test):
+    for way, text, ticks in PLACES:
+        for cc in test.compilers:
+            well, told = same_ends(test, cc, way, text, str(ticks), "--places", "6000")
+            test.check(well, "%s: steps%s, OPS='%s' --ticks %d: --places has the ends of --all-orders" % (cc, way, text, ticks), told)
 
 
 def no_race_within_a_lock(test, cc, seed, programs):

@@ -1,0 +1,1 @@
+#define KNOWN_SIZE (4 * 1024)
