@@ -42,9 +42,8 @@ def config_text(told):
 def logs(test):
     """Logs that are cut, mixed, of another case or of another kit."""
     kit = test.host.kit("logs", LATE / "machine.cfg", LATE / "events.txt", LATE / "events.txt")
-    other = test.host.kit("other", TOP / "crates/fmpsim/data/machine.cfg", TOP / "crates/fmpsim/data/events.txt")
     one, two = (test.host.play(kit / "app001", number, number) for number in (1, 2))
-    foreign = test.host.play(other / "app001", 1, 1)
+    foreign = resummed(re.sub(r"of kit \d+", "of kit 7", one))
     lines = one.splitlines(keepends=True)
     stamped = "".join(f"[{at}] console: {line.rstrip()}\r\n" for at, line in enumerate(lines))
     rows = [
@@ -55,14 +54,24 @@ def logs(test):
         ("a line lost", "".join(lines[:4] + lines[5:]), 6, "no whole log: mixed or cut: lines are missing, or not of this case"),
         ("a number is another", one.replace("code 0", "code -5", 1), 6, "no whole log: mixed or cut: lines are missing, or not of this case"),
         ("two at once", lines[0] + two + "".join(lines[1:]), 6, "no whole log: cut or mixed: another log begins in it, at line 2"),
-        ("of another case", re.sub(r"case 1 of", "case 7 of", one) + two, 6, "no whole log: "),
-        ("of another kit beside one of this", foreign + two, 6, "no whole log: of another kit: case 1 of kit "),
-        ("of another kit", foreign, 1, "to-board: there is no log of this kit: no whole log: of another kit: case 1 of kit "),
+        ("of another case", resummed(re.sub(r"case 1 of", "case 9 of", one)) + two, 6, "no whole log: of another case: case 9 of kit "),
+        ("of another kit beside one of this", foreign + two, 6, "no whole log: of another kit: case 1 of kit 7"),
+        ("of another kit", foreign, 1, "to-board: there is no log of this kit: no whole log: of another kit: case 1 of kit 7"),
+        ("an answer is another", resummed(one.replace("code 0", "code -41", 1)), 5, "step 1: P1 T1 act_tsk(T2): your kernel answers E_OBJ, the profile E_OK"),
         ("nothing", "", 1, "to-board: there is no log of this kit"),
     ]
     for name, text, status, wanted in rows:
         compared(test, kit, name, text, status, wanted)
     reports(test, kit, one.replace("code 0", "code -5", 1) + two)
+
+
+def resummed(text):
+    """A log with the sum of its own numbers: each is added to 31 times the sum so far, in 32 bits, of which 31 are told."""
+    total = 0
+    for line in text.splitlines()[:-1]:
+        for number in re.findall(r"(?<![a-z])-?\d+|(?<=P)\d+", line):
+            total = (total * 31 + int(number)) % 2**32
+    return re.sub(r"sum \d+", f"sum {total % 2**31}", text)
 
 
 def compared(test, kit, name, text, status, wanted):

@@ -2,4 +2,4 @@
 FMPHOST_CFG = machine.cfg
 FMPHOST_SOURCES = board.c host.c
 include $(HOST)/fmphost.mk
-fmphost_seen = -O1 -Wall -Wextra -Werror
+fmphost_seen = -O0 -Wall -Wextra -Werror
