@@ -2,10 +2,12 @@
  * Too large a footprint costs time, too small a one loses orders. So what an event wrote is taken from the kernel's own word, all that
  * differs between the states before and after it; and what it read is all that a row of the tables may look at: the object that it names,
  * what that waits for, who runs and who is ready on its processor. Three things are in no state, and are added by the call's name: the order
- * in which timed waits began, the processor that a stopped handler or a waiting task is assigned to, and the ticks left as at boot.
+ * in which timed waits began, the processor that a stopped handler or a waiting task is assigned to, and the ticks left as at boot. With --patience
+ * each wait counts ticks.
  */
 #include "footprint.h"
 #include "contexts.h"
+#include "options.h"
 #include "run.h"
 #include <string.h>
 
@@ -56,6 +58,8 @@ void footprint_call(struct footprint *f, int processor, const struct context *ca
         each_timer(f->writes);
     if (does & (STARTS | STOPS))
         each_timer(f->reads);
+    if (options.patience >= 0) /* how long a wait lasts is what is looked at: a tick before it begins or ends is not one after that */
+        each_timer(f->writes);
     if (does & TIMED)
         set(f->writes, TIMER + (fmphost_master ? fmphost_master : processor) - 1);
 }

@@ -218,7 +218,7 @@ int tell_summary(const char *what, bool complete) {
     if (tally->cut)
         fprintf(stderr, ", %ld cut at %ld turns", tally->cut, options.turns);
     if (options.tells_ends)
-        fprintf(stderr, ", %ld ends %016llx", tally->end_count, (unsigned long long)tally->ends_sum);
+        fprintf(stderr, ", %s%ld ends %016llx", tally->end_count == MOST_ENDS / 2 ? "at least " : "", tally->end_count, (unsigned long long)tally->ends_sum);
     if (options.goes_on && findings_count() > 1)
         fprintf(stderr, ", %ld findings", findings_count());
     if (!complete && tally->runs >= options.most_runs)

@@ -154,6 +154,14 @@ static uint32_t may_happen(void) {
     return may;
 }
 
+/* The clock that is farthest: by it --patience counts, also on a processor that has no ticks. */
+static long most_ticks(void) {
+    long most = 0;
+    for (int p = 1; p <= fmphost_processors; p++)
+        most = ticks[p] > most ? ticks[p] : most;
+    return most;
+}
+
 /* --- one turn --- */
 
 static void answered(struct context *who, int code, int64_t value) {
@@ -208,7 +216,7 @@ static void make_call(struct context *who, int processor, struct turn *turn) {
     if (answer->said == WAIT) {
         who->waits = true;
         who->next = NOTHING;
-        waits_since[number] = ticks[processor];
+        waits_since[number] = most_ticks();
     } else if (answer->said == CODE && !ends)
         answered(who, answer->code, answer->value);
     else if (answer->said == TAKEN || answer->said == NONE) /* fmphost_tick() */
@@ -275,7 +283,7 @@ static void make_ticks(int processor, struct turn *turn) {
     if (!joins_returns || answer->releases > 0)
         return;
     join_returns(processor, turn);
-    if (instrumented && is_as_before(then))
+    if (instrumented && options.patience < 0 && is_as_before(then))
         footprint_quiet_tick(footprint, processor);
 }
 
@@ -312,13 +320,6 @@ static void make_turn(int action) {
 }
 
 /* --- those that wait for ever --- */
-
-static long most_ticks(void) {
-    long most = 0;
-    for (int p = 1; p <= fmphost_processors; p++)
-        most = ticks[p] > most ? ticks[p] : most;
-    return most;
-}
 
 long run_waited(int context) {
     long waited = most_ticks() - waits_since[context];

@@ -70,6 +70,21 @@ def directed(test):
             well, told = same_ends(test, cc, way, text, str(ticks), "--every-order", "6000")
             test.check(well, "%s: steps%s, OPS='%s' --ticks %d: --every-order has the ends of --all-orders" % (cc, way, text, ticks), told)
     directed_places(test)
+    patient(test)
+
+
+# Steps, --patience, and who waits for more ticks than that in some order, or nobody. A `Z` lasts two ticks, since a timeout of 1 ends at the second. T4 is
+# activated behind six ticks, and waits for one Z or for two; T3 begins to wait before or behind two of them.
+PATIENCE = [("ZZZBZs|||w", "2", None), ("ZZZBZZs|||w", "2", "T4"), ("ZZs||w|", "3", "T3"), ("ZZs||w|", "4", None)]
+
+
+def patient(test):
+    for text, ticks, who in PATIENCE:
+        for cc in test.compilers:
+            for mode in ("--every-order", "--all-orders", "--places"):
+                ended, told = test.run(cc, "steps", mode, "--ticks", 9, "--patience", ticks, "--races", "none", env={"OPS": text})
+                well = ended == 5 and who + " waits for ever in wai_sem(S1)" in told if who else ended == 0
+                test.check(well, "%s: steps, OPS='%s' %s --patience %s: status %s" % (cc, text, mode, ticks, ended), told)
 
 
 def directed_places(test):

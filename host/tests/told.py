@@ -68,6 +68,9 @@ def logs(test):
             kinds = sorted(line.split("] ")[-1] for line in lines)
             numbers = [int(line[1:].split()[0]) for line in lines if line.startswith("[")]
             test.check(kinds == ["hello", "one begins with 7", "one has", "two begins", "written"] and numbers == sorted(numbers), "%s: %s --log" % (cc, " ".join(words)), told)
+        _, told = test.run(cc, TOLD, "--every-order", "--all", "--log")
+        kinds = len(re.findall(r"^fmphost: order \d", told, re.M))
+        test.check(kinds > 1 and told.count("one begins") == kinds, "%s: each finding has its own log" % cc, told)
         _, told = test.run(cc, TOLD, "--every-order", "--races", "none")
         test.check("begins" not in told, "%s: no log without --log" % cc, told)
 

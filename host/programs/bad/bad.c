@@ -31,7 +31,7 @@ static int wide(volatile char *n)
 {
     volatile char here[40000];
     here[0] = n[0] + 1;
-    return wide(here) + here[0];
+    return here[0] < 0 ? 0 : wide(here) + here[0];
 }
 
 void clock_handler(intptr_t exinf)
