@@ -143,6 +143,8 @@ def names_at_fault(test):
     """A name that is nowhere is told with the line that has it, of the user's own file."""
     for cc in test.compilers:
         for name, (line, exinf, function, size, wanted) in MISSING.items():
+            if cc != test.compilers[0] and not test.full and name not in ("exinf", "call"):
+                continue
             folder = test.out / ("missing %s" % name)
             shutil.rmtree(folder, ignore_errors=True)
             folder.mkdir(parents=True)

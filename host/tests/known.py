@@ -141,6 +141,7 @@ def seen():
         yield "unseen", words, 5, ["race on data, 4 bytes", "ONE on P1 writes it", "TWO on P2 reads it"]
         yield "unseen", [*words, "--races", "none"], 0, ["nothing found"]
         yield "unseen:ALWAYS_AFTER", words, 0, ["nothing found"]
+    yield "unseen:handed", ["--places"], 5, ["race on data, 4 bytes", "ONE on P1 writes it", "TWO on P2 reads it"]
     yield "unseen:SERIAL", ["--places", "--ticks", "any", "--serial", "aaaaab"], 5, ["last != 'b' is false, in ONE"]
 
 

@@ -80,7 +80,7 @@ PATIENCE = [("ZZZBZs|||w", "2", None), ("ZZZBZZs|||w", "2", "T4"), ("ZZs||w|", "
 
 def patient(test):
     for text, ticks, who in PATIENCE:
-        for cc in test.compilers:
+        for cc in test.compilers if test.full else test.compilers[:1]:
             for mode in ("--every-order", "--all-orders", "--places"):
                 ended, told = test.run(cc, "steps", mode, "--ticks", 9, "--patience", ticks, "--races", "none", env={"OPS": text})
                 well = ended == 5 and who + " waits for ever in wai_sem(S1)" in told if who else ended == 0

@@ -160,6 +160,9 @@ def reports(test):
     run_list = os.path.join(os.path.dirname(os.path.dirname(os.path.dirname(os.path.abspath(__file__)))), "tools", "run-list")
     ended, tap, told = reported(test, [run_list, folder / "runs.txt", "--fmpsim", test.fmpsim, "--junit", path])
     lines = [line for line in tap.splitlines() if re.match("(not )?ok", line)]
+    (folder / "runs.txt").write_text("x found check nothing.cfg trace.txt\n")
+    refused = reported(test, [run_list, folder / "runs.txt", "--fmpsim", test.fmpsim])
+    test.check(refused[0] == 1 and "found: it is expected of host alone, and this is a run of check" in refused[2], "found is no answer of fmpsim", refused[2])
     test.check(ended == 5 and lines[:2] == ["ok 1 - clean", "ok 2 - races"] and lines[3] == "not ok 4 - wrong" and len(lines) == 4, "a list of runs of the host", tap + told)
 
 

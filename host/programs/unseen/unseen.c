@@ -1,5 +1,5 @@
 /* Orders that come to one place, and differ in what is in no state of the kernel and in no memory of the project: who comes after whom, what was read of the
-   serial port, how long one waits. WAY says which. */
+   serial port. */
 #include "kernel.h"
 #include "kernel_cfg.h"
 #include "syssvc/serial.h"
@@ -23,6 +23,32 @@ void one_task(intptr_t exinf)
 
 void two_task(intptr_t exinf)
 {
+}
+#elif defined THREE
+/* TWO comes after what THREE knew when it signalled, and THREE knows of ONE in the end in any case. */
+static volatile int three_done;
+
+void one_task(intptr_t exinf)
+{
+    data = 1;
+    lock();
+    done = 1;
+}
+
+void two_task(intptr_t exinf)
+{
+    if (done && three_done) {
+        wai_sem(SIGNAL);
+        assert(data == 1);
+    }
+}
+
+void three_task(intptr_t exinf)
+{
+    lock();
+    sig_sem(SIGNAL);
+    lock();
+    three_done = 1;
 }
 #else
 /* TWO reads what ONE has written, and comes after that only if it takes the lock after ONE gave it back. */
