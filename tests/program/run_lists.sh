@@ -75,15 +75,15 @@ END
 refused_lists() {
     refuses 1 'list.txt: refused: there is no run in it' '# nothing\n\n'
     refuses 1 'list.txt: line 2: refused: expected a name, what is expected, and the words of a run' 'a yes check\nb yes\n'
-    refuses 1 'list.txt: line 1: refused: ye: expected done, never, none, yes, shown, no, limit, not_within, waits, or an exit status' 'a ye check\n'
-    refuses 1 'list.txt: line 1: refused: 256: expected done, never, none, yes, shown, no, limit, not_within, waits, or an exit status' 'a 256 check\n'
+    refuses 1 'list.txt: line 1: refused: ye: expected done, never, none, yes, shown, no, found, limit, not_within, waits, or an exit status' 'a ye check\n'
+    refuses 1 'list.txt: line 1: refused: 256: expected done, never, none, yes, shown, no, found, limit, not_within, waits, or an exit status' 'a 256 check\n'
     refuses 1 'list.txt: line 1: refused: yes=: after `=` a file is expected' 'a yes= check\n'
     refuses 1 'list.txt: line 3: refused: a is the name of line 1, too' 'a yes check\n\na no check\n'
     # an answer that the command does not have: a status would fit all the same
     refuses 1 'list.txt: line 1: refused: never: it is expected of explore alone, and this is a run of smp' 'a never smp m.cfg s.txt --seeds 0..9 --find end\n'
     refuses 1 'list.txt: line 2: refused: shown: it is expected of explore and smp alone, and this is a run of shrink' 'a no shrink\nb shown shrink\n'
     refuses 1 'list.txt: line 1: refused: yes: it is expected of check alone, and this is a run of calls' 'a yes=trace.txt --diagnostics=gcc calls\n'
-    refuses 1 'list.txt: line 1: refused: none: it is expected of smp alone, and this is a run of no command' 'a none --version\n'
+    refuses 1 'list.txt: line 1: refused: none: it is expected of smp and host alone, and this is a run of no command' 'a none --version\n'
     refuses 1 'list.txt: line 1: refused: shown: of a run with --questions `done` is expected, since it is known there what each answer has to be' \
         'a shown explore m.cfg s.txt --questions=asked.txt\n'
     refuses 1 'list.txt: line 1: refused: ../a: a name has letters, digits and `_`, `-` and `.`, and no `.` first' '../a yes check\n'
