@@ -1,0 +1,9 @@
+-- The vector in a text, as the logic has its type.
+use denote.RattleType.{RattleType}
+use Rattle.std.specs.Borrow.{u8}
+use Rattle.std.specs.contracts.alloc.Global as global
+use Rattle.std.specs.contracts.vec.Vec as vec
+use Rattle.std.specs.contracts.impls.GlobalAllocator.TheImpl.{ghosts}
+
+abbrev pub bytes_row : RattleType
+bytes_row = vec.the_row u8 global.the_row ghosts
