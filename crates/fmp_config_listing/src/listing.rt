@@ -1,5 +1,5 @@
 //! The lines of a listing.
-ghost use Rattle.std.specs.Prelude.{◌≡◌, ◌++◌, ◌+◌, ◌^◌, ◌<◌, OnOk, IfOk};
+ghost use Rattle.std.specs.Prelude.{◌≡◌, ◌+◌, ◌^◌, ◌<◌, IfOk};
 ghost use Rattle.fmp_out.specs.Putting.{Adds};
 ghost use Rattle.fmp_trace.specs.Values.{named};
 ghost use Rattle.fmp_config_listing.specs.Listing as spec;
@@ -11,7 +11,6 @@ use fmp_codes::{NameKind, ObjectKind};
 use fmp_names::Names;
 use fmp_out::Text;
 use fmp_setup::{Config, Limits, Timer};
-use fmp_trace::put_number;
 use std::alloc::{AllocError, Global};
 
 /// The kinds of objects, in the order in which they are told.
@@ -111,20 +110,9 @@ fn put_kinds(out: &mut Text, config: &Config, kinds: &[ObjectKind])
     }
 }
 
-/// Adds the line of the number of processors: `processors`, a blank and the number. The error is want of memory.
+/// Adds the line of the number of processors: `processors`, a blank and the number.
 #[tactic(auto, unfolding(crate::specs::Listing::processors_line))]
-pub fn put_processors_line(out: &mut Vec<u8>, processors: u8) -> Result<(), AllocError>
-    ensures { OnOk result (out.new.items ≡ out.old.items ++ spec.processors_line processors) }
-{
-    out.extend_from_slice(b"processors ")?;
-    put_number(out, u64::from(processors))?;
-    out.push(b'\n')?;
-    Ok(())
-}
-
-/// The same for the listing.
-#[tactic(auto, unfolding(crate::specs::Listing::processors_line))]
-fn put_processors(out: &mut Text, processors: u64)
+pub fn put_processors_line(out: &mut Text, processors: u64)
     ensures { Adds (spec.processors_line processors) out.old out.new }
 {
     out.put(b"processors ");
@@ -171,7 +159,7 @@ fn put_limits_line(out: &mut Text, limits: Limits)
 fn put_listing(out: &mut Text, config: &Config)
     ensures { Adds (spec.listing_of config.now) out.old out.new }
 {
-    put_processors(out, u64::from(config.processors()));
+    put_processors_line(out, u64::from(config.processors()));
     put_timer_line(out, config.timer());
     put_limits_line(out, config.limits());
     put_classes(out, config.classes());

@@ -1,36 +1,33 @@
 //! Bytes as HTML has them.
-ghost use Rattle.std.specs.Prelude.{◌≡◌, ◌++◌, OnOk};
+ghost use Rattle.fmp_out.specs.Putting.{Adds};
 ghost use Rattle.fmp_run_page.specs.Escapes as spec;
 
+use fmp_out::Text;
 use memchr::memchr2;
-use std::alloc::AllocError;
 
 /// Adds a byte.
-fn put_byte(out: &mut Vec<u8>, byte: u8) -> Result<(), AllocError>
-    ensures { OnOk result (out.new.items ≡ out.old.items ++ spec.escaped_byte byte) }
+fn put_byte(out: &mut Text, byte: u8)
+    ensures { Adds (spec.escaped_byte byte) out.old out.new }
 {
     match byte {
-        b'<' => out.extend_from_slice(b"&lt;"),
-        b'&' => out.extend_from_slice(b"&amp;"),
-        _ => {
-            out.push(byte)?;
-            Ok(())
-        }
+        b'<' => out.put(b"&lt;"),
+        b'&' => out.put(b"&amp;"),
+        _ => out.put_byte(byte),
     }
 }
 
-/// Adds bytes as they stand in a page. After an error a beginning of them may have been added.
-pub fn put_escaped(out: &mut Vec<u8>, bytes: &[u8]) -> Result<(), AllocError>
-    ensures { OnOk result (out.new.items ≡ out.old.items ++ spec.escaped bytes.now) }
+/// Adds bytes as they stand in a page.
+pub fn put_escaped(out: &mut Text, bytes: &[u8])
+    ensures { Adds (spec.escaped bytes.now) out.old out.new }
 {
     let mut rest = bytes;
     while let Some(at) = memchr2(b'<', b'&', rest) {
-        out.extend_from_slice(&rest[..at])?;
-        put_byte(out, rest[at])?;
-        rest = &rest[at + 1..];
+        let from = &rest[at..];
+        out.put(&rest[..at]);
+        put_byte(out, from[0]);
+        rest = &from[1..];
     }
-    out.extend_from_slice(rest)?;
-    Ok(())
+    out.put(rest);
 }
 
 /// Nothing that is escaped begins a tag, so no text ends the element that it stands in; and what is read of it is what it was.

@@ -1,5 +1,7 @@
 -- One place, one signal or one kind more.
-use Rattle.std.proofs.Common.{◌≡◌, ℕ, ◌+◌, suc, Bool, List, [], ◌∷◌, ◌++◌, add-one, refl, sym, ap, ◌∙◌, append_assoc, append-nil}
+use Rattle.std.proofs.Common.{◌≡◌, ℕ, ◌+◌, suc, Bool, List, [], ◌∷◌, ◌++◌, add-one, refl, sym, ap, subst, ◌∙◌, append_assoc, append-nil}
+use Rattle.fmp_out.specs.Putting.{Adds, Putting}
+use Rattle.fmp_out.proofs.Puts.{both}
 use Rattle.fmp_codes.specs.declared.kinds.ObjectKind.{ObjectKind}
 use Rattle.fmp_setup.specs.Setup.{Setup}
 use Rattle.fmp_run_view.specs.declared.signal.Signal.{Signal}
@@ -11,13 +13,12 @@ use Rattle.fmp_run_view.specs.Setups.{object_line, objects_to}
 use Rattle.fmp_run_view.specs.Values.{value_text}
 
 -- what was written of the first n, and one line more
-grown : (f : ℕ → List ℕ) (n : ℕ) (line old between new : List ℕ) → f (n + 1) ≡ f n ++ line → between ≡ old ++ f n → new ≡ between ++ line → new ≡ old ++ f (n + 1)
-grown f n line old between new more before here =
-    here ∙ ap (λ (xs : List ℕ). xs ++ line) before ∙ append_assoc old (f n) line ∙ ap (λ (xs : List ℕ). old ++ xs) (sym more)
+grown : (f : ℕ → List ℕ) (n : ℕ) (line : List ℕ) (old between new : Putting) → f (n + 1) ≡ f n ++ line → Adds (f n) old between → Adds line between new → Adds (f (n + 1)) old new
+grown f n line old between new more before here = subst (λ (xs : List ℕ). Adds xs old new) (sym more) (both (f n) line old between new before here)
 
 -- nothing was written of none
-nothing : (f : ℕ → List ℕ) (old : List ℕ) → f 0 ≡ [] → old ≡ old ++ f 0
-nothing f old none = sym (ap (λ (xs : List ℕ). old ++ xs) none ∙ append-nil old)
+nothing : (f : ℕ → List ℕ) (old : Putting) → f 0 ≡ [] → Adds (f 0) old old
+nothing f old none whole = (whole, sym (ap (λ (xs : List ℕ). old.bytes ++ xs) none ∙ append-nil old.bytes))
 
 -- the lines of two lists of changes, one after the other
 pub lines_append : (xs ys : List Change) → lines_of (xs ++ ys) ≡ lines_of xs ++ lines_of ys
@@ -40,11 +41,11 @@ module _ (c : Setup) (all : Bool) (before after : Moment) (signal : Signal) wher
   lines_more i =
       rw (add-one) (ap lines_of (changes_suc i) ∙ lines_append (changes_to c all before after signal i) (change_if all signal i (value_text before signal i) (value_text after signal i)))
 
-  pub no_change_yet : (old : List ℕ) → old ≡ old ++ lines_of (changes_to c all before after signal 0)
+  pub no_change_yet : (old : Putting) → Adds (lines_of (changes_to c all before after signal 0)) old old
   no_change_yet old = nothing (λ (n : ℕ). lines_of (changes_to c all before after signal n)) old (ap lines_of none_changed)
 
-  pub change_line : (i : ℕ) (old between new : List ℕ) → between ≡ old ++ lines_of (changes_to c all before after signal i)
-      → new ≡ between ++ lines_of (change_if all signal i (value_text before signal i) (value_text after signal i)) → new ≡ old ++ lines_of (changes_to c all before after signal (i + 1))
+  pub change_line : (i : ℕ) (old between new : Putting) → Adds (lines_of (changes_to c all before after signal i)) old between
+      → Adds (lines_of (change_if all signal i (value_text before signal i) (value_text after signal i))) between new → Adds (lines_of (changes_to c all before after signal (i + 1))) old new
   change_line i old between new so_far line = grown (λ (n : ℕ). lines_of (changes_to c all before after signal n)) i _ old between new (lines_more i) so_far line
 
 module _ (c : Setup) (all : Bool) (before after : Moment) where
@@ -70,8 +71,8 @@ module _ (c : Setup) (kind : ObjectKind) where
   objects_more : (i : ℕ) → objects_to c kind (i + 1) ≡ objects_to c kind i ++ object_line c kind i
   objects_more i = rw (add-one) (objects_suc i)
 
-  pub no_object_yet : (old : List ℕ) → old ≡ old ++ objects_to c kind 0
+  pub no_object_yet : (old : Putting) → Adds (objects_to c kind 0) old old
   no_object_yet old = nothing (objects_to c kind) old no_object
 
-  pub object_next : (i : ℕ) (old between new : List ℕ) → between ≡ old ++ objects_to c kind i → new ≡ between ++ object_line c kind i → new ≡ old ++ objects_to c kind (i + 1)
+  pub object_next : (i : ℕ) (old between new : Putting) → Adds (objects_to c kind i) old between → Adds (object_line c kind i) between new → Adds (objects_to c kind (i + 1)) old new
   object_next i old between new so_far line = grown (objects_to c kind) i _ old between new (objects_more i) so_far line

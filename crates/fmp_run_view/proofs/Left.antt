@@ -3,6 +3,7 @@ use Rattle.std.proofs.Common.{◌≡◌, ℕ, zero, suc, ℤ, ◌+◌, ◌-◌, 
 use Rattle.std.specs.Prelude.{decimal, is_some, option_map}
 use Rattle.std.proofs.lemmas.Bool.{true≢false}
 use Rattle.std.proofs.lemmas.Slice.Eq.{bytes_eq-Decides}
+use Rattle.fmp_out.specs.Putting.{Adds, Putting}
 use Rattle.fmp_codes.specs.Numbers.{as_object, as_proc, as_task, task_number}
 use Rattle.fmp_codes.specs.declared.numbers.Object.{Object}
 use Rattle.fmp_codes.specs.declared.numbers.Proc.{Proc}
@@ -48,8 +49,8 @@ module _ (c : Setup) (before after : Moment) (signal : Signal) (same : (i : ℕ)
   none_changed zero = refl
   none_changed (suc i) = ap₂ (λ (xs ys : List Change). xs ++ ys) (none_changed i) (no_change signal i (value_text before signal i) (value_text after signal i) (same i))
 
-  pub no_line : (all : Bool) (n : ℕ) (out : List ℕ) → all ≡ false → out ≡ out ++ lines_of (changes_to c all before after signal n)
-  no_line all n out none = rw (none, none_changed n) (sym (append-nil out))
+  pub no_line : (all : Bool) (n : ℕ) (out : Putting) → all ≡ false → Adds (lines_of (changes_to c all before after signal n)) out out
+  no_line all n out none whole = (whole, rw (none, none_changed n) (sym (append-nil out.bytes)))
 
 -- a tick that was taken is on time
 ticks_stay : (ticks : List ℕ) (e : Event) (a : Answer) → (not (is_idle a) && is_on_time e) ≡ false → ticked ticks e a ≡ ticks

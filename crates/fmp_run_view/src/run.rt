@@ -55,7 +55,8 @@ fn show<W: Sink>(
     let names = config.names();
     names.validity();
     let mut showing = Showing::new(alloc, config, trace, given)?;
-    write_all(page, showing.piece())?;
+    let start = showing.piece()?;
+    write_all(page, start)?;
     let mut number: u32 = 1;
     let mut rest = text;
     while let Some((line, after)) = next_line(rest) {
@@ -65,13 +66,15 @@ fn show<W: Sink>(
                 line: number,
             }));
         };
-        showing.play(config, event)?;
-        write_all(page, showing.piece())?;
+        showing.play(config, event);
+        let piece = showing.piece()?;
+        write_all(page, piece)?;
         number += 1;
         rest = after;
     }
-    showing.end()?;
-    write_all(page, showing.piece())?;
+    showing.end();
+    let end = showing.piece()?;
+    write_all(page, end)?;
     Ok(())
 }
 

@@ -1,10 +1,10 @@
 //! What is told of a processor, a task or an object.
-ghost use Rattle.std.specs.Prelude.{◌≡◌, ◌+◌, ◌++◌, ◌<◌, ◌≤◌, OnOk};
+ghost use Rattle.std.specs.Prelude.{◌≡◌, ◌+◌, ◌<◌, ◌≤◌};
+ghost use Rattle.fmp_out.specs.Putting.{Adds};
 ghost use Rattle.fmp_run_view.specs.Signals as spec;
 
+use fmp_out::Text;
 use fmp_rules::Config;
-use fmp_trace::put_number;
-use std::alloc::AllocError;
 
 /// A value that each processor, each task or each object of a kind has.
 #[derive(Clone, Copy)]
@@ -77,16 +77,12 @@ fn letter(signal: Signal) -> &'static [u8]
 
 /// Adds the identifier of the one at a place.
 #[tactic(auto, unfolding(crate::specs::Signals::identifier))]
-pub(crate) fn put_identifier(
-    out: &mut Vec<u8>,
-    signal: Signal,
-    index: usize,
-) -> Result<(), AllocError>
+pub(crate) fn put_identifier(out: &mut Text, signal: Signal, index: usize)
     requires { index < spec.most signal }
-    ensures { OnOk result (out.new.items ≡ out.old.items ++ spec.identifier signal index) }
+    ensures { Adds (spec.identifier signal index) out.old out.new }
 {
-    out.extend_from_slice(letter(signal))?;
-    put_number(out, index as u64 + 1)
+    out.put(letter(signal));
+    out.put_number(index as u64 + 1);
 }
 
 /// Of how many processors, tasks or objects of a configuration a signal is told.

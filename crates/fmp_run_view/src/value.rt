@@ -1,12 +1,12 @@
 //! The values that are told, and their texts.
-ghost use Rattle.std.specs.Prelude.{◌≡◌, ◌++◌, ◌∷◌, [], decimal, IsTrue, OnOk};
+ghost use Rattle.std.specs.Prelude.{◌≡◌, ◌++◌, ◌∷◌, [], codes, decimal, IsTrue};
+ghost use Rattle.fmp_out.specs.Putting.{Adds};
 ghost use Rattle.fmp_run_view.specs.Ticks as ticks;
 ghost use Rattle.fmp_run_view.specs.Values as spec;
 
 use fmp_codes::{Object, Pri, Proc, Runner};
+use fmp_out::Text;
 use fmp_rules::{TaskState, Wait};
-use fmp_trace::put_number;
-use std::alloc::AllocError;
 
 /// A value of one of the signals, but for the handlers that are due, which are a list.
 #[derive(Clone, Copy)]
@@ -119,31 +119,30 @@ impl Value {
 }
 
 /// Adds the text of a flag, if it is set.
-fn put_flag(out: &mut Vec<u8>, holds: bool, text: &[u8]) -> Result<(), AllocError>
-    ensures { OnOk result (out.new.items ≡ out.old.items ++ spec.flag_text holds text.now) }
+fn put_flag(out: &mut Text, holds: bool, text: &[u8])
+    ensures { Adds (spec.flag_text holds text.now) out.old out.new }
 {
     if holds {
-        out.extend_from_slice(text)?;
+        out.put(text);
     }
-    Ok(())
 }
 
 /// Adds a letter for each flag of a processor that is set, or `-` where none is.
 #[tactic(auto, unfolding(crate::specs::Values::flags_text))]
-fn put_flags(out: &mut Vec<u8>, locked: bool, disabled: bool, latch: bool) -> Result<(), AllocError>
-    ensures { OnOk result (out.new.items ≡ out.old.items ++ spec.flags_text locked disabled latch) }
+fn put_flags(out: &mut Text, locked: bool, disabled: bool, latch: bool)
+    ensures { Adds (spec.flags_text locked disabled latch) out.old out.new }
 {
     if !locked && !disabled && !latch {
-        return out.extend_from_slice(b"-");
+        return out.put(b"-");
     }
-    put_flag(out, locked, b"l")?;
-    put_flag(out, disabled, b"d")?;
-    put_flag(out, latch, b"i")
+    put_flag(out, locked, b"l");
+    put_flag(out, disabled, b"d");
+    put_flag(out, latch, b"i");
 }
 
 /// Adds who runs: the letter of a task, an alarm or a cyclic handler, and its number.
-fn put_handler(out: &mut Vec<u8>, handler: Runner) -> Result<(), AllocError>
-    ensures { OnOk result (out.new.items ≡ out.old.items ++ spec.handler_text handler) }
+fn put_handler(out: &mut Text, handler: Runner)
+    ensures { Adds (spec.handler_text handler) out.old out.new }
 {
     match handler {
         Runner::Task(t) => put_lettered(out, b'T', t.number),
@@ -153,33 +152,32 @@ fn put_handler(out: &mut Vec<u8>, handler: Runner) -> Result<(), AllocError>
 }
 
 /// Adds a letter, and a number after it.
-fn put_lettered(out: &mut Vec<u8>, letter: u8, number: u8) -> Result<(), AllocError>
-    ensures { OnOk result (out.new.items ≡ out.old.items ++ (letter ∷ []) ++ decimal number) }
+fn put_lettered(out: &mut Text, letter: u8, number: u8)
+    ensures { Adds ((letter ∷ []) ++ decimal number) out.old out.new }
 {
-    out.push(letter)?;
-    put_number(out, u64::from(number))
+    out.put_byte(letter);
+    out.put_number(u64::from(number));
 }
 
 /// Adds handlers, each after a comma.
-fn put_handlers_after(out: &mut Vec<u8>, handlers: &[Runner]) -> Result<(), AllocError>
-    ensures { OnOk result (out.new.items ≡ out.old.items ++ spec.handlers_after handlers.now) }
+fn put_handlers_after(out: &mut Text, handlers: &[Runner])
+    ensures { Adds (spec.handlers_after handlers.now) out.old out.new }
 {
     for handler in handlers {
-        out.push(b',')?;
-        put_handler(out, *handler)?;
+        out.put_byte(b',');
+        put_handler(out, *handler);
     }
-    Ok(())
 }
 
 /// Adds the due handlers of a processor.
-pub(crate) fn put_due(out: &mut Vec<u8>, due: &[Runner]) -> Result<(), AllocError>
-    ensures { OnOk result (out.new.items ≡ out.old.items ++ spec.due_text due.now) }
+pub(crate) fn put_due(out: &mut Text, due: &[Runner])
+    ensures { Adds (spec.due_text due.now) out.old out.new }
 {
     match due {
-        [] => out.extend_from_slice(b"-"),
+        [] => out.put(b"-"),
         [first, others @ ..] => {
-            put_handler(out, *first)?;
-            put_handlers_after(out, others)
+            put_handler(out, *first);
+            put_handlers_after(out, others);
         }
     }
 }
@@ -200,21 +198,21 @@ fn state_letter(state: TaskState) -> &'static [u8]
 
 /// Adds the word of a wait, and the number of the object for which a task waits.
 #[tactic(auto, unfolding(crate::specs::Values::object_wait))]
-fn put_object_wait(out: &mut Vec<u8>, word: &[u8], object: Object) -> Result<(), AllocError>
-    ensures { OnOk result (out.new.items ≡ out.old.items ++ spec.object_wait word.now object) }
+fn put_object_wait(out: &mut Text, word: &[u8], object: Object)
+    ensures { Adds (spec.object_wait word.now object) out.old out.new }
 {
-    out.extend_from_slice(word)?;
-    put_number(out, u64::from(object.number))
+    out.put(word);
+    out.put_number(u64::from(object.number));
 }
 
 /// Adds what a task waits for, if it waits.
-fn put_wait(out: &mut Vec<u8>, wait: Option<Wait>) -> Result<(), AllocError>
-    ensures { OnOk result (out.new.items ≡ out.old.items ++ spec.wait_text wait) }
+fn put_wait(out: &mut Text, wait: Option<Wait>)
+    ensures { Adds (spec.wait_text wait) out.old out.new }
 {
     match wait {
-        None => Ok(()),
-        Some(Wait::Sleep) => out.extend_from_slice(b" slp"),
-        Some(Wait::Delay) => out.extend_from_slice(b" dly"),
+        None => {}
+        Some(Wait::Sleep) => out.put(b" slp"),
+        Some(Wait::Delay) => out.put(b" dly"),
         Some(Wait::Semaphore(s)) => put_object_wait(out, b" sem ", s),
         Some(Wait::Eventflag(f, _, _)) => put_object_wait(out, b" flg ", f),
         Some(Wait::Send(d, _)) => put_object_wait(out, b" sdtq ", d),
@@ -224,51 +222,47 @@ fn put_wait(out: &mut Vec<u8>, wait: Option<Wait>) -> Result<(), AllocError>
 }
 
 /// Adds how many ticks there will have been when something is over, if it is timed.
-fn put_until(out: &mut Vec<u8>, until: Option<u64>) -> Result<(), AllocError>
-    ensures { OnOk result (out.new.items ≡ out.old.items ++ ticks.until_text until) }
+fn put_until(out: &mut Text, until: Option<u64>)
+    ensures { Adds (ticks.until_text until) out.old out.new }
 {
     match until {
-        None => Ok(()),
+        None => {}
         Some(ticks) => {
-            out.extend_from_slice(b" @")?;
-            put_number(out, ticks)
+            out.put(b" @");
+            out.put_number(ticks);
         }
     }
 }
 
 /// Adds the state of a task, what it waits for, and when that is over.
 #[tactic(auto, unfolding(crate::specs::Values::state_text))]
-fn put_state(
-    out: &mut Vec<u8>,
-    state: TaskState,
-    wait: Option<Wait>,
-    until: Option<u64>,
-) -> Result<(), AllocError>
-    ensures { OnOk result (out.new.items ≡ out.old.items ++ spec.state_text state wait until) }
+fn put_state(out: &mut Text, state: TaskState, wait: Option<Wait>, until: Option<u64>)
+    ensures { Adds (spec.state_text state wait until) out.old out.new }
 {
-    out.extend_from_slice(state_letter(state))?;
-    put_wait(out, wait)?;
-    put_until(out, until)
+    out.put(state_letter(state));
+    put_wait(out, wait);
+    put_until(out, until);
+}
+
+/// Adds how many activations and wakeups are queued.
+fn put_queued(out: &mut Text, activations: u8, wakeups: u16)
+    ensures { Adds (decimal activations ++ codes " " ++ decimal wakeups) out.old out.new }
+{
+    out.put_number(u64::from(activations));
+    out.put_byte(b' ');
+    out.put_number(u64::from(wakeups));
 }
 
 /// Adds a task's processor and priority, and how many activations and wakeups are queued.
 #[tactic(auto, unfolding(crate::specs::Values::rest_text))]
-fn put_rest(
-    out: &mut Vec<u8>,
-    p: Proc,
-    priority: Pri,
-    activations: u8,
-    wakeups: u16,
-) -> Result<(), AllocError>
-    ensures { OnOk result (out.new.items ≡ out.old.items ++ spec.rest_text p priority activations wakeups) }
+fn put_rest(out: &mut Text, p: Proc, priority: Pri, activations: u8, wakeups: u16)
+    ensures { Adds (spec.rest_text p priority activations wakeups) out.old out.new }
 {
-    put_number(out, u64::from(p.number))?;
-    out.push(b' ')?;
-    put_number(out, u64::from(priority.number))?;
-    out.push(b' ')?;
-    put_number(out, u64::from(activations))?;
-    out.push(b' ')?;
-    put_number(out, u64::from(wakeups))
+    out.put_number(u64::from(p.number));
+    out.put_byte(b' ');
+    out.put_number(u64::from(priority.number));
+    out.put_byte(b' ');
+    put_queued(out, activations, wakeups);
 }
 
 /// The processor on which a handler is started, or 0.
@@ -283,23 +277,23 @@ fn started_on(p: Proc, until: Option<u64>) -> u64
 
 /// Adds where a handler is started, and how many ticks there will have been when it is due.
 #[tactic(auto, unfolding(crate::specs::Ticks::started_text))]
-fn put_started(out: &mut Vec<u8>, p: Proc, until: Option<u64>) -> Result<(), AllocError>
-    ensures { OnOk result (out.new.items ≡ out.old.items ++ ticks.started_text p until) }
+fn put_started(out: &mut Text, p: Proc, until: Option<u64>)
+    ensures { Adds (ticks.started_text p until) out.old out.new }
 {
-    put_number(out, started_on(p, until))?;
-    put_until(out, until)
+    out.put_number(started_on(p, until));
+    put_until(out, until);
 }
 
 /// Adds the text of a value.
-pub(crate) fn put_value(out: &mut Vec<u8>, value: Value) -> Result<(), AllocError>
-    ensures { OnOk result (out.new.items ≡ out.old.items ++ spec.text_of value) }
+pub(crate) fn put_value(out: &mut Text, value: Value)
+    ensures { Adds (spec.text_of value) out.old out.new }
 {
     match value {
-        Value::Number(number) => put_number(out, number),
+        Value::Number(number) => out.put_number(number),
         Value::Flags(locked, disabled, latch) => put_flags(out, locked, disabled, latch),
         Value::State(state, wait, until) => put_state(out, state, wait, until),
         Value::Rest(p, priority, activations, wakeups) => {
-            put_rest(out, p, priority, activations, wakeups)
+            put_rest(out, p, priority, activations, wakeups);
         }
         Value::Started(p, until) => put_started(out, p, until),
     }

@@ -1,5 +1,6 @@
 //! The value of each signal.
-ghost use Rattle.std.specs.Prelude.{◌≡◌, ◌++◌, ◌+◌, ◌<◌, length, IsTrue, MatchOption, OnOk};
+ghost use Rattle.std.specs.Prelude.{◌≡◌, ◌+◌, ◌<◌, length, IsTrue, MatchOption};
+ghost use Rattle.fmp_out.specs.Putting.{Adds};
 ghost use Rattle.fmp_codes.specs.Numbers.{task_number};
 ghost use Rattle.fmp_rules.specs.Objects.{eventflag, free_blocks, holder, pool, semaphore, values};
 ghost use Rattle.fmp_rules.specs.World.{processor};
@@ -10,10 +11,10 @@ use crate::player::Player;
 use crate::signal::Signal;
 use crate::value::{Value, has_due_text_of, put_due, put_value};
 use fmp_codes::{Object, Proc, Task};
+use fmp_out::Text;
 use fmp_plain_machine::PlainMachine;
 use fmp_rules::Processor;
 use fmp_step_words::{Objects, Words};
-use std::alloc::AllocError;
 
 /// The number of a processor, or 0.
 fn proc_number(p: Option<Proc>) -> u64
@@ -176,14 +177,9 @@ impl Player {
     }
 
     /// Adds the text of the value of a signal at a place.
-    pub(crate) fn put_text(
-        &self,
-        out: &mut Vec<u8>,
-        signal: Signal,
-        index: usize,
-    ) -> Result<(), AllocError>
+    pub(crate) fn put_text(&self, out: &mut Text, signal: Signal, index: usize)
         requires { index < signals.most signal }
-        ensures { OnOk result (out.new.items ≡ out.old.items ++ spec.value_text self.now signal index) }
+        ensures { Adds (spec.value_text self.now signal index) out.old out.new }
     {
         match self.value(signal, index) {
             Some(value) => put_value(out, value),

@@ -1,7 +1,8 @@
-use Rattle.std.proofs.Common.{◌≡◌, ◌++◌, drop}
+use Rattle.std.proofs.Common.{drop}
+use Rattle.fmp_out.specs.Putting.{Owes}
 use Rattle.fmp_run_view.specs.Setups.{objects_over}
 use Rattle.fmp_run_view.proofs.setup.put_kinds.Given as goal
 
 -- the lines so far, and those of the kinds that are left
 abbrev pub invariant-loop-kind : goal.invariant-loop-kind
-invariant-loop-kind l = l.out.items ++ objects_over l.config (drop l.kind-index l.kinds) ≡ l.fn.out.items ++ objects_over l.config l.fn.kinds
+invariant-loop-kind l = Owes (objects_over l.config (drop l.kind-index l.kinds)) (objects_over l.config l.fn.kinds) l.fn.out l.out

@@ -2,8 +2,8 @@ use Rattle.fmp_run_view.proofs.Counted.{no_object_yet, object_next}
 use Rattle.fmp_run_view.proofs.setup.put_objects.Goals as goal
 
 pub loop-index-init : goal.loop-index-init
-loop-index-init c = no_object_yet c.args.config.now c.args.kind c.args.out.now.items
+loop-index-init c = no_object_yet c.args.config.now c.args.kind c.args.out.now
 
 pub loop-index-preserved : goal.loop-index-preserved
 loop-index-preserved c =
-    object_next c.args.config.now c.args.kind c.loop-index.index c.args.out.now.items c.loop-index.out.items _ c.loop-index.invariant c.in_ok-put_object_line.ensures
+    object_next c.args.config.now c.args.kind c.loop-index.index c.args.out.now c.loop-index.out _ c.loop-index.invariant c.put_object_line.ensures

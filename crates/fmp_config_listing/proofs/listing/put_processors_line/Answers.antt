@@ -2,7 +2,7 @@ use Rattle.std.proofs.Common.{◌++◌}
 use Rattle.std.specs.Prelude.{codes, decimal}
 use Rattle.fmp_out.proofs.Puts.{both}
 use Rattle.fmp_config_listing.specs.Listing.{processors_line}
-use Rattle.fmp_config_listing.proofs.listing.put_processors.Goals as goal
+use Rattle.fmp_config_listing.proofs.listing.put_processors_line.Goals as goal
 
 pub returns : goal.returns
 unfolding processors_line
