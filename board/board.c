@@ -190,7 +190,7 @@ static void body(int_t me) {
                 return;
         }
         if (++polls > BOARD_PATIENCE * (uint_t)p) {
-            tell(1, now);
+            tell(now < board->steps || !all_run(now), now); /* at the end processor 1 may spin, so that another tells it */
             return;
         }
         board_pause();
