@@ -132,7 +132,7 @@ static bool go_on_from(long place, int action) {
 static bool go_through(long words) {
     bool complete = go_on_from(-1, 0);
     for (long place = 0; place < places->count && words == learned->count && complete && !is_enough(); place++)
-        for (int a = 0; a < fmphost_processors * ACTS && !is_enough(); a++)
+        for (int a = 0; a < fmphost_processors * ACTS && words == learned->count && !is_enough(); a++)
             if ((places->place[place].enabled & 1u << a) && !go_on_from(place, a))
                 complete = false;
     return complete && words == learned->count && !is_enough();

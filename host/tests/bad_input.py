@@ -5,6 +5,8 @@ import subprocess
 import sys
 from pathlib import Path
 
+from known import line_of
+
 HOST = Path(__file__).resolve().parent.parent
 
 # Words, status, and what is told.
@@ -25,9 +27,9 @@ HOW = {
     "deep": (5, "stack overflow in BAD: deep bad.c:"), "loop": (5, "BAD comes to no service call for 2 s: bad_task bad.c:"),
     "exit": (5, "the program called exit(0)"), "abort": (5, "Aborted in BAD"), "out": (5, "Segmentation fault in BAD, at address 0x0: bad_task bad.c:"),
     "jump": (5, "BAD has jumped to the stack of OTHER: other_task bad.c:"), "jump and end": (5, "BAD has jumped to the stack of OTHER"),
-    "_exit": (5, "the program called _exit(7): leave bad.c:"), "quick_exit": (5, "the program called quick_exit(7): leave bad.c:"),
-    "kill": (5, "the program sent itself the signal 9: leave bad.c:"), "stop": (5, "the program sent itself the signal 19: leave bad.c:"), "killed": (5, "fmphost: Killed in BAD\n"),
-    "fork": (5, "the program called fork(): a task has no process of its own: leave bad.c:"), "thread": (5, "the program called pthread_create()"),
+    "_exit": (5, "the program called _exit(7): leave " + line_of("bad", "        _exit(7)")), "quick_exit": (5, "the program called quick_exit(7): leave " + line_of("bad", "quick_exit(7);")),
+    "kill": (5, "the program sent itself the signal 9: leave " + line_of("bad", "kill(getpid(), SIGKILL)")), "stop": (5, "the program sent itself the signal 19: leave bad.c:"), "killed": (5, "fmphost: Killed in BAD\n"),
+    "fork": (5, "the program called fork(): a task has no process of its own: leave " + line_of("bad", "        fork();")), "thread": (5, "the program called pthread_create()"),
     "exec": (5, "the program called execvp(): leave bad.c:"), "claim": (5, "n == 2 is false, in BAD"), "claim of C": (5, "claims.c:6: n == 3 is false, in BAD"),
     "handler aborts": (5, "Aborted in CLOCK"),
     "handler waits": (0, "nothing found"), "handler ends": (0, "nothing found"), "poll": (6, "what comes after 2000 turns: BAD goes on (seed 1, and 2 more)"),

@@ -74,8 +74,9 @@ def directed(test):
 
 
 # Steps, --patience, and who waits for more ticks than that in some order, or nobody. A `Z` lasts two ticks, since a timeout of 1 ends at the second. T4 is
-# activated behind six ticks, and waits for one Z or for two; T3 begins to wait before or behind two of them.
-PATIENCE = [("ZZZBZs|||w", "2", None), ("ZZZBZZs|||w", "2", "T4"), ("ZZs||w|", "3", "T3"), ("ZZs||w|", "4", None)]
+# activated behind six ticks, and waits for one Z or for two; T3 begins to wait before or behind two of them, or
+# behind two ticks of its own processor: then at most two more come, which a search has to try though they are another processor's.
+PATIENCE = [("ZZs||Zw|", "1", "T3"), ("ZZs||Zw|", "2", None), ("ZZZBZs|||w", "2", None), ("ZZZBZZs|||w", "2", "T4"), ("ZZs||w|", "3", "T3"), ("ZZs||w|", "4", None)]
 
 
 def patient(test):

@@ -17,27 +17,30 @@ static void lock(void)
 #if defined SERIAL
 void one_task(intptr_t exinf)
 {
-    while (serial_rea_dat(1, &last, 1) == 1)
+    while (serial_rea_dat(1, &last, 1) == 1) {
         assert(last != 'b');
+        sns_loc();
+    }
 }
 
 void two_task(intptr_t exinf)
 {
 }
 #elif defined THREE
-/* TWO comes after what THREE knew when it signalled, and THREE knows of ONE in the end in any case. */
+/* TWO comes after what THREE knew when it signalled, and in the end ONE and THREE know of each other in any case. */
 static volatile int three_done;
 
 void one_task(intptr_t exinf)
 {
     data = 1;
     lock();
+    lock();
     done = 1;
 }
 
 void two_task(intptr_t exinf)
 {
-    if (done && three_done) {
+    if (three_done) {
         wai_sem(SIGNAL);
         assert(data == 1);
     }
@@ -47,8 +50,10 @@ void three_task(intptr_t exinf)
 {
     lock();
     sig_sem(SIGNAL);
-    lock();
-    three_done = 1;
+    if (done) {
+        lock();
+        three_done = 1;
+    }
 }
 #else
 /* TWO reads what ONE has written, and comes after that only if it takes the lock after ONE gave it back. */
