@@ -1,18 +1,24 @@
 //! Why no event of any order has a pattern, where the configuration or the way of `explore` says so.
 use crate::patterns::put_item;
 use fmp_facts::{Asked, Fact, Subject, Thing};
-use fmp_setup::Config;
 use fmp_run_explore::Layer;
 use fmp_search_pattern::{Item, Wanted};
+use fmp_setup::Config;
 
 /// The most that a fact about one thing of a configuration can ask for.
 fn most_of(config: &Config, thing: Thing, fact: Fact) -> Option<u64> {
     match (thing, fact) {
         (Thing::Semaphore(s), Fact::Count(_)) => {
-            config.semaphores().get(s.index()).map(|setup| u64::from(setup.most))
+            config
+                .semaphores()
+                .get(s.index())
+                .map(|setup| u64::from(setup.most))
         }
         (Thing::Pool(m), Fact::FreeBlocks(_)) => {
-            config.pools().get(m.index()).map(|setup| u64::from(setup.blocks))
+            config
+                .pools()
+                .get(m.index())
+                .map(|setup| u64::from(setup.blocks))
         }
         (Thing::Task(_), Fact::Wakeups(_)) => Some(u64::from(config.limits().wakeups)),
         (Thing::Task(_), Fact::Priority(_)) => Some(u64::from(config.limits().priorities)),
@@ -69,12 +75,16 @@ fn tell_state<R: Eprint>(rt: &R, asked: &str, layer: &Layer, item: &Item, words:
     let not = if item.is_negated() { "not " } else { "" };
     match layer.is_so_at_boot(item.wanted()) {
         Ok(is) if is != item.is_negated() => {
-            let _ = eprintln!(rt; "fmpsim: {asked}: '{not}{words}' is so at boot, before any event");
+            let _ = eprintln!(rt;
+                "fmpsim: {asked}: '{not}{words}' is so at boot, before any event"
+            );
         }
         _ => {}
     }
     if let Some(most) = exceeded(layer.config(), item.wanted()) {
-        let _ = eprintln!(rt; "fmpsim: {asked}: '{words}' is more than there can be: at most {most}");
+        let _ = eprintln!(rt;
+            "fmpsim: {asked}: '{words}' is more than there can be: at most {most}"
+        );
     }
 }
 

@@ -60,7 +60,11 @@ fn add_unmade(
 }
 
 /// The calls of all scripts that have no mark: each its function and its position.
-fn unmade_calls(alloc: Global, orders: Orders<'_>, met: &Met) -> Result<Vec<(u8, u32)>, AllocError> {
+fn unmade_calls(
+    alloc: Global,
+    orders: Orders<'_>,
+    met: &Met,
+) -> Result<Vec<(u8, u32)>, AllocError> {
     let mut calls = Vec::new(alloc);
     for function in 0..=u8::MAX {
         add_unmade(&mut calls, orders, met, function)?;
