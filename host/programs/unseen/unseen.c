@@ -7,13 +7,13 @@
 int data;
 volatile int done;
 char last;
-
+#ifndef SERIAL
 static void lock(void)
 {
     loc_spn(LOCK);
     unl_spn(LOCK);
 }
-
+#endif
 #if defined SERIAL
 void one_task(intptr_t exinf)
 {
