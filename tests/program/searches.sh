@@ -87,6 +87,16 @@ stays() {
     run 2 /dev/null "$(as_file echo "$one")" smp "$folder/machine.cfg" "$folder/scripts.txt" --ticks 1 --turns 9 --seeds 0..1 --find 'LOG waits for ever'
     run 5 "$folder/trace.txt" "$(as_file printf '%s\n' 'fmpsim: from line 6 on LOG waits for ever' 'fmpsim: a shorter one is not ruled out')" \
         explore "$folder/machine.cfg" "$folder/scripts.txt" --ticks any --turns 16
+    takes_any "$folder"
+}
+
+# takes_any FOLDER: where nothing is said of ticks, or of lines, it is told what is taken.
+takes_any() {
+    local ticks='fmpsim: --ticks any, since no number is given' turns='fmpsim: --turns 1000000, since no number is given' stays='fmpsim: from line 6 on LOG waits for ever'
+    local words=(explore "$1/machine.cfg" "$1/scripts.txt")
+    run 5 "$1/trace.txt" "$(as_file printf '%s\n' "$ticks" "$turns" "$stays")" "${words[@]}"
+    run 5 "$1/trace.txt" "$(as_file printf '%s\n' "$ticks" "$stays")" "${words[@]}" --turns 1000
+    run 5 "$1/trace.txt" "$(as_file printf '%s\n' "$turns" "$stays")" "${words[@]}" --ticks any
 }
 
 # judged CFG: the checker says yes to what was written last.
