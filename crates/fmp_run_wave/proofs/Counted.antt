@@ -1,7 +1,9 @@
 -- The texts of the numbers 1 to n, and one more.
-use Rattle.std.proofs.Common.{◌≡◌, ℕ, zero, suc, ◌+◌, ◌-◌, ◌≤◌, List, [], ◌++◌, map, add-one, refl, sym, ap, ap₂, ◌∙◌, append_assoc, append-nil, arith}
+use Rattle.std.proofs.Common.{◌≡◌, ℕ, zero, suc, ◌+◌, ◌-◌, ◌≤◌, List, [], ◌++◌, map, add-one, refl, sym, ap, ap₂, subst, ◌∙◌, append-nil, arith}
 use Rattle.std.specs.List.{range_with_len}
 use Rattle.std.proofs.lemmas.List.FromFn.{get_or-map-range_with_len, length-map-range_with_len}
+use Rattle.fmp_out.specs.Putting.{Adds, Putting}
+use Rattle.fmp_out.proofs.Puts.{both}
 use Rattle.fmp_rules.specs.World.{item}
 use Rattle.fmp_run_wave.specs.Changes.{told_of}
 use Rattle.fmp_run_wave.specs.Listing.{each}
@@ -18,13 +20,12 @@ each-more : (f : ℕ → List ℕ) (n : ℕ) → each f (n + 1) ≡ each f n ++ 
 each-more f n = rw (add-one) (each-suc f n)
 
 -- nothing was written yet
-pub nothing_yet : (f : ℕ → List ℕ) (old : List ℕ) → old ≡ old ++ each f 0
-nothing_yet f old = sym (ap (λ (xs : List ℕ). old ++ xs) (each-nil f) ∙ append-nil old)
+pub nothing_yet : (f : ℕ → List ℕ) (old : Putting) → Adds (each f 0) old old
+nothing_yet f old whole = (whole, sym (ap (λ (xs : List ℕ). old.bytes ++ xs) (each-nil f) ∙ append-nil old.bytes))
 
 -- what was written of the first n, and the text of one more
-pub grown : (f : ℕ → List ℕ) (n : ℕ) (old between new : List ℕ) → between ≡ old ++ each f n → new ≡ between ++ f (n + 1) → new ≡ old ++ each f (n + 1)
-grown f n old between new before here =
-    here ∙ ap (λ (xs : List ℕ). xs ++ f (n + 1)) before ∙ append_assoc old (each f n) (f (n + 1)) ∙ ap (λ (xs : List ℕ). old ++ xs) (sym (each-more f n))
+pub grown : (f : ℕ → List ℕ) (n : ℕ) (old between new : Putting) → Adds (each f n) old between → Adds (f (n + 1)) between new → Adds (each f (n + 1)) old new
+grown f n old between new before here = subst (λ (xs : List ℕ). Adds xs old new) (sym (each-more f n)) (both (each f n) (f (n + 1)) old between new before here)
 
 -- texts that are the same one by one
 each_same : (f g : ℕ → List ℕ) (n : ℕ) → ((k : ℕ) → 1 ≤ k → k ≤ n → f k ≡ g k) → each f n ≡ each g n
@@ -38,9 +39,9 @@ module _ {X : Type 0} (told : ℕ → X → X → List ℕ) (blank : X) (f : ℕ
   told_at n = told n (item blank old n) (f n)
 
   -- of one more
-  pub told_more : (n : ℕ) (x : X) (out between new : List ℕ) → between ≡ out ++ each told_at n → new ≡ between ++ told (n + 1) x (f (n + 1)) → x ≡ item blank old (n + 1)
-      → new ≡ out ++ each told_at (n + 1)
-  told_more n x out between new so_far here is = grown told_at n out between new so_far (here ∙ ap (λ (y : X). between ++ told (n + 1) y (f (n + 1))) is)
+  pub told_more : (n : ℕ) (x : X) (out between new : Putting) → Adds (each told_at n) out between → Adds (told (n + 1) x (f (n + 1))) between new → x ≡ item blank old (n + 1)
+      → Adds (each told_at (n + 1)) out new
+  told_more n x out between new so_far here is = grown told_at n out between new so_far (subst (λ (y : X). Adds (told (n + 1) y (f (n + 1))) between new) is here)
 
   -- of all
   told_all : (n : ℕ) → each told_at n ≡ told_of told blank old (map f (range_with_len 1 n))
@@ -49,5 +50,5 @@ module _ {X : Type 0} (told : ℕ → X → X → List ℕ) (blank : X) (f : ℕ
       (λ k least most. ap (told k (item blank old k)) (sym (get_or-map-range_with_len f 1 n (k - 1) k blank (omega (arith, least, most)) (omega (arith, least)))))
       ∙ ap (each (λ (k : ℕ). told k (item blank old k) (item blank (map f (range_with_len 1 n)) k))) (sym (length-map-range_with_len f 1 n))
 
-  pub all_told : (n : ℕ) (out new : List ℕ) → new ≡ out ++ each told_at n → new ≡ out ++ told_of told blank old (map f (range_with_len 1 n))
-  all_told n out new so_far = so_far ∙ ap (λ (xs : List ℕ). out ++ xs) (told_all n)
+  pub all_told : (n : ℕ) (out new : Putting) → Adds (each told_at n) out new → Adds (told_of told blank old (map f (range_with_len 1 n))) out new
+  all_told n out new so_far = subst (λ (xs : List ℕ). Adds xs out new) (told_all n) so_far

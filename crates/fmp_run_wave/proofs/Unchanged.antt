@@ -2,6 +2,7 @@
 use Rattle.std.proofs.Common.{◌≡◌, ℕ, zero, suc, Bool, true, false, Option, List, [], ◌++◌, length, refl, sym, ap, ap₂, ◌∙◌, append-nil}
 use Rattle.std.proofs.lemmas.Bool.{eq-eqb}
 use Rattle.std.proofs.lemmas.Slice.Eq.{bytes_eq-Decides}
+use Rattle.fmp_out.specs.Putting.{Adds, Putting}
 use Rattle.fmp_codes.specs.Numbers.{as_task}
 use Rattle.fmp_codes.specs.declared.numbers.Proc.{Proc}
 use Rattle.fmp_codes.specs.declared.numbers.Task.{Task}
@@ -27,8 +28,8 @@ pub none_of_same : (old new line : List ℕ) → old ≡ new → if_other old ne
 none_of_same old new line same = let equal = (bytes_eq-Decides new new).1 refl in rw (same, equal) refl
 
 -- nothing after what was written
-nothing_more : (out line : List ℕ) → line ≡ [] → out ≡ out ++ line
-nothing_more out line none = sym (ap (λ (xs : List ℕ). out ++ xs) none ∙ append-nil out)
+nothing_more : (out : Putting) (line : List ℕ) → line ≡ [] → Adds line out out
+nothing_more out line none whole = (whole, sym (ap (λ (xs : List ℕ). out.bytes ++ xs) none ∙ append-nil out.bytes))
 
 both_nothing : (xs ys : List ℕ) → xs ≡ [] → ys ≡ [] → xs ++ ys ≡ []
 both_nothing xs ys = λ first second. ap₂ (λ (a b : List ℕ). a ++ b) first second
@@ -55,7 +56,7 @@ same_processor lists p x =
       none_of_same (runner_text lists x.due) (runner_text lists x.due) (due_value lists p x.due) refl,
     ) refl
 
-pub no_processor_lines : (lists : NameLists) (p : Proc) (x y : ShownProcessor) (out : List ℕ) → x ≡ y → out ≡ out ++ processor_changes lists p x y
+pub no_processor_lines : (lists : NameLists) (p : Proc) (x y : ShownProcessor) (out : Putting) → x ≡ y → Adds (processor_changes lists p x y) out out
 no_processor_lines lists p x y out same = rw same (nothing_more out _ (same_processor lists p y))
 
 same_state : (t : Task) (x y : TaskState) → x ≡ y → state_change t x y ≡ []
@@ -79,15 +80,15 @@ unfolding task_changes
 same_task lists t x =
     both_nothing _ _ (both_nothing _ _ (same_state t x.state x.state refl) (same_wait lists t x.wait x.wait refl)) (same_counts t x.numbers x.numbers refl)
 
-pub no_task_lines : (lists : NameLists) (t : Task) (x y : ShownTask) (out : List ℕ) → x ≡ y → out ≡ out ++ task_changes lists t x y
+pub no_task_lines : (lists : NameLists) (t : Task) (x y : ShownTask) (out : Putting) → x ≡ y → Adds (task_changes lists t x y) out out
 no_task_lines lists t x y out same = rw same (nothing_more out _ (same_task lists t y))
 
 -- of a list that is the same
 same_told : {X : Type 0} (told : ℕ → X → X → List ℕ) (blank : X) (xs : List X) → ((n : ℕ) (x : X) → told n x x ≡ []) → told_of told blank xs xs ≡ []
 same_told {X} told blank xs same = none_of_each (λ (n : ℕ). told n (item blank xs n) (item blank xs n)) (length xs) (λ n. same n (item blank xs n))
 
-pub no_tasks_told : (lists : NameLists) (xs : List ShownTask) (out : List ℕ) → out ≡ out ++ told_of (task_told lists) no_task_shown xs xs
+pub no_tasks_told : (lists : NameLists) (xs : List ShownTask) (out : Putting) → Adds (told_of (task_told lists) no_task_shown xs xs) out out
 no_tasks_told lists xs out = nothing_more out _ (same_told (task_told lists) no_task_shown xs (λ n x. same_task lists (as_task n) x))
 
-pub no_numbers_told : (r : Resource) (xs : List ℕ) (out : List ℕ) → out ≡ out ++ told_of (number_told r) 0 xs xs
+pub no_numbers_told : (r : Resource) (xs : List ℕ) (out : Putting) → Adds (told_of (number_told r) 0 xs xs) out out
 no_numbers_told r xs out = nothing_more out _ (same_told (number_told r) 0 xs (λ n x. no_change (signal_of r) n x))

@@ -91,13 +91,18 @@ module _ (old new : Shown) where
   abbrev pub numbers_changes : Resource → List ℕ
   numbers_changes r = told_of (number_told r) 0 (numbers_of old r) (numbers_of new r)
 
+-- of all objects that have a number
+unfoldable pub objects_changes : Shown → Shown → List ℕ
+objects_changes old new =
+    numbers_changes old new resources.Semaphore
+    ++ numbers_changes old new resources.Eventflag
+    ++ numbers_changes old new resources.DataQueue
+    ++ numbers_changes old new resources.Pool
+    ++ numbers_changes old new resources.SpinLock
+
 -- of all signals but the calls, which are told of each event
 unfoldable pub changes_text : NameLists → Shown → Shown → List ℕ
 changes_text lists old new =
     told_of (processor_told lists) nothing_shown old.processors new.processors
     ++ told_of (task_told lists) no_task_shown old.tasks new.tasks
-    ++ numbers_changes old new resources.Semaphore
-    ++ numbers_changes old new resources.Eventflag
-    ++ numbers_changes old new resources.DataQueue
-    ++ numbers_changes old new resources.Pool
-    ++ numbers_changes old new resources.SpinLock
+    ++ objects_changes old new

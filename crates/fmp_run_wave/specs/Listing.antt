@@ -67,15 +67,17 @@ each text zero = []
 each text (suc n) = each text n ++ text (suc n)
 
 module _ (form : Form) (lists : NameLists) where
+  -- those of what is left of it, and all
+  unfoldable pub last_signals : ℕ → List ℕ
+  last_signals n = line form lists signals.Latch n ++ line form lists signals.Due n ++ line form lists signals.Tick n
+
   unfoldable pub processor_signals : ℕ → List ℕ
   processor_signals n =
       line form lists signals.Running n
       ++ line form lists signals.Call n
       ++ line form lists signals.Locked n
       ++ line form lists signals.Disabled n
-      ++ line form lists signals.Latch n
-      ++ line form lists signals.Due n
-      ++ line form lists signals.Tick n
+      ++ last_signals n
 
   unfoldable pub processor_scope : ℕ → List ℕ
   processor_scope n = scope_begin form (scopes.Processor n) ++ processor_signals n ++ scope_end form
@@ -98,15 +100,16 @@ module _ (form : Form) (c : Setup) where
   resource_signals r = each (line form c.names (signal_of r)) (count c r)
 
   -- the scope of all objects
-  unfoldable pub objects_scope : List ℕ
-  objects_scope =
-      scope_begin form scopes.Objects
-      ++ resource_signals resources.Semaphore
+  unfoldable pub objects_signals : List ℕ
+  objects_signals =
+      resource_signals resources.Semaphore
       ++ resource_signals resources.Eventflag
       ++ resource_signals resources.DataQueue
       ++ resource_signals resources.Pool
       ++ resource_signals resources.SpinLock
-      ++ scope_end form
+
+  unfoldable pub objects_scope : List ℕ
+  objects_scope = scope_begin form scopes.Objects ++ objects_signals ++ scope_end form
 
   -- of all signals
   unfoldable pub listing : List ℕ

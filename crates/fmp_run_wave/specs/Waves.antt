@@ -79,16 +79,17 @@ abbrev pub moves_states : Record → Bool
 moves_states r = moves_tasks r || is_some r.run_change
 
 -- what is shown of a state to which an event led of which this is told: what the event left is shown as before
-abbrev pub shown_by : Shown → Record → State → Shown
-shown_by s r w = record {
-  processors = shown_processors w;
-  tasks = if moves_states r then shown_tasks w else s.tasks;
+abbrev pub objects_by : Shown → Record → State → Shown
+objects_by s r w = record s {
   semaphores = if moves_sync r then shown_numbers w Semaphore else s.semaphores;
   eventflags = if moves_sync r then shown_numbers w Eventflag else s.eventflags;
   data_queues = if moves_buffers r then shown_numbers w DataQueue else s.data_queues;
   pools = if moves_buffers r then shown_numbers w Pool else s.pools;
   holders = if moves_locks r then shown_numbers w SpinLock else s.holders;
 }
+
+abbrev pub shown_by : Shown → Record → State → Shown
+shown_by s r w = record (objects_by s r w) { processors = shown_processors w; tasks = if moves_states r then shown_tasks w else s.tasks }
 
 -- with the lines of what changed up to this state
 abbrev pub shown_after : Picture → NameLists → Record → State → Picture

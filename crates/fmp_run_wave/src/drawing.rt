@@ -1,5 +1,6 @@
 //! A waveform while it is drawn.
-ghost use Rattle.std.specs.Prelude.{◌≡◌, ◌++◌, OnOk, IfOk};
+ghost use Rattle.std.specs.Prelude.{◌≡◌, IfOk};
+ghost use Rattle.fmp_out.specs.Putting.{Adds};
 ghost use Rattle.fmp_run_wave.specs.Waves as spec;
 
 use crate::changes::{Texts, put_call_value, put_changes, put_mark, put_time};
@@ -8,6 +9,7 @@ use crate::snapshot::Snapshot;
 use crate::values::put_values;
 use fmp_codes::Record;
 use fmp_names::Names;
+use fmp_out::Text;
 use fmp_plain::Plain;
 use fmp_plain_machine::PlainMachine;
 use fmp_rules::Config;
@@ -17,29 +19,29 @@ use std::marker::Model;
 
 /// Adds what stands before the values at time 0.
 #[tactic(auto, unfolding(crate::specs::Waves::start_begin))]
-fn put_start_begin(out: &mut Vec<u8>) -> Result<(), AllocError>
-    ensures { OnOk result (out.new.items ≡ out.old.items ++ spec.start_begin) }
+fn put_start_begin(out: &mut Text)
+    ensures { Adds spec.start_begin out.old out.new }
 {
-    out.extend_from_slice(b"#0\n$dumpvars\n")
+    out.put(b"#0\n$dumpvars\n");
 }
 
 /// Adds what stands after them.
 #[tactic(auto, unfolding(crate::specs::Waves::start_end))]
-fn put_start_end(out: &mut Vec<u8>) -> Result<(), AllocError>
-    ensures { OnOk result (out.new.items ≡ out.old.items ++ spec.start_end) }
+fn put_start_end(out: &mut Text)
+    ensures { Adds spec.start_end out.old out.new }
 {
-    out.extend_from_slice(b"$end\n")
+    out.put(b"$end\n");
 }
 
 /// Adds what stands before the first event: the declarations, and the values that the signals begin with.
 #[tactic(auto, unfolding(crate::specs::Waves::start_text))]
-fn put_start(out: &mut Vec<u8>, config: &Config, shown: &Snapshot) -> Result<(), AllocError>
-    ensures { OnOk result (out.new.items ≡ out.old.items ++ spec.start_text config.now shown.now) }
+fn put_start(out: &mut Text, config: &Config, shown: &Snapshot)
+    ensures { Adds (spec.start_text config.now shown.now) out.old out.new }
 {
-    put_header(out, config)?;
-    put_start_begin(out)?;
-    put_values(out, config.names(), shown)?;
-    put_start_end(out)
+    put_header(out, config);
+    put_start_begin(out);
+    put_values(out, config.names(), shown);
+    put_start_end(out);
 }
 
 /// A waveform while it is drawn: what is shown of the last state, and all that was told up to it.
@@ -47,7 +49,7 @@ fn put_start(out: &mut Vec<u8>, config: &Config, shown: &Snapshot) -> Result<(),
 pub(crate) struct Drawing {
     shown: Snapshot,
     texts: Texts,
-    wave: Vec<u8>,
+    wave: Text,
 }
 
 impl Model for Drawing {
@@ -55,7 +57,7 @@ impl Model for Drawing {
 
     ghost Value = { Picture };
 
-    ghost view = { λ a. record { shown = a.shown; wave = a.wave.items } };
+    ghost view = { λ a. record { shown = a.shown; wave = a.wave.bytes } };
 }
 
 impl Drawing {
@@ -65,8 +67,9 @@ impl Drawing {
     {
         let plain = Plain::boot(config)?;
         let shown = Snapshot::of(plain.machine());
-        let mut wave = Vec::new(alloc);
-        put_start(&mut wave, config, &shown)?;
+        let mut wave = Text::new(alloc);
+        put_start(&mut wave, config, &shown);
+        wave.so_far()?;
         Ok(Drawing {
             shown,
             texts: Texts::new(alloc),
@@ -74,31 +77,12 @@ impl Drawing {
         })
     }
 
-    /// Tells what changed of what is shown.
-    fn show(
-        &mut self,
-        names: &Names,
-        report: &Record,
-        machine: &PlainMachine,
-    ) -> Result<(), AllocError>
-        ensures { OnOk result (self.new ≡ spec.shown_after self.old names.now report.now machine.now) }
-    {
-        put_changes(
-            &mut self.wave,
-            &mut self.texts,
-            names,
-            report,
-            &mut self.shown,
-            machine,
-        )
-    }
-
     /// The waveform so far.
-    pub(crate) fn into_wave(self) -> Vec<u8>
-        ensures { result.items ≡ self.wave }
+    pub(crate) fn into_wave(self) -> Result<Vec<u8>, AllocError>
+        ensures { IfOk result (λ wave. wave.items ≡ self.wave) }
     {
         let Drawing { wave, .. } = self;
-        wave
+        wave.finish()
     }
 }
 
@@ -114,9 +98,18 @@ impl Watcher for Drawing {
         report: &Record,
         machine: &PlainMachine,
     ) -> Result<(), AllocError> {
-        put_time(&mut self.wave, n)?;
-        put_mark(&mut self.wave, report.event)?;
-        put_call_value(&mut self.wave, &mut self.texts, names, report)?;
-        self.show(names, report, machine)
+        put_time(&mut self.wave, n);
+        put_mark(&mut self.wave, report.event);
+        put_call_value(&mut self.wave, &mut self.texts, names, report);
+        put_changes(
+            &mut self.wave,
+            &mut self.texts,
+            names,
+            report,
+            &mut self.shown,
+            machine,
+        );
+        self.wave.so_far()?;
+        Ok(())
     }
 }

@@ -42,10 +42,10 @@ impl Reader for Drawer {
     fn read(&self, alloc: Global, config: &Config, text: Vec<u8>) -> Result<Judged, RunFault> {
         let mut drawing = Drawing::new(alloc, config)?;
         match check_watched(alloc, config, text.as_slice(), &mut drawing) {
-            Ok(verdict) => Ok(Judged {
-                verdict,
-                wave: drawing.into_wave(),
-            }),
+            Ok(verdict) => {
+                let wave = drawing.into_wave()?;
+                Ok(Judged { verdict, wave })
+            }
             Err(fault) => Err(RunFault::Text(fault)),
         }
     }

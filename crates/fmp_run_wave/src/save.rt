@@ -1,10 +1,12 @@
 //! GTKWave's save file, and the run that writes it.
-ghost use Rattle.std.specs.Prelude.{◌≡◌, ◌-◌, ◌^◌, ◌<◌, ◌++◌, OnOk, IfOk};
+ghost use Rattle.std.specs.Prelude.{◌≡◌, ◌-◌, ◌^◌, ◌<◌, IfOk};
+ghost use Rattle.fmp_out.specs.Putting.{Adds};
 ghost use Rattle.fmp_run_devices.specs.Ends.{sink_ends, source_ends};
 ghost use Rattle.fmp_run_texts.specs.Owed.{OwesConfig};
 ghost use Rattle.fmp_run_wave.specs.Saves as spec;
 
 use crate::listing::{Form, put_listing};
+use fmp_out::Text;
 use fmp_rules::Config;
 use fmp_run_devices::{Sink, Source, write_out};
 use fmp_run_texts::{RunFault, config_from};
@@ -12,12 +14,12 @@ use std::alloc::{AllocError, Global};
 
 /// Adds how the window begins.
 #[tactic(auto, unfolding(crate::specs::Saves::window_text))]
-fn put_window(out: &mut Vec<u8>) -> Result<(), AllocError>
-    ensures { OnOk result (out.new.items ≡ out.old.items ++ spec.window_text) }
+fn put_window(out: &mut Text)
+    ensures { Adds spec.window_text out.old out.new }
 {
-    out.extend_from_slice(
+    out.put(
         b"[timestart] 0\n[size] 1500 900\n[pos] -1 -1\n*-1.000000 0\n[signals_width] 200\n[sst_expanded] 0\n",
-    )
+    );
 }
 
 /// The save file of a configuration.
@@ -25,10 +27,10 @@ fn put_window(out: &mut Vec<u8>) -> Result<(), AllocError>
 fn save_file(alloc: Global, config: &Config) -> Result<Vec<u8>, AllocError>
     ensures { IfOk result (λ text. text.items ≡ spec.save_of config.now) }
 {
-    let mut text = Vec::new(alloc);
-    put_window(&mut text)?;
-    put_listing(&mut text, Form::Traces, config)?;
-    Ok(text)
+    let mut text = Text::new(alloc);
+    put_window(&mut text);
+    put_listing(&mut text, Form::Traces, config);
+    text.finish()
 }
 
 /// Reads a configuration, and writes the save file by which GTKWave shows all signals of the configuration's waveforms.

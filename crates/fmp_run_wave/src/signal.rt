@@ -1,11 +1,13 @@
 //! What a waveform shows of a processor, a task or an object, and the names of that.
-ghost use Rattle.std.specs.Prelude.{◌≡◌, ◌++◌, OnOk};
+ghost use Rattle.std.specs.Prelude.{◌≡◌};
+ghost use Rattle.fmp_out.specs.Putting.{Adds};
+ghost use Rattle.fmp_trace.specs.Values.{named};
 ghost use Rattle.fmp_run_wave.specs.Signals as spec;
 
 use fmp_codes::ObjectKind;
 use fmp_names::Names;
-use fmp_trace::{put_named, put_number};
-use std::alloc::AllocError;
+use fmp_out::Text;
+use fmp_trace::put_named;
 
 /// One of the values of a processor, of a task or of an object.
 #[derive(Clone, Copy)]
@@ -137,78 +139,67 @@ fn scope_of(signal: Signal, number: u8) -> Scope
 
 /// Adds the identifier of the signal of a processor, a task or an object with this number.
 #[tactic(auto, unfolding(crate::specs::Signals::identifier))]
-pub(crate) fn put_identifier(
-    out: &mut Vec<u8>,
-    signal: Signal,
-    number: u8,
-) -> Result<(), AllocError>
-    ensures { OnOk result (out.new.items ≡ out.old.items ++ spec.identifier signal number) }
+pub(crate) fn put_identifier(out: &mut Text, signal: Signal, number: u8)
+    ensures { Adds (spec.identifier signal number) out.old out.new }
 {
-    out.extend_from_slice(letter(signal))?;
-    put_number(out, u64::from(number))
+    out.put(letter(signal));
+    out.put_number(u64::from(number));
 }
 
 /// Adds the name of the processor with this number.
 #[tactic(auto, unfolding(crate::specs::Signals::processor_text))]
-fn put_processor(out: &mut Vec<u8>, number: u8) -> Result<(), AllocError>
-    ensures { OnOk result (out.new.items ≡ out.old.items ++ spec.processor_text number) }
+fn put_processor(out: &mut Text, number: u8)
+    ensures { Adds (spec.processor_text number) out.old out.new }
 {
-    out.push(b'P')?;
-    put_number(out, u64::from(number))
+    out.put_byte(b'P');
+    out.put_number(u64::from(number));
 }
 
 /// Adds the name of a scope.
-pub(crate) fn put_scope(out: &mut Vec<u8>, scope: Scope) -> Result<(), AllocError>
-    ensures { OnOk result (out.new.items ≡ out.old.items ++ spec.scope_text scope) }
+pub(crate) fn put_scope(out: &mut Text, scope: Scope)
+    ensures { Adds (spec.scope_text scope) out.old out.new }
 {
     match scope {
         Scope::Processor(number) => put_processor(out, number),
-        Scope::Tasks => out.extend_from_slice(b"tasks"),
-        Scope::Objects => out.extend_from_slice(b"objects"),
+        Scope::Tasks => out.put(b"tasks"),
+        Scope::Objects => out.put(b"objects"),
     }
 }
 
+/// Adds the name of an object.
+pub(crate) fn put_object(out: &mut Text, names: &Names, kind: ObjectKind, number: u8)
+    ensures { Adds (named names.now kind number) out.old out.new }
+{
+    let told = put_named(out.as_mut_vec(), names, kind, usize::from(number));
+    out.note(told);
+}
+
 /// Adds the name of what has a signal: of a processor, or of an object of a kind.
-fn put_owner(
-    out: &mut Vec<u8>,
-    names: &Names,
-    kind: Option<ObjectKind>,
-    number: u8,
-) -> Result<(), AllocError>
-    ensures { OnOk result (out.new.items ≡ out.old.items ++ spec.owner_text names.now kind number) }
+fn put_owner(out: &mut Text, names: &Names, kind: Option<ObjectKind>, number: u8)
+    ensures { Adds (spec.owner_text names.now kind number) out.old out.new }
 {
     match kind {
         None => put_processor(out, number),
-        Some(kind) => put_named(out, names, kind, usize::from(number)),
+        Some(kind) => put_object(out, names, kind, number),
     }
 }
 
 /// Adds the name of the signal of a processor, a task or an object with this number.
 #[tactic(auto, unfolding(crate::specs::Signals::name_text))]
-pub(crate) fn put_name(
-    out: &mut Vec<u8>,
-    names: &Names,
-    signal: Signal,
-    number: u8,
-) -> Result<(), AllocError>
-    ensures { OnOk result (out.new.items ≡ out.old.items ++ spec.name_text names.now signal number) }
+pub(crate) fn put_name(out: &mut Text, names: &Names, signal: Signal, number: u8)
+    ensures { Adds (spec.name_text names.now signal number) out.old out.new }
 {
-    put_owner(out, names, owner(signal), number)?;
-    out.push(b'_')?;
-    out.extend_from_slice(word(signal))
+    put_owner(out, names, owner(signal), number);
+    out.put_byte(b'_');
+    out.put(word(signal));
 }
 
 /// Adds the scope and the name of a signal, as viewers find it.
 #[tactic(auto, unfolding(crate::specs::Signals::path_text))]
-pub(crate) fn put_path(
-    out: &mut Vec<u8>,
-    names: &Names,
-    signal: Signal,
-    number: u8,
-) -> Result<(), AllocError>
-    ensures { OnOk result (out.new.items ≡ out.old.items ++ spec.path_text names.now signal number) }
+pub(crate) fn put_path(out: &mut Text, names: &Names, signal: Signal, number: u8)
+    ensures { Adds (spec.path_text names.now signal number) out.old out.new }
 {
-    put_scope(out, scope_of(signal, number))?;
-    out.push(b'.')?;
-    put_name(out, names, signal, number)
+    put_scope(out, scope_of(signal, number));
+    out.put_byte(b'.');
+    put_name(out, names, signal, number);
 }

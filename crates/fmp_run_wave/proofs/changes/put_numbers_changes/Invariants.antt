@@ -1,4 +1,5 @@
-use Rattle.std.proofs.Common.{◌≡◌, ◌++◌}
+use Rattle.std.proofs.Common.{◌≡◌}
+use Rattle.fmp_out.specs.Putting.{Adds}
 use Rattle.fmp_codes.specs.Numbers.{as_object}
 use Rattle.fmp_run_wave.specs.Changes.{number_told}
 use Rattle.fmp_run_wave.specs.Listing.{each}
@@ -10,6 +11,6 @@ use Rattle.fmp_run_wave.proofs.changes.put_numbers_changes.Given as goal
 -- the lines so far, and what is shown so far
 abbrev pub invariant-loop-index : goal.invariant-loop-index
 invariant-loop-index l = record {
-  told : l.out.items ≡ l.fn.out.items ++ each (told_at (number_told l.resource) 0 (λ n. number_in l.machine l.resource (as_object n)) l.fn.numbers.items) l.index;
+  told : Adds (each (told_at (number_told l.resource) 0 (λ n. number_in l.machine l.resource (as_object n)) l.fn.numbers.items) l.index) l.fn.out l.out;
   shown : l.numbers.items ≡ renewed (λ n. number_in l.machine l.resource (as_object n)) l.fn.numbers.items l.index;
 }

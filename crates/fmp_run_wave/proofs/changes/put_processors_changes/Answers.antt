@@ -1,4 +1,5 @@
-use Rattle.std.proofs.Common.{◌≡◌, ℕ, ◌++◌, length, take, get_or, refl, ap, subst, ◌∙◌, arith}
+use Rattle.std.proofs.Common.{◌≡◌, ℕ, length, take, get_or, refl, ap, subst, ◌∙◌, arith}
+use Rattle.fmp_out.specs.Putting.{Adds}
 use Rattle.fmp_codes.specs.Numbers.{as_proc}
 use Rattle.fmp_run_wave.specs.declared.snapshot.ShownProcessor.{ShownProcessor}
 use Rattle.fmp_run_wave.specs.Changes.{processor_told}
@@ -11,7 +12,7 @@ use Rattle.fmp_run_wave.proofs.changes.put_processors_changes.Goals as goal
 pub loop-index-init : goal.loop-index-init
 loop-index-init c =
     let f : ℕ → ShownProcessor = λ i. shown_processor c.args.machine.now (as_proc i) in
-    record { told = nothing_yet (told_at (processor_told c.args.names.now) nothing_shown f c.args.shown.now.items) c.args.out.now.items; shown = refl }
+    record { told = nothing_yet (told_at (processor_told c.args.names.now) nothing_shown f c.args.shown.now.items) c.args.out.now; shown = refl }
 
 pub put_processor_change-requires-clause-next : goal.put_processor_change-requires-clause-next
 put_processor_change-requires-clause-next c =
@@ -25,7 +26,7 @@ loop-index-preserved c =
     let xs = c.loop-index.shown.items in
     let n = c.loop-index.index in
     record {
-      told = told_more (processor_told c.args.names.now) nothing_shown f old n (get_or xs n nothing_shown) c.args.out.now.items c.loop-index.out.items _ c.loop-index.invariant.told c.in_ok-put_processor_change.ensures.told
+      told = told_more (processor_told c.args.names.now) nothing_shown f old n (get_or xs n nothing_shown) c.args.out.now c.loop-index.out _ c.loop-index.invariant.told c.put_processor_change.ensures.told
           (as_before f old xs n c.loop-index.invariant.shown nothing_shown);
       shown = renewed_more f old xs n c.loop-index.invariant.shown _ c.put_processor_change.ensures.shown;
     }
@@ -34,8 +35,8 @@ pub returns-clause-told : goal.returns-clause-told
 returns-clause-told c =
     let f : ℕ → ShownProcessor = λ i. shown_processor c.args.machine.now (as_proc i) in
     let all : c.loop-index.index ≡ length c.args.machine.now.processors = omega (arith, c.loop-index-test.false, c.loop-index.auto.index-end, c.processor_count-count.ensures.value) in
-    all_told (processor_told c.args.names.now) nothing_shown f c.args.shown.now.items (length c.args.machine.now.processors) c.args.out.now.items c.loop-index.out.items
-    (subst (λ (n : ℕ). c.loop-index.out.items ≡ c.args.out.now.items ++ each (told_at (processor_told c.args.names.now) nothing_shown f c.args.shown.now.items) n) all c.loop-index.invariant.told)
+    all_told (processor_told c.args.names.now) nothing_shown f c.args.shown.now.items (length c.args.machine.now.processors) c.args.out.now c.loop-index.out
+    (subst (λ (n : ℕ). Adds (each (told_at (processor_told c.args.names.now) nothing_shown f c.args.shown.now.items) n) c.args.out.now c.loop-index.out) all c.loop-index.invariant.told)
 
 pub returns-clause-shown : goal.returns-clause-shown
 returns-clause-shown c =

@@ -3,7 +3,7 @@ use Rattle.fmp_run_wave.proofs.Counted.{grown, nothing_yet}
 use Rattle.fmp_run_wave.proofs.values.put_processors.Goals as goal
 
 pub loop-index-init : goal.loop-index-init
-loop-index-init c = nothing_yet (processor_lines c.args.names.now c.args.shown.now) c.args.out.now.items
+loop-index-init c = nothing_yet (processor_lines c.args.names.now c.args.shown.now) c.args.out.now
 
 pub loop-index-preserved : goal.loop-index-preserved
-loop-index-preserved c = grown (processor_lines c.args.names.now c.args.shown.now) c.loop-index.index c.args.out.now.items c.loop-index.out.items _ c.loop-index.invariant c.in_ok-put_processor.ensures
+loop-index-preserved c = grown (processor_lines c.args.names.now c.args.shown.now) c.loop-index.index c.args.out.now c.loop-index.out _ c.loop-index.invariant c.put_processor.ensures

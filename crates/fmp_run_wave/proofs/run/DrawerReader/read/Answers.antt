@@ -15,9 +15,9 @@ returns-in-Ok-clause-says c =
     record {
       judges = judges;
       draws = λ is_yes.
-          is_drawn config text c.in-Ok.verdict c.in_ok-drawing.drawing c.check_watched.new.watcher c.into_wave.result.items judges is_yes c.in_ok-drawing.ensures
+          is_drawn config text c.in-Ok.verdict c.in_ok-drawing.drawing c.check_watched.new.watcher c.in_ok-wave-in-Ok.wave.items judges is_yes c.in_ok-drawing.ensures
           (λ records prints. c.in-Ok.ensures.watched (ap (λ (v : Verdict). Ok v) is_yes) records (subst (λ (t : List ℕ). PrintsWithin config.names t records) (sym c.as_slice.ensures.value) prints))
-          c.into_wave.ensures;
+          c.in_ok-wave-in-Ok.ensures;
     }
 
 pub returns-clause-fault : goal.returns-clause-fault
