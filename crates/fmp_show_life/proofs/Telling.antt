@@ -3,6 +3,7 @@ use Rattle.std.proofs.Common.{◌≡◌, ◌∙◌, ℕ, ◌+◌, ◌<◌, List,
 use Rattle.std.specs.List.{flat_map}
 use Rattle.std.proofs.lemmas.List.{drop-set-lt, drop_more, get_or-drop, map-append, take_more, take_more_set}
 use Rattle.std.proofs.lemmas.Grind.{drop_more_same}
+use Rattle.fmp_out.specs.Putting.{Adds, Owes, Putting}
 use Rattle.fmp_rules.specs.World.{World}
 use Rattle.fmp_names.specs.Names.{NameLists}
 use Rattle.fmp_show_life.specs.declared.life.Watched.{Watched}
@@ -19,14 +20,19 @@ module _ {Q : Type 0} (lists : NameLists) (w : World Q) (all first : List Watche
   pub rest_same : (x : Watched) → drop i all ≡ drop i first → drop (i + 1) (set all i x) ≡ drop (i + 1) first
   rest_same x same = drop-set-lt (i + 1) all i x (omega arith) ∙ drop_more_same all first i same
 
-  pub one_reported : (out new whole : List ℕ) → drop i all ≡ drop i first → new ≡ out ++ report_since lists w (seen_of (get_or all i d))
-      → out ++ flat_map (report_since lists w) (map seen_of (drop i first)) ≡ whole
-      → new ++ flat_map (report_since lists w) (map seen_of (drop (i + 1) first)) ≡ whole
-  one_reported out new whole same written before =
+  pub one_reported : (text : List ℕ) (old out new : Putting) → drop i all ≡ drop i first → Adds (report_since lists w (seen_of (get_or all i d))) out new
+      → Owes (flat_map (report_since lists w) (map seen_of (drop i first))) text old out
+      → Owes (flat_map (report_since lists w) (map seen_of (drop (i + 1) first))) text old new
+  one_reported text old out new same written before whole =
+      let last = written whole in
+      let front = before last.0 in
       let rest = flat_map (report_since lists w) (map seen_of (drop (i + 1) first)) in
-      let line = report_since lists w (seen_of (get_or first i d)) in
-      ap (λ (bytes : List ℕ). bytes ++ rest) (written ∙ ap (λ (x : Watched). out ++ report_since lists w (seen_of x)) (same_here same))
-      ∙ (append_assoc out line rest ∙ (ap (λ (xs : List Watched). out ++ flat_map (report_since lists w) (map seen_of xs)) (sym (drop_more first i d lt_first)) ∙ before))
+      let line = report_since lists w (seen_of (get_or first i d)) in (
+        front.0,
+        ap (λ (bytes : List ℕ). bytes ++ rest) (last.1 ∙ ap (λ (x : Watched). out.bytes ++ report_since lists w (seen_of x)) (same_here same))
+            ∙ (append_assoc out.bytes line rest
+            ∙ (ap (λ (xs : List Watched). out.bytes ++ flat_map (report_since lists w) (map seen_of xs)) (sym (drop_more first i d lt_first)) ∙ front.1)),
+      )
 
   pub one_seen : (x : Watched) → drop i all ≡ drop i first → seen_of x ≡ renewed lists w (seen_of (get_or all i d))
       → map seen_of (take i all) ≡ map (renewed lists w) (map seen_of (take i first))

@@ -1,12 +1,15 @@
 //! What was told of some things last.
-ghost use Rattle.std.specs.Prelude.{◌≡◌, ◌++◌, map, OnOk, IfOk};
+ghost use Rattle.std.specs.Prelude.{◌≡◌, ◌++◌, false, map, OnOk};
 ghost use Rattle.std.specs.List.{flat_map};
+ghost use Rattle.fmp_out.specs.Putting.{Adds};
 ghost use Rattle.fmp_show_life.specs.Lives as spec;
 ghost use Rattle.fmp_show_life.specs.Watches.{seen_of};
 
 use crate::lines::put_line;
 use crate::things::Thing;
 use fmp_names::Names;
+use fmp_out::Text;
+use fmp_show_state::{give_back, text_of};
 use fmp_step_words::Views;
 use std::alloc::{AllocError, Global};
 use std::marker::Model;
@@ -36,7 +39,7 @@ impl Watched {
 pub struct Life {
     watched: Vec<Watched>,
     /// What is told of one of them now.
-    fresh: Vec<u8>,
+    fresh: Text,
 }
 
 impl Model for Life {
@@ -51,39 +54,41 @@ impl Model for Life {
 
 /// Adds the line of a thing, where something else is told of it than was told last, and keeps in mind what is.
 fn put_change<M: Views>(
-    out: &mut Vec<u8>,
+    out: &mut Text,
     watched: &mut Watched,
-    fresh: &mut Vec<u8>,
+    fresh: &mut Text,
     names: &Names,
     machine: &M,
-) -> Result<(), AllocError>
-    ensures report { OnOk result (out.new.items ≡ out.old.items ++ spec.report_since names.now (M.world machine.now) (seen_of watched.old)) }
-    ensures seen { OnOk result (seen_of watched.new ≡ spec.renewed names.now (M.world machine.now) (seen_of watched.old)) }
+)
+    ensures report { Adds (spec.report_since names.now (M.world machine.now) (seen_of watched.old)) out.old out.new }
+    ensures seen { out.new.wanting ≡ false → seen_of watched.new ≡ spec.renewed names.now (M.world machine.now) (seen_of watched.old) }
 {
     fresh.clear();
-    put_line(fresh, names, machine, watched.thing, false)?;
-    if fresh.as_slice() != watched.text.as_slice() {
-        put_line(out, names, machine, watched.thing, true)?;
-        mem::swap(&mut watched.text, fresh);
+    put_line(fresh, names, machine, watched.thing, false);
+    let is_same = match fresh.so_far() {
+        Ok(text) => text == watched.text.as_slice(),
+        Err(fault) => return out.note(Err(fault)),
+    };
+    if !is_same {
+        put_line(out, names, machine, watched.thing, true);
+        mem::swap(&mut watched.text, fresh.as_mut_vec());
     }
-    Ok(())
 }
 
 /// The same of all things.
 fn put_all<M: Views>(
-    out: &mut Vec<u8>,
+    out: &mut Text,
     all: &mut [Watched],
-    fresh: &mut Vec<u8>,
+    fresh: &mut Text,
     names: &Names,
     machine: &M,
-) -> Result<(), AllocError>
-    ensures report { OnOk result (out.new.items ≡ out.old.items ++ flat_map (spec.report_since names.now (M.world machine.now)) (map seen_of all.old)) }
-    ensures seen { OnOk result (map seen_of all.new ≡ map (spec.renewed names.now (M.world machine.now)) (map seen_of all.old)) }
+)
+    ensures report { Adds (flat_map (spec.report_since names.now (M.world machine.now)) (map seen_of all.old)) out.old out.new }
+    ensures seen { out.new.wanting ≡ false → map seen_of all.new ≡ map (spec.renewed names.now (M.world machine.now)) (map seen_of all.old) }
 {
     for watched in all.iter_mut() {
-        put_change(out, watched, fresh, names, machine)?;
+        put_change(out, watched, fresh, names, machine);
     }
-    Ok(())
 }
 
 impl Life {
@@ -93,12 +98,12 @@ impl Life {
     {
         Life {
             watched,
-            fresh: Vec::new(alloc),
+            fresh: Text::new(alloc),
         }
     }
 
     /// Adds the lines of those things of which something else is told than was told last, in the order in which they were chosen, and
-    /// keeps in mind what is. That ticks count down changes nothing. After an error a beginning of these lines may have been added, and
+    /// keeps in mind what is. That ticks count down changes nothing. After an error parts of these lines may have been added, and
     /// some of them be kept in mind.
     pub fn put_changes<M: Views>(
         &mut self,
@@ -109,12 +114,14 @@ impl Life {
         ensures report { OnOk result (out.new.items ≡ out.old.items ++ flat_map (spec.report_since names.now (M.world machine.now)) self.old) }
         ensures seen { OnOk result (self.new ≡ map (spec.renewed names.now (M.world machine.now)) self.old) }
     {
+        let mut text = text_of(out);
         put_all(
-            out,
+            &mut text,
             self.watched.as_mut_slice(),
             &mut self.fresh,
             names,
             machine,
-        )
+        );
+        give_back(out, text)
     }
 }

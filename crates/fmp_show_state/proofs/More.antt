@@ -1,12 +1,12 @@
 -- One processor, one priority or one task more.
-use Rattle.std.proofs.Common.{◌≡◌, ◌≤◌, ℕ, zero, ◌+◌, suc, List, [], ◌++◌, add-one, arith, refl, sym, ap, ap₂, ◌∙◌, append_assoc, append-nil}
+use Rattle.std.proofs.Common.{◌≡◌, ◌≤◌, ℕ, zero, ◌+◌, suc, List, [], ◌++◌, add-one, arith, refl, sym, ap, subst, ◌∙◌, append-nil}
 use Rattle.std.specs.Prelude.{Option, None}
+use Rattle.fmp_out.specs.Putting.{Adds, Putting}
+use Rattle.fmp_out.proofs.Puts.{both}
 use Rattle.fmp_codes.specs.Numbers.{as_pri, as_proc, as_task}
 use Rattle.fmp_codes.specs.declared.numbers.Pri.{Pri}
 use Rattle.fmp_codes.specs.declared.numbers.Proc.{Proc}
 use Rattle.fmp_codes.specs.declared.numbers.Task.{Task}
-use Rattle.fmp_codes.specs.declared.records.Runner.{Runner}
-use Rattle.fmp_rules.specs.declared.machine.Processor.{Processor}
 use Rattle.fmp_rules.specs.declared.machine.TaskRecord.{TaskRecord}
 use Rattle.fmp_rules.specs.Ordering.{Ordering}
 use Rattle.fmp_rules.specs.World.{World, item, processor, task}
@@ -62,25 +62,25 @@ module _ {Q : Type 0} (k : Ordering Q) (w : World Q) where
   unfolding tasks_text
   tasks_none lists = refl
 
-  pub no_processor_yet : (lists : NameLists) (old : List ℕ) → old ≡ old ++ processors_text k lists w 0
-  no_processor_yet lists old = sym (ap (λ xs. old ++ xs) (processors_none lists) ∙ append-nil old)
+  pub no_processor_yet : (lists : NameLists) (old : Putting) → Adds (processors_text k lists w 0) old old
+  no_processor_yet lists old whole = (whole, sym (ap (λ (xs : List ℕ). old.bytes ++ xs) (processors_none lists) ∙ append-nil old.bytes))
 
-  pub no_task_yet : (lists : NameLists) (old : List ℕ) → old ≡ old ++ tasks_text lists w 0
-  no_task_yet lists old = sym (ap (λ xs. old ++ xs) (tasks_none lists) ∙ append-nil old)
+  pub no_task_yet : (lists : NameLists) (old : Putting) → Adds (tasks_text lists w 0) old old
+  no_task_yet lists old whole = (whole, sym (ap (λ (xs : List ℕ). old.bytes ++ xs) (tasks_none lists) ∙ append-nil old.bytes))
 
   -- what was written, and one line more
-  pub processor_line : (lists : NameLists) (n : ℕ) (p : Proc) (x : Processor) (ready : List Task) (due : List Runner) (old between new : List ℕ)
-      → p ≡ as_proc (n + 1) → x ≡ processor w p → ready ≡ ready_to k w p 32 → due ≡ item [] w.due p.number
-      → between ≡ old ++ processors_text k lists w n → new ≡ between ++ processor_text lists p x ready due → new ≡ old ++ processors_text k lists w (n + 1)
-  processor_line lists n p x ready due old between new number record_is ready_is due_is before line =
-      let same : processor_text lists p x ready due ≡ processor_text lists (as_proc (n + 1)) (processor w (as_proc (n + 1))) (ready_to k w (as_proc (n + 1)) 32) (item [] w.due (as_proc (n + 1)).number) =
-      rw (record_is, ready_is, due_is, number) refl in
-      line ∙ ap₂ ◌++◌ before same ∙ append_assoc old _ _ ∙ ap (λ xs. old ++ xs) (sym (processors_more lists n))
+  pub processor_line : (lists : NameLists) (n : ℕ) (p : Proc) (old between new : Putting) → p ≡ as_proc (n + 1) → Adds (processors_text k lists w n) old between
+      → Adds (processor_text lists p (processor w p) (ready_to k w p 32) (item [] w.due p.number)) between new → Adds (processors_text k lists w (n + 1)) old new
+  processor_line lists n p old between new number before line =
+      let text : Proc → List ℕ = λ q. processor_text lists q (processor w q) (ready_to k w q 32) (item [] w.due q.number) in
+      subst (λ (xs : List ℕ). Adds xs old new) (ap (λ (q : Proc). processors_text k lists w n ++ text q) number ∙ sym (processors_more lists n))
+      (both (processors_text k lists w n) (text p) old between new before line)
 
-  pub blocked_line : (lists : NameLists) (n : ℕ) (t : Task) (x : TaskRecord) (left : Option ℕ) (old between new : List ℕ)
+  pub blocked_line : (lists : NameLists) (n : ℕ) (t : Task) (x : TaskRecord) (left : Option ℕ) (old between new : Putting)
       → t ≡ as_task (n + 1) → x ≡ task w t → left ≡ item None w.waits_left t.number
-      → between ≡ old ++ tasks_text lists w n → new ≡ between ++ task_line lists t x left → new ≡ old ++ tasks_text lists w (n + 1)
+      → Adds (tasks_text lists w n) old between → Adds (task_line lists t x left) between new → Adds (tasks_text lists w (n + 1)) old new
   blocked_line lists n t x left old between new number record_is left_is before line =
       let same : task_line lists t x left ≡ task_line lists (as_task (n + 1)) (task w (as_task (n + 1))) (item None w.waits_left (as_task (n + 1)).number) =
       rw (record_is, left_is, number) refl in
-      line ∙ ap₂ ◌++◌ before same ∙ append_assoc old _ _ ∙ ap (λ xs. old ++ xs) (sym (tasks_more lists n))
+      subst (λ (xs : List ℕ). Adds xs old new) (ap (λ (xs : List ℕ). tasks_text lists w n ++ xs) same ∙ sym (tasks_more lists n))
+      (both (tasks_text lists w n) (task_line lists t x left) old between new before line)

@@ -1,7 +1,9 @@
 -- The lines of the tasks that wait: one task more, and that there is none just where no task waits.
-use Rattle.std.proofs.Common.{◌≡◌, ◌≢◌, ℕ, zero, ◌+◌, ◌<◌, ◌↔◌, suc, List, [], ◌∷◌, ◌++◌, length, add-one, refl, sym, ap, ap₂, ◌∙◌, append_assoc, append-nil, arith, inl, inr}
+use Rattle.std.proofs.Common.{◌≡◌, ◌≢◌, ℕ, zero, ◌+◌, ◌<◌, ◌↔◌, suc, List, [], ◌∷◌, ◌++◌, length, add-one, refl, sym, ap, ap₂, subst, ◌∙◌, append-nil, arith, inl, inr}
 use Rattle.std.specs.Prelude.{Option, None, Some, codes, is_some, if◌then◌else◌}
 use Rattle.std.proofs.lemmas.Bool.{cases_lt}
+use Rattle.fmp_out.specs.Putting.{Adds, Putting}
+use Rattle.fmp_out.proofs.Puts.{both}
 use Rattle.fmp_codes.specs.Numbers.{as_task}
 use Rattle.fmp_codes.specs.declared.numbers.Task.{Task}
 use Rattle.fmp_rules.specs.declared.machine.TaskRecord.{TaskRecord}
@@ -27,17 +29,18 @@ module _ {Q : Type 0} (w : World Q) where
   unfolding waits_text
   waits_none lists = refl
 
-  pub no_wait_yet : (lists : NameLists) (old : List ℕ) → old ≡ old ++ waits_text lists w 0
-  no_wait_yet lists old = sym (ap (λ xs. old ++ xs) (waits_none lists) ∙ append-nil old)
+  pub no_wait_yet : (lists : NameLists) (old : Putting) → Adds (waits_text lists w 0) old old
+  no_wait_yet lists old whole = (whole, sym (ap (λ (xs : List ℕ). old.bytes ++ xs) (waits_none lists) ∙ append-nil old.bytes))
 
   -- what was written, and what is told of one task more
-  pub wait_reported : (lists : NameLists) (n : ℕ) (t : Task) (x : TaskRecord) (left : Option ℕ) (old between new : List ℕ)
+  pub wait_reported : (lists : NameLists) (n : ℕ) (t : Task) (x : TaskRecord) (left : Option ℕ) (old between new : Putting)
       → t ≡ as_task (n + 1) → x ≡ task w t → left ≡ item None w.waits_left t.number
-      → between ≡ old ++ waits_text lists w n → new ≡ between ++ wait_line lists t x left → new ≡ old ++ waits_text lists w (n + 1)
+      → Adds (waits_text lists w n) old between → Adds (wait_line lists t x left) between new → Adds (waits_text lists w (n + 1)) old new
   wait_reported lists n t x left old between new number record_is left_is before line =
       let same : wait_line lists t x left ≡ wait_line lists (as_task (n + 1)) (task w (as_task (n + 1))) (item None w.waits_left (as_task (n + 1)).number) =
       rw (record_is, left_is, number) refl in
-      line ∙ ap₂ ◌++◌ before same ∙ append_assoc old _ _ ∙ ap (λ xs. old ++ xs) (sym (waits_more lists n))
+      subst (λ (xs : List ℕ). Adds xs old new) (ap (λ (xs : List ℕ). waits_text lists w n ++ xs) same ∙ sym (waits_more lists n))
+      (both (waits_text lists w n) (wait_line lists t x left) old between new before line)
 
 -- ---- no line, and no task that waits
 

@@ -1,15 +1,16 @@
 //! The lines of the time event handlers whose ticks left are not those at boot.
-ghost use Rattle.std.specs.Prelude.{◌≡◌, ◌++◌, length, None, OnOk};
+ghost use Rattle.std.specs.Prelude.{◌≡◌, length, None};
+ghost use Rattle.fmp_out.specs.Putting.{Adds};
 ghost use Rattle.fmp_setup.specs.declared.setup.CyclicSetup.{CyclicSetup};
 ghost use Rattle.fmp_rules.specs.Boot.{phase_left};
 ghost use Rattle.fmp_show_state.specs.Changes as spec;
 
+use crate::texts::put_named;
 use fmp_codes::{Object, ObjectKind};
 use fmp_names::Names;
+use fmp_out::Text;
 use fmp_rules::CyclicSetup;
 use fmp_step_words::Views;
-use fmp_trace::{put_named, put_number};
-use std::alloc::AllocError;
 
 /// Whether the ticks left are those at boot.
 fn is_same_left(boot: Option<u64>, left: Option<u64>) -> bool
@@ -34,61 +35,49 @@ fn phase_left(setup: &CyclicSetup) -> Option<u64>
 }
 
 /// Adds the ticks left of a handler, or that it is stopped.
-pub fn put_ticks(out: &mut Vec<u8>, left: Option<u64>) -> Result<(), AllocError>
-    ensures { OnOk result (out.new.items ≡ out.old.items ++ spec.ticks_text left) }
+pub fn put_ticks(out: &mut Text, left: Option<u64>)
+    ensures { Adds (spec.ticks_text left) out.old out.new }
 {
     match left {
-        None => out.extend_from_slice(b" stopped"),
+        None => out.put(b" stopped"),
         Some(left) => {
-            out.extend_from_slice(b" left=")?;
-            put_number(out, left)
+            out.put(b" left=");
+            out.put_number(left);
         }
     }
 }
 
 /// Adds the line of a handler: its name, and its ticks left or that it is stopped.
 #[tactic(auto, unfolding(crate::specs::Changes::handler_text))]
-fn put_handler(
-    out: &mut Vec<u8>,
-    names: &Names,
-    kind: ObjectKind,
-    handler: Object,
-    left: Option<u64>,
-) -> Result<(), AllocError>
-    ensures { OnOk result (out.new.items ≡ out.old.items ++ spec.handler_text names.now kind handler left) }
+fn put_handler(out: &mut Text, names: &Names, kind: ObjectKind, handler: Object, left: Option<u64>)
+    ensures { Adds (spec.handler_text names.now kind handler left) out.old out.new }
 {
-    out.extend_from_slice(b"  ")?;
-    put_named(out, names, kind, usize::from(handler.number))?;
-    put_ticks(out, left)?;
-    out.push(b'\n')?;
-    Ok(())
+    out.put(b"  ");
+    put_named(out, names, kind, usize::from(handler.number));
+    put_ticks(out, left);
+    out.put_byte(b'\n');
 }
 
 /// Adds the line of a handler whose ticks left are not those at boot.
 fn put_line(
-    out: &mut Vec<u8>,
+    out: &mut Text,
     names: &Names,
     kind: ObjectKind,
     handler: Object,
     boot: Option<u64>,
     left: Option<u64>,
-) -> Result<(), AllocError>
-    ensures { OnOk result (out.new.items ≡ out.old.items ++ spec.handler_line names.now kind handler boot left) }
+)
+    ensures { Adds (spec.handler_line names.now kind handler boot left) out.old out.new }
 {
     if is_same_left(boot, left) {
-        return Ok(());
+        return;
     }
-    put_handler(out, names, kind, handler, left)
+    put_handler(out, names, kind, handler, left);
 }
 
 /// Adds the lines of all cyclic handlers whose ticks left are not those at boot.
-pub(crate) fn put_cyclics<M: Views>(
-    out: &mut Vec<u8>,
-    names: &Names,
-    machine: &M,
-) -> Result<(), AllocError>
-    ensures { OnOk result (out.new.items ≡ out.old.items
-        ++ spec.lines_to (spec.cyclic_at names.now (M.world machine.now).cyclics (M.world machine.now).cyclics_left) (length (M.world machine.now).cyclics)) }
+pub(crate) fn put_cyclics<M: Views>(out: &mut Text, names: &Names, machine: &M)
+    ensures { Adds (spec.lines_to (spec.cyclic_at names.now (M.world machine.now).cyclics (M.world machine.now).cyclics_left) (length (M.world machine.now).cyclics)) out.old out.new }
 {
     for index in 0..machine.cyclic_count() {
         let c = Object::from_index(index);
@@ -100,19 +89,13 @@ pub(crate) fn put_cyclics<M: Views>(
             c,
             boot,
             machine.cyclic_left(c),
-        )?;
+        );
     }
-    Ok(())
 }
 
 /// Adds the lines of all alarms that are started.
-pub(crate) fn put_alarms<M: Views>(
-    out: &mut Vec<u8>,
-    names: &Names,
-    machine: &M,
-) -> Result<(), AllocError>
-    ensures { OnOk result (out.new.items ≡ out.old.items
-        ++ spec.lines_to (spec.alarm_at names.now (M.world machine.now).alarms_left) (length (M.world machine.now).alarms)) }
+pub(crate) fn put_alarms<M: Views>(out: &mut Text, names: &Names, machine: &M)
+    ensures { Adds (spec.lines_to (spec.alarm_at names.now (M.world machine.now).alarms_left) (length (M.world machine.now).alarms)) out.old out.new }
 {
     for index in 0..machine.alarm_count() {
         let a = Object::from_index(index);
@@ -123,7 +106,6 @@ pub(crate) fn put_alarms<M: Views>(
             a,
             None,
             machine.alarm_left(a),
-        )?;
+        );
     }
-    Ok(())
 }

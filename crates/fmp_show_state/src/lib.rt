@@ -13,6 +13,7 @@ mod handlers;
 mod processors;
 mod states;
 mod tasks;
+mod texts;
 mod waits;
 
 pub use changes::{put_object, put_values};
@@ -20,4 +21,5 @@ pub use handlers::put_ticks;
 pub use processors::put_flag;
 pub use states::{put_lines, put_state};
 pub use tasks::{put_any_wait, put_left, put_numbers};
+pub use texts::{give_back, put_named, put_task, text_of};
 pub use waits::put_waiting;

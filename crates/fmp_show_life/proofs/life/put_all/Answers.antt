@@ -7,8 +7,8 @@ loop-watched-preserved g c = let W = g.M.Words in
     let lt : c.loop-watched.watched-index < length c.loop-watched.all = search rules in
     let lt_first : c.loop-watched.watched-index < length c.args.all.now = omega (arith, lt, c.loop-watched.invariant.count) in
     record {
-      report = one_reported c.args.names.now (W.world c.args.machine.now) _ _ c.loop-watched.watched-index c.watched-item.result lt lt_first _ _ _ c.loop-watched.invariant.rest c.in_ok-put_change.ensures.report c.loop-watched.invariant.report;
+      report = one_reported c.args.names.now (W.world c.args.machine.now) _ _ c.loop-watched.watched-index c.watched-item.result lt lt_first _ c.args.out.now c.loop-watched.out _ c.loop-watched.invariant.rest c.put_change.ensures.report c.loop-watched.invariant.report;
       count = search rules;
       rest = rest_same c.args.names.now (W.world c.args.machine.now) _ _ c.loop-watched.watched-index c.watched-item.result lt lt_first _ c.loop-watched.invariant.rest;
-      front = one_seen c.args.names.now (W.world c.args.machine.now) _ _ c.loop-watched.watched-index c.watched-item.result lt lt_first _ c.loop-watched.invariant.rest c.in_ok-put_change.ensures.seen c.loop-watched.invariant.front;
+      front = λ whole. one_seen c.args.names.now (W.world c.args.machine.now) _ _ c.loop-watched.watched-index c.watched-item.result lt lt_first _ c.loop-watched.invariant.rest (c.put_change.ensures.seen whole) (c.loop-watched.invariant.front (c.put_change.ensures.report whole).0);
     }

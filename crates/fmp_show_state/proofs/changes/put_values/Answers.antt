@@ -7,4 +7,4 @@ pub loop-index-preserved : goal.loop-index-preserved
 loop-index-preserved g c = let W = g.M.Words in
     let vs = values (W.world c.args.machine.now) c.args.d in
     let there : c.loop-index.index < length vs = omega (arith, c.loop-index-test.true, c.value_count-index-end.ensures.value) in
-    value_added vs c.loop-index.index c.value.result c.loop-index.out.items c.put_value.new.out.items _ there c.value.ensures c.loop-index.invariant c.in_ok-put_value.ensures
+    value_added vs c.loop-index.index c.value.result _ c.args.out.now c.loop-index.out c.put_value.new.out there c.value.ensures c.loop-index.invariant c.put_value.ensures

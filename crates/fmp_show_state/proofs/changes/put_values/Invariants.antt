@@ -1,4 +1,5 @@
-use Rattle.std.proofs.Common.{◌≡◌, ◌++◌, drop}
+use Rattle.std.proofs.Common.{drop}
+use Rattle.fmp_out.specs.Putting.{Owes}
 use Rattle.fmp_rules.specs.Objects.{values}
 use Rattle.fmp_show_state.specs.Changes.{values_from}
 use Rattle.fmp_show_state.proofs.changes.put_values.Given as goal
@@ -7,4 +8,4 @@ use Rattle.fmp_show_state.proofs.changes.put_values.Given as goal
 abbrev pub invariant-loop-index : goal.invariant-loop-index
 invariant-loop-index g l =
     let W = g.M.Words in
-    l.out.items ++ values_from l.index (drop l.index (values (W.world l.machine) l.d)) ≡ l.fn.out.items ++ values_from 0 (values (W.world l.machine) l.d)
+    Owes (values_from l.index (drop l.index (values (W.world l.machine) l.d))) (values_from 0 (values (W.world l.machine) l.d)) l.fn.out l.out

@@ -1,4 +1,4 @@
-use Rattle.std.proofs.Common.{◌≡◌, ◌++◌}
+use Rattle.fmp_out.specs.Putting.{Adds}
 use Rattle.fmp_show_state.specs.Changes.{cyclic_at, lines_to}
 use Rattle.fmp_show_state.proofs.handlers.put_cyclics.Given as goal
 
@@ -6,4 +6,4 @@ use Rattle.fmp_show_state.proofs.handlers.put_cyclics.Given as goal
 abbrev pub invariant-loop-index : goal.invariant-loop-index
 invariant-loop-index g l =
     let W = g.M.Words in
-    l.out.items ≡ l.fn.out.items ++ lines_to (cyclic_at l.names (W.world l.machine).cyclics (W.world l.machine).cyclics_left) l.index
+    Adds (lines_to (cyclic_at l.names (W.world l.machine).cyclics (W.world l.machine).cyclics_left) l.index) l.fn.out l.out

@@ -1,7 +1,7 @@
-use Rattle.std.proofs.Common.{◌≡◌, ◌++◌}
+use Rattle.fmp_out.specs.Putting.{Adds}
 use Rattle.fmp_show_state.specs.States.{processors_text}
 use Rattle.fmp_show_state.proofs.processors.put_processors.Given as goal
 
 -- the lines so far
 abbrev pub invariant-loop-index : goal.invariant-loop-index
-invariant-loop-index g l = let W = g.M.Words in l.out.items ≡ l.fn.out.items ++ processors_text W.ordering l.names (W.world l.machine) l.index
+invariant-loop-index g l = let W = g.M.Words in Adds (processors_text W.ordering l.names (W.world l.machine) l.index) l.fn.out l.out

@@ -2,9 +2,9 @@ use Rattle.fmp_show_state.proofs.More.{blocked_line, no_task_yet}
 use Rattle.fmp_show_state.proofs.tasks.put_tasks.Goals as goal
 
 pub loop-index-init : goal.loop-index-init
-loop-index-init g c = let W = g.M.Words in no_task_yet W.ordering (W.world c.args.machine.now) c.args.names.now c.args.out.now.items
+loop-index-init g c = let W = g.M.Words in no_task_yet W.ordering (W.world c.args.machine.now) c.args.names.now c.args.out.now
 
 pub loop-index-preserved : goal.loop-index-preserved
 loop-index-preserved g c = let W = g.M.Words in
     blocked_line W.ordering (W.world c.args.machine.now) c.args.names.now c.loop-index.index c.from_index-t.result c.task.result c.wait_left.result
-    c.args.out.now.items c.loop-index.out.items _ c.from_index-t.ensures.value c.task.ensures c.wait_left.ensures c.loop-index.invariant c.in_ok-put_line.ensures
+    c.args.out.now c.loop-index.out _ c.from_index-t.ensures.value c.task.ensures c.wait_left.ensures c.loop-index.invariant c.put_line.ensures
