@@ -2,6 +2,7 @@
 use Rattle.std.proofs.Common.{◌≡◌, ◌∙◌, ℕ, Bool, false, true, List, ◌∷◌, ◌++◌, Option, refl, sym, ap, append_assoc}
 use Rattle.std.specs.Prelude.{◌||◌}
 use Rattle.std.specs.List.{list_any}
+use Rattle.fmp_out.specs.Putting.{Adds, Owes, Putting}
 use Rattle.fmp_bytes.specs.Bytes.{cut_at, line_feed}
 use Rattle.fmp_bytes.proofs.Cutting.{pieces_of-cut}
 use Rattle.fmp_show_changes.specs.declared.lines.Rule.{Rule}
@@ -28,10 +29,14 @@ module _ (text first : List ℕ) (rest : Option (List ℕ)) (first_is : first �
   others_within all within = λ p some. within p (rw parts (any_later (p first) (list_any p (lines_left rest)) some))
 
   -- what is told of the first one, and then of the others
-  pub one_reported : (r : Rule) (others : List (List ℕ)) (found : Bool) (old new all : List ℕ) → found ≡ has_line r others first
-      → new ≡ old ++ line_reported r found first → old ++ report_of r others (lines_of text) ≡ all → new ++ report_of r others (lines_left rest) ≡ all
-  one_reported r others found old new all is written before =
+  pub one_reported : (r : Rule) (others : List (List ℕ)) (found : Bool) (all : List ℕ) (first_out old new : Putting) → found ≡ has_line r others first
+      → Adds (line_reported r found first) old new → Owes (report_of r others (lines_of text)) all first_out old → Owes (report_of r others (lines_left rest)) all first_out new
+  one_reported r others found all first_out old new is written before whole =
+      let last = written whole in
+      let front = before last.0 in
       let line = line_reported r (has_line r others first) first in
-      let following = report_of r others (lines_left rest) in
-      ap (λ xs. xs ++ following) (written ∙ ap (λ b. old ++ line_reported r b first) is)
-      ∙ (append_assoc old line following ∙ (ap (λ ls. old ++ report_of r others ls) (sym parts) ∙ before))
+      let following = report_of r others (lines_left rest) in (
+        front.0,
+        ap (λ (xs : List ℕ). xs ++ following) (last.1 ∙ ap (λ b. old.bytes ++ line_reported r b first) is)
+            ∙ (append_assoc old.bytes line following ∙ (ap (λ ls. old.bytes ++ report_of r others ls) (sym parts) ∙ front.1)),
+      )

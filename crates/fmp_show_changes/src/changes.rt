@@ -40,7 +40,7 @@ impl Changes {
         }
     }
 
-    /// Adds the lines of the kernel's state, and the one that ends it, and keeps them in mind. After an error a beginning of these lines may
+    /// Adds the lines of the kernel's state, and the one that ends it, and keeps them in mind. After an error parts of these lines may
     /// have been added.
     #[tactic(auto, using(fmp_show_state::proofs::Alike::states_alike))]
     pub fn put_state(
@@ -58,8 +58,8 @@ impl Changes {
     }
 
     /// Adds what of the kernel's state changed since a state was told last, and keeps this one in mind: each line of a processor and each
-    /// other line that is new or differs, then the name of each line that is gone, and the line that ends a state. After an error a
-    /// beginning of this may have been added.
+    /// other line that is new or differs, then the name of each line that is gone, and the line that ends a state. After an error
+    /// parts of this may have been added.
     #[tactic(auto, using(fmp_show_state::proofs::Alike::states_alike))]
     pub fn put_changes(
         &mut self,

@@ -1,9 +1,12 @@
 //! What of a text of lines is not in another one.
 ghost use Rattle.std.specs.Prelude.{◌≡◌, ◌++◌, OnOk};
 ghost use Rattle.std.specs.Option.{option_copied};
+ghost use Rattle.fmp_out.specs.Putting.{Adds};
 ghost use Rattle.fmp_show_changes.specs.Changes as spec;
 
 use fmp_bytes::{Class, are_digits, cut, following, skip, split_prefix};
+use fmp_out::Text;
+use fmp_show_state::{give_back, text_of};
 use std::alloc::AllocError;
 
 /// Which lines of a text are told, where another text has others.
@@ -90,33 +93,31 @@ fn look<'a>(
 }
 
 /// Adds a line and a line feed, unless it is known.
-fn put_new(out: &mut Vec<u8>, known: bool, line: &[u8]) -> Result<(), AllocError>
-    ensures { OnOk result (out.new.items ≡ out.old.items ++ spec.new_text known line.now) }
+fn put_new(out: &mut Text, known: bool, line: &[u8])
+    ensures { Adds (spec.new_text known line.now) out.old out.new }
 {
     if known {
-        return Ok(());
+        return;
     }
-    out.extend_from_slice(line)?;
-    out.push(b'\n')?;
-    Ok(())
+    out.put(line);
+    out.put_byte(b'\n');
 }
 
 /// Adds what a line is about, unless that is known.
-fn put_gone(out: &mut Vec<u8>, known: bool, line: &[u8]) -> Result<(), AllocError>
-    ensures { OnOk result (out.new.items ≡ out.old.items ++ spec.gone_text known line.now) }
+fn put_gone(out: &mut Text, known: bool, line: &[u8])
+    ensures { Adds (spec.gone_text known line.now) out.old out.new }
 {
     if known {
-        return Ok(());
+        return;
     }
-    out.extend_from_slice(b"  ")?;
-    out.extend_from_slice(name_of(line))?;
-    out.push(b'\n')?;
-    Ok(())
+    out.put(b"  ");
+    out.put(name_of(line));
+    out.put_byte(b'\n');
 }
 
 /// Adds what is told of a line, by whether the other text has such a line.
-fn put_line(out: &mut Vec<u8>, rule: Rule, found: bool, line: &[u8]) -> Result<(), AllocError>
-    ensures { OnOk result (out.new.items ≡ out.old.items ++ spec.line_reported rule found line.now) }
+fn put_line(out: &mut Text, rule: Rule, found: bool, line: &[u8])
+    ensures { Adds (spec.line_reported rule found line.now) out.old out.new }
 {
     match rule {
         Rule::New => put_new(out, found && !is_processor(line), line),
@@ -125,34 +126,37 @@ fn put_line(out: &mut Vec<u8>, rule: Rule, found: bool, line: &[u8]) -> Result<(
 }
 
 /// Adds what is told of each of these lines, by the lines of the other text.
-fn put_reported(
-    out: &mut Vec<u8>,
-    rule: Rule,
-    lines: &[u8],
-    others: &[u8],
-) -> Result<(), AllocError>
-    ensures { OnOk result (out.new.items ≡ out.old.items ++ spec.report_of rule (spec.lines_of others.now) (spec.lines_of lines.now)) }
+fn put_reported(out: &mut Text, rule: Rule, lines: &[u8], others: &[u8])
+    ensures { Adds (spec.report_of rule (spec.lines_of others.now) (spec.lines_of lines.now)) out.old out.new }
 {
     let mut rest = Some(lines);
     let mut near = Some(others);
     while let Some(left) = rest {
         let (line, after) = cut(b'\n', left);
         let (found, follows) = look(rule, others, near, line);
-        put_line(out, rule, found, line)?;
+        put_line(out, rule, found, line);
         near = follows;
         rest = after;
     }
-    Ok(())
+}
+
+/// Adds what of the lines of a state changed, where these were its lines before and are its lines after.
+#[tactic(auto, unfolding(crate::specs::Changes::changes_text))]
+fn put_changed(out: &mut Text, before: &[u8], after: &[u8])
+    ensures { Adds (spec.changes_text before.now after.now) out.old out.new }
+{
+    put_reported(out, Rule::New, after, before);
+    put_reported(out, Rule::Gone, before, after);
+    out.put(b"  end\n");
 }
 
 /// Adds what of the lines of a state changed, where these were its lines before and are its lines after: each line of a processor and each other
-/// line that is new or differs, then the name of each line that is gone, and the line that ends it. After an error a beginning of this
+/// line that is new or differs, then the name of each line that is gone, and the line that ends it. After an error parts of this
 /// may have been added.
-#[tactic(auto, unfolding(crate::specs::Changes::changes_text))]
 pub(crate) fn put_changes(out: &mut Vec<u8>, before: &[u8], after: &[u8]) -> Result<(), AllocError>
     ensures { OnOk result (out.new.items ≡ out.old.items ++ spec.changes_text before.now after.now) }
 {
-    put_reported(out, Rule::New, after, before)?;
-    put_reported(out, Rule::Gone, before, after)?;
-    out.extend_from_slice(b"  end\n")
+    let mut text = text_of(out);
+    put_changed(&mut text, before, after);
+    give_back(out, text)
 }

@@ -12,7 +12,7 @@ loop-rest-smaller c =
 
 pub loop-rest-preserved : goal.loop-rest-preserved
 loop-rest-preserved c = record {
-  report = one_reported c.in-Some.left.now _ _ c.cut.ensures.prefix c.cut.ensures.rest c.args.rule (lines_of c.args.others.now) _ _ _ _
-      c.look-found.ensures.found c.in_ok-put_line.ensures (rw c.in-Some.is at c.loop-rest.invariant.report);
+  report = one_reported c.in-Some.left.now _ _ c.cut.ensures.prefix c.cut.ensures.rest c.args.rule (lines_of c.args.others.now) _ _ c.args.out.now c.loop-rest.out _
+      c.look-found.ensures.found c.put_line.ensures (rw c.in-Some.is at c.loop-rest.invariant.report);
   within = c.look-found.ensures.within;
 }
