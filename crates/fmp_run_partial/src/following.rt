@@ -12,6 +12,7 @@ ghost use Rattle.fmp_run_partial.specs.Verdicts.{JudgesPartly, PartlyPrintsAnswe
 ghost use Rattle.fmp_trace_partial.specs.Partly.{FirstFault, PartlyPrintsWithin};
 
 use fmp_codes::{Answer, Event, Proc, Record};
+use fmp_out::Text;
 use fmp_plain::Plain;
 use fmp_rules::Config;
 use fmp_text::{MOST_BYTES, Names, TextFault, TextKind};
@@ -27,7 +28,7 @@ struct Follower {
     /// What it answered last.
     report: Record,
     /// What is printed of that where as much is left out as in the line.
-    own: Vec<u8>,
+    own: Text,
     /// The verdict on the lines so far.
     verdict: Verdict,
 }
@@ -41,7 +42,7 @@ impl Follower {
         Ok(Follower {
             plain: Plain::boot(config)?,
             report: Record::answer(Event::Tick(Proc::new(1)), None, Answer::Nothing),
-            own: Vec::new(alloc),
+            own: Text::new(alloc),
             verdict: Verdict::Yes,
         })
     }
@@ -58,8 +59,8 @@ impl Follower {
             Verdict::Yes => {
                 self.plain.step_into(said.entry.event, &mut self.report);
                 self.own.clear();
-                put_kept(&mut self.own, names, n, said.kept, &self.report)?;
-                if self.own.as_slice() != line {
+                put_kept(&mut self.own, names, n, said.kept, &self.report);
+                if self.own.so_far()? != line {
                     self.verdict = Verdict::No(n);
                 }
                 Ok(())
@@ -76,7 +77,7 @@ fn judge_lines(alloc: Global, config: &Config, text: &[u8]) -> Result<Verdict, T
     let names = config.names();
     names.validity();
     let mut follower = Follower::boot(alloc, config)?;
-    let mut scratch = Vec::new(alloc);
+    let mut scratch = Text::new(alloc);
     let mut number: u32 = 1;
     let mut rest = text;
     while let Some((line, after)) = next_line(rest) {

@@ -1,15 +1,15 @@
 //! Printing a record where parts are left out.
-ghost use Rattle.std.specs.Prelude.{◌≡◌, [], ◌++◌, OnOk, None, if◌then◌else◌};
+ghost use Rattle.std.specs.Prelude.{[], None, if◌then◌else◌};
+ghost use Rattle.fmp_out.specs.Putting.{Adds};
 ghost use Rattle.fmp_trace.specs.Lines as lines;
 ghost use Rattle.fmp_trace_partial.specs.Partial as spec;
 
-use fmp_codes::{Record, Releases, Requests, Runner, Task};
+use fmp_codes::{Answer, Event, Record, Releases, Requests, Runner, Task};
+use fmp_out::Text;
 use fmp_text::Names;
 use fmp_trace::{
-    put_answer, put_event, put_lost, put_number, put_releases, put_requests, put_run_change,
-    put_runner,
+    put_answer, put_event, put_lost, put_releases, put_requests, put_run_change, put_runner,
 };
-use std::alloc::AllocError;
 
 /// Which parts of a line are written. The processor, the event and the answer always are.
 #[derive(Clone, Copy)]
@@ -29,132 +29,112 @@ pub struct Kept {
 }
 
 /// Adds the line's number and a blank, where it is kept.
-fn put_lead(out: &mut Vec<u8>, kept: bool, n: u32) -> Result<(), AllocError>
-    ensures { OnOk result (out.new.items ≡ out.old.items ++ spec.number_text kept n) }
+fn put_lead(out: &mut Text, kept: bool, n: u32)
+    ensures { Adds (spec.number_text kept n) out.old out.new }
 {
     if kept {
-        put_number(out, u64::from(n))?;
-        out.push(b' ')?;
+        out.put_number(u64::from(n));
+        out.put_byte(b' ');
     }
-    Ok(())
 }
 
 /// Adds who could make a call and a blank, where that is kept.
-fn put_kept_runner(
-    out: &mut Vec<u8>,
-    names: &Names,
-    kept: bool,
-    runner: Option<Runner>,
-) -> Result<(), AllocError>
-    ensures { OnOk result (out.new.items ≡ out.old.items ++ spec.runner_lead names.now kept runner) }
+fn put_kept_runner(out: &mut Text, names: &Names, kept: bool, runner: Option<Runner>)
+    ensures { Adds (spec.runner_lead names.now kept runner) out.old out.new }
 {
     if kept {
-        put_runner(out, names, runner)?;
-        out.push(b' ')?;
+        let told = put_runner(out.as_mut_vec(), names, runner);
+        out.note(told);
+        out.put_byte(b' ');
     }
-    Ok(())
 }
 
 /// Adds the ends of waits, where they are kept.
-fn put_kept_releases(
-    out: &mut Vec<u8>,
-    names: &Names,
-    kept: bool,
-    releases: &Releases,
-) -> Result<(), AllocError>
-    ensures { OnOk result (out.new.items ≡ out.old.items ++ lines.releases_text names.now (if kept then releases.now else [])) }
+fn put_kept_releases(out: &mut Text, names: &Names, kept: bool, releases: &Releases)
+    ensures { Adds (lines.releases_text names.now (if kept then releases.now else [])) out.old out.new }
 {
     if kept {
-        put_releases(out, names, releases)?;
+        let told = put_releases(out.as_mut_vec(), names, releases);
+        out.note(told);
     }
-    Ok(())
 }
 
 /// Adds the value that was overwritten, where it is kept.
-fn put_kept_lost(out: &mut Vec<u8>, kept: bool, lost: Option<i64>) -> Result<(), AllocError>
-    ensures { OnOk result (out.new.items ≡ out.old.items ++ lines.lost_text (if kept then lost else None)) }
+fn put_kept_lost(out: &mut Text, kept: bool, lost: Option<i64>)
+    ensures { Adds (lines.lost_text (if kept then lost else None)) out.old out.new }
 {
     if kept {
-        put_lost(out, lost)?;
+        let told = put_lost(out.as_mut_vec(), lost);
+        out.note(told);
     }
-    Ok(())
 }
 
 /// Adds what runs now, where it is kept.
-fn put_kept_run_change(
-    out: &mut Vec<u8>,
-    names: &Names,
-    kept: bool,
-    run_change: Option<Option<Task>>,
-) -> Result<(), AllocError>
-    ensures { OnOk result (out.new.items ≡ out.old.items ++ lines.run_change_text names.now (if kept then run_change else None)) }
+fn put_kept_run_change(out: &mut Text, names: &Names, kept: bool, run_change: Option<Option<Task>>)
+    ensures { Adds (lines.run_change_text names.now (if kept then run_change else None)) out.old out.new }
 {
     if kept {
-        put_run_change(out, names, run_change)?;
+        let told = put_run_change(out.as_mut_vec(), names, run_change);
+        out.note(told);
     }
-    Ok(())
 }
 
 /// Adds the processors to which a request is sent, where they are kept.
-fn put_kept_requests(out: &mut Vec<u8>, kept: bool, requests: &Requests) -> Result<(), AllocError>
-    ensures { OnOk result (out.new.items ≡ out.old.items ++ lines.requests_from 0 (if kept then requests.now else [])) }
+fn put_kept_requests(out: &mut Text, kept: bool, requests: &Requests)
+    ensures { Adds (lines.requests_from 0 (if kept then requests.now else [])) out.old out.new }
 {
     if kept {
-        put_requests(out, requests.as_slice())?;
+        let told = put_requests(out.as_mut_vec(), requests.as_slice());
+        out.note(told);
     }
-    Ok(())
 }
 
 /// Adds what is kept after the answer.
 #[tactic(auto, unfolding(fmp_trace::specs::Lines::tail_text))]
-fn put_kept_tail(
-    out: &mut Vec<u8>,
-    names: &Names,
-    kept: Kept,
-    entry: &Record,
-) -> Result<(), AllocError>
-    ensures { OnOk result (out.new.items ≡ out.old.items ++ lines.tail_text names.now (spec.part kept entry.now)) }
+fn put_kept_tail(out: &mut Text, names: &Names, kept: Kept, entry: &Record)
+    ensures { Adds (lines.tail_text names.now (spec.part kept entry.now)) out.old out.new }
 {
-    put_kept_releases(out, names, kept.releases, &entry.releases)?;
-    put_kept_lost(out, kept.lost, entry.lost)?;
-    put_kept_run_change(out, names, kept.run_change, entry.run_change)?;
-    put_kept_requests(out, kept.requests, &entry.requests)?;
-    Ok(())
+    put_kept_releases(out, names, kept.releases, &entry.releases);
+    put_kept_lost(out, kept.lost, entry.lost);
+    put_kept_run_change(out, names, kept.run_change, entry.run_change);
+    put_kept_requests(out, kept.requests, &entry.requests);
 }
 
 /// Adds the number, the processor and the runner, where they are kept.
-fn put_kept_head(
-    out: &mut Vec<u8>,
-    names: &Names,
-    n: u32,
-    kept: Kept,
-    entry: &Record,
-) -> Result<(), AllocError>
-    ensures { OnOk result (out.new.items ≡ out.old.items ++ spec.kept_head names.now n kept entry.now) }
+fn put_kept_head(out: &mut Text, names: &Names, n: u32, kept: Kept, entry: &Record)
+    ensures { Adds (spec.kept_head names.now n kept entry.now) out.old out.new }
 {
-    put_lead(out, kept.number, n)?;
-    out.push(b'P')?;
-    put_number(out, u64::from(entry.event.processor().number))?;
-    out.push(b' ')?;
-    put_kept_runner(out, names, kept.runner, entry.runner)?;
-    Ok(())
+    put_lead(out, kept.number, n);
+    out.put_byte(b'P');
+    out.put_number(u64::from(entry.event.processor().number));
+    out.put_byte(b' ');
+    put_kept_runner(out, names, kept.runner, entry.runner);
+}
+
+/// Adds an event.
+fn put_event_text(out: &mut Text, names: &Names, event: Event)
+    ensures { Adds (lines.event_text names.now event) out.old out.new }
+{
+    let told = put_event(out.as_mut_vec(), names, event);
+    out.note(told);
+}
+
+/// Adds an answer.
+fn put_answer_text(out: &mut Text, answer: Answer)
+    ensures { Adds (lines.answer_text answer) out.old out.new }
+{
+    let told = put_answer(out.as_mut_vec(), answer);
+    out.note(told);
 }
 
 /// Adds line n of a partial trace, without its line feed: what is kept of that of the record.
 #[tactic(auto, unfolding(crate::specs::Partial::kept_text))]
-pub fn put_kept(
-    out: &mut Vec<u8>,
-    names: &Names,
-    n: u32,
-    kept: Kept,
-    entry: &Record,
-) -> Result<(), AllocError>
-    ensures { OnOk result (out.new.items ≡ out.old.items ++ spec.kept_text names.now n kept entry.now) }
+pub fn put_kept(out: &mut Text, names: &Names, n: u32, kept: Kept, entry: &Record)
+    ensures { Adds (spec.kept_text names.now n kept entry.now) out.old out.new }
 {
-    put_kept_head(out, names, n, kept, entry)?;
-    put_event(out, names, entry.event)?;
-    out.push(b' ')?;
-    put_answer(out, entry.answer)?;
-    put_kept_tail(out, names, kept, entry)?;
-    Ok(())
+    put_kept_head(out, names, n, kept, entry);
+    put_event_text(out, names, entry.event);
+    out.put_byte(b' ');
+    put_answer_text(out, entry.answer);
+    put_kept_tail(out, names, kept, entry);
 }

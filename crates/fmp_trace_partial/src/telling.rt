@@ -9,6 +9,7 @@ ghost use Rattle.fmp_trace_partial.specs.Saying as saying;
 use crate::kept::{Kept, put_kept};
 use fmp_bytes::{Class, all_of, cut, following, split_prefix};
 use fmp_codes::{Proc, Record};
+use fmp_out::Text;
 use fmp_text::{MOST_EVENTS, Names, TextFault, TextKind, processor_numbered};
 use fmp_trace::{guess_event, guess_runner};
 use std::alloc::AllocError;
@@ -121,7 +122,7 @@ fn guess_said(names: &Names, line: &[u8]) -> Option<Said>
 
 /// Whether line n, without its line feed, is what is printed of what it says. The scratch is written over.
 fn is_line(
-    scratch: &mut Vec<u8>,
+    scratch: &mut Text,
     names: &Names,
     n: u32,
     said: &Said,
@@ -130,8 +131,8 @@ fn is_line(
     ensures { IfOk result (λ same. same ≡ bytes_eq (kept_text names.now n said.now.kept said.now.entry) line.now) }
 {
     scratch.clear();
-    put_kept(scratch, names, n, said.kept, &said.entry)?;
-    Ok(scratch.as_slice() == line)
+    put_kept(scratch, names, n, said.kept, &said.entry);
+    Ok(scratch.so_far()? == line)
 }
 
 /// A fault of this kind in this line.
@@ -156,7 +157,7 @@ fn limited(n: u32, said: Said) -> Result<Said, TextFault>
 /// What was guessed of line n, where the guess prints that line.
 #[tactic(auto, unfolding(crate::specs::Saying::confirmed))]
 fn confirmed(
-    scratch: &mut Vec<u8>,
+    scratch: &mut Text,
     names: &Names,
     n: u32,
     line: &[u8],
@@ -173,12 +174,7 @@ fn confirmed(
 
 /// What line n of a partial trace says, without its line feed, or its fault. The scratch is written over.
 #[tactic(auto, unfolding(crate::specs::Saying::line_said))]
-pub fn read_said(
-    scratch: &mut Vec<u8>,
-    names: &Names,
-    n: u32,
-    line: &[u8],
-) -> Result<Said, TextFault>
+pub fn read_said(scratch: &mut Text, names: &Names, n: u32, line: &[u8]) -> Result<Said, TextFault>
     ensures { GivesOrFails (λ s. s) result (at_line n (saying.line_said names.now n line.now)) }
 {
     if !all_of(Class::Printed, line) {
