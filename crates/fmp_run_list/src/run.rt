@@ -7,17 +7,21 @@ ghost use Rattle.fmp_run_list.specs.Runs.{WritesListing, listing_in};
 use crate::fields::put_field_lines;
 use fmp_config::Config;
 use fmp_config_listing::listing_text;
+use fmp_out::Text;
 use fmp_run_devices::{Sink, Source, write_out};
 use fmp_run_texts::{RunFault, config_and_text_from};
 use std::alloc::{AllocError, Global};
+use std::mem;
 
 /// The listing of a configuration that was read of a text. The error is want of memory.
 fn listed(alloc: Global, configuration: &Config, text: &[u8]) -> Result<Vec<u8>, AllocError>
     ensures { IfOk result (λ out. out.items ≡ listing_in configuration.now text.now) }
 {
-    let mut out = listing_text(alloc, configuration)?;
-    put_field_lines(alloc, &mut out, text)?;
-    Ok(out)
+    let mut listing = listing_text(alloc, configuration)?;
+    let mut out = Text::new(alloc);
+    mem::swap(out.as_mut_vec(), &mut listing);
+    put_field_lines(alloc, &mut out, text);
+    out.finish()
 }
 
 /// Reads a configuration, and writes what was read of it, a line for each thing that it says, and its fields without effect as they stand in its text.
