@@ -39,7 +39,7 @@ read_bytes None new piece h known = absurd (false≢true known)
 read_bytes (Some xs) None piece h known = absurd h
 read_bytes (Some xs) (Some ys) piece h known = h
 
-consumed_known : (old new : Option (List ℕ)) (piece : List ℕ) → Consumes old new piece → IsKnown old → IsKnown new
+pub consumed_known : (old new : Option (List ℕ)) (piece : List ℕ) → Consumes old new piece → IsKnown old → IsKnown new
 consumed_known None new piece h known = absurd (false≢true known)
 consumed_known (Some xs) None piece h known = absurd h
 consumed_known (Some xs) (Some ys) piece h known = refl

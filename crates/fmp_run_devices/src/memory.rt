@@ -1,8 +1,10 @@
 //! Devices over memory, whose bytes are known, and which can be made to fail at a chosen call.
-ghost use Rattle.std.specs.Prelude.{◌≡◌, ◌+◌, ◌-◌, ◌^◌, ◌<◌, ◌≤◌, [], length, min, vec_len, vec_capacity, IfOk, is_err, None, Some, if◌then◌else◌};
+ghost use Rattle.std.specs.Prelude.{◌≡◌, ◌+◌, ◌-◌, ◌^◌, ◌<◌, ◌≤◌, [], false, true, length, min, take, vec_len, vec_capacity, IfOk, is_err, None, Some, if◌then◌else◌};
 ghost use Rattle.std.specs.Io.KnownBytes.{Keeps, ReadConsumes, WriteAppends};
 ghost use Rattle.fmp_run_devices.specs.Devices.{is_failed_write, is_turn, next_turn};
+ghost use Rattle.fmp_run_devices.specs.Hearing.{Hands};
 
+use crate::history::{History, Passing};
 use crate::sink::Sink;
 use crate::source::{Failed, Source};
 use std::alloc::{AllocError, Global};
@@ -14,28 +16,33 @@ pub struct MemSource<'a> {
     /// How many reads go well before one fails.
     until_failure: Option<u64>,
     failures: u64,
+    given: History,
+    ended: bool,
+    ghost over: { ended ≡ true → rest.now ≡ [] },
 }
 
 impl<'a> MemSource<'a> {
     /// These bytes, of which every read goes well.
     pub fn new(bytes: &'a [u8]) -> MemSource<'a>
-        ensures { (result.rest.now ≡ bytes.entry.now) × (result.until_failure ≡ None) × (result.failures ≡ 0) }
+        ensures bytes { (result.rest.now ≡ bytes.entry.now) × (result.until_failure ≡ None) × (result.failures ≡ 0) }
+        ensures given { (result.given.bytes ≡ []) × (result.ended ≡ false) }
     {
         MemSource {
             rest: bytes,
             until_failure: None,
             failures: 0,
+            given: History::new(),
+            ended: false,
         }
     }
 
     /// The same bytes, where the read after `reads` others fails.
-    pub fn failing_after(self, reads: u64) -> MemSource<'a>
-        ensures { result ≡ record self.entry { until_failure = Some reads } }
+    pub fn failing_after(mut self, reads: u64) -> MemSource<'a>
+        ensures fails { result.until_failure ≡ Some reads }
+        ensures same { (result.rest.now ≡ self.entry.rest.now) × (result.failures ≡ self.entry.failures) × (result.given ≡ self.entry.given) × (result.ended ≡ self.entry.ended) }
     {
-        MemSource {
-            until_failure: Some(reads),
-            ..self
-        }
+        self.until_failure = Some(reads);
+        self
     }
 }
 
@@ -57,8 +64,26 @@ fn takes_turn(until_failure: &mut Option<u64>) -> bool
     }
 }
 
+/// Copies as many of the first bytes as fit, and answers how many.
+pub(crate) fn fill(buffer: &mut [u8], bytes: &[u8]) -> usize
+    ensures most { result ≡ min (length bytes.now) (length buffer.old) }
+    ensures copied { take result buffer.new ≡ take result bytes.now }
+    ensures length { length buffer.new ≡ length buffer.old }
+{
+    let count = bytes.len().min(buffer.len());
+    let (prefix, _) = bytes.split_at(count);
+    buffer[..count].copy_from_slice(prefix);
+    count
+}
+
 impl Source for MemSource<'_> {
     ghost left = { λ s. Some s.rest.now };
+
+    ghost given = { λ s. s.given.bytes };
+
+    ghost ended = { λ s. s.ended };
+
+    ghost over = { λ s. s.over };
 
     ghost failures = { λ s. s.failures };
 
@@ -71,6 +96,7 @@ impl Source for MemSource<'_> {
         ensures fits { IfOk result (λ n. n ≤ length buffer.old) }
         ensures count { self.new.failures ≡ self.old.failures + (if is_err result then 1 else 0) }
         ensures bytes { ReadConsumes (Some self.old.rest.now) (Some self.new.rest.now) result buffer.new }
+        ensures hands { Hands self.old.given.bytes self.new.given.bytes self.new.ended result buffer.new }
 
         // It takes as much as fits, and fails at the chosen call.
         ensures most { IfOk result (λ n. n ≡ min (length self.old.rest.now) (length buffer.old)) }
@@ -79,12 +105,16 @@ impl Source for MemSource<'_> {
     {
         if takes_turn(&mut self.until_failure) {
             self.failures += 1;
+            self.ended = false;
             return Err(Failed);
         }
-        let count = self.rest.len().min(buffer.len());
-        let (prefix, rest) = self.rest.split_at(count);
-        buffer[..count].copy_from_slice(prefix);
+        let count = fill(buffer, self.rest);
+        let (_, rest) = self.rest.split_at(count);
         self.rest = rest;
+        self.given = self.given.with(&Passing {
+            bytes: &buffer[..count],
+        });
+        self.ended = count == 0 && !buffer.is_empty();
         Ok(count)
     }
 }

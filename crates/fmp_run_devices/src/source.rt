@@ -1,6 +1,8 @@
 //! Devices that bytes are read from.
-ghost use Rattle.std.specs.Prelude.{◌≡◌, ◌+◌, ◌-◌, ◌^◌, ◌<◌, ◌≤◌, ℕ, List, Option, length, IfOk, is_err, if◌then◌else◌};
+ghost use Rattle.std.specs.Prelude.{◌≡◌, ◌+◌, ◌-◌, ◌^◌, ◌<◌, ◌≤◌, ℕ, Bool, List, Option, None, [], true, length, vec_len, IfOk, IfSome, is_err, if◌then◌else◌};
 ghost use Rattle.std.specs.Io.KnownBytes.{ReadConsumes};
+ghost use Rattle.fmp_run_devices.specs.Devices.{bytes_of};
+ghost use Rattle.fmp_run_devices.specs.Hearing.{GivesAll, Hands};
 
 /// A call of a device that failed.
 #[derive(Clone, Copy)]
@@ -10,6 +12,14 @@ pub struct Failed;
 pub trait Source {
     // The bytes that are left to read, where they are known, as those of memory are. Those of a file are not.
     ghost left: { Self → Option (List ℕ) };
+
+    // The bytes that its calls handed over, whether or not they were known before.
+    ghost given: { Self → List ℕ };
+
+    // The last call answered that there are no more. Then none are left, where that is known.
+    ghost ended: { Self → Bool };
+
+    ghost over: { (s : Self) → ended s ≡ true → bytes_of (left s) ≡ [] };
 
     ghost failures: { Self → ℕ };
 
@@ -23,5 +33,17 @@ pub trait Source {
         requires { failures self.old < 2 ^ 64 - 1 }
         ensures fits { IfOk result (λ n. n ≤ length buffer.old) }
         ensures count { failures self.new ≡ failures self.old + (if is_err result then 1 else 0) }
-        ensures bytes { ReadConsumes (left self.old) (left self.new) result buffer.new };
+        ensures bytes { ReadConsumes (left self.old) (left self.new) result buffer.new }
+        ensures hands { Hands (given self.old) (given self.new) (ended self.new) result buffer.new };
+
+    /// Gives all that is left, where the source has it in memory of its own and it is of at most so many bytes: then nobody has to copy it.
+    /// Else nothing happens.
+    fn give_all(&mut self, most: usize) -> Option<Vec<u8>>
+        ensures bound { IfSome result (λ text. vec_len text ≤ most) }
+        ensures gives { IfSome result (λ text. GivesAll (given self.old) (given self.new) (left self.old) (left self.new) (ended self.new) text.items) }
+        ensures none { result ≡ None → (left self.new ≡ left self.old) × (given self.new ≡ given self.old) × (ended self.new ≡ ended self.old) }
+        ensures count { failures self.new ≡ failures self.old }
+    {
+        None
+    }
 }

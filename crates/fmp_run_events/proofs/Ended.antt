@@ -156,9 +156,9 @@ module _ (config_text event_text old : List ℕ) where
 
 -- a read of the events failed, and the flush after it, or none did
 pub flush_result : {K L M : Type 0} (config_text event_text old : List ℕ) (c : Setup) → (K → SaysConfig config_text c) → (d : Detail) (new : List ℕ) (n m : ℕ)
-    → FlushFails n m (L → M → IsPrefixOut (detail_of d) c (reading_by_line c.names event_text).events old new) → FlushFails n m (K → L → M → IsPrefix (detail_of d) config_text event_text old new)
+    → FlushFails n m (M → IsPrefixOut (detail_of d) c (reading_by_line c.names event_text).events old new) → FlushFails n m (K → L → M → IsPrefix (detail_of d) config_text event_text old new)
 flush_result config_text event_text old c says d new n m (inl none) = inl none
-flush_result config_text event_text old c says d new n m (inr (one, out)) = inr (one, λ configs reads writes. inr (c, says configs, out reads writes))
+flush_result config_text event_text old c says d new n m (inr (one, out)) = inr (one, λ configs reads writes. inr (c, says configs, out writes))
 
 -- where the room that was taken is enough, nothing is out after want of memory
 module _ (c : Setup) (event_text old : List ℕ) (valid : AreValid c.names) (d : Detail) (ample : IsAmple d event_text) where

@@ -59,11 +59,11 @@ module _ (names : List ℕ) (c : Setup) (lists : NameLists) (same : lists ≡ c.
 
   -- a read of the events failed, and the flush after it, or none did
   pub life_flush : {K L M : Type 0} (config_text event_text old : List ℕ) → (K → SaysConfig config_text c) → (new : List ℕ) (n m : ℕ)
-      → FlushFails n m (L → M → IsPrefixOut (detail_of (detail.Life seen)) c (reading_by_line c.names event_text).events old new)
+      → FlushFails n m (M → IsPrefixOut (detail_of (detail.Life seen)) c (reading_by_line c.names event_text).events old new)
       → FlushFails n m (K → L → M → IsPrefix (named_life names) config_text event_text old new)
   life_flush config_text event_text old says new n m (inl none) = inl none
   life_flush config_text event_text old says new n m (inr (one, out)) =
-      inr (one, λ configs reads writes. inr (c, says configs, prefix_as (detail.Life seen) (named_life names) c life_named _ old new (out reads writes)))
+      inr (one, λ configs reads writes. inr (c, says configs, prefix_as (detail.Life seen) (named_life names) c life_named _ old new (out writes)))
 
 -- where names name things of a right configuration, they have no fault
 pub chosen_right : (config_text names : List ℕ) (c right : Setup) (lists : NameLists) (xs : List Thing) → lists ≡ c.names → SaysConfig config_text c → SaysConfig config_text right

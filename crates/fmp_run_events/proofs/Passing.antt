@@ -11,7 +11,7 @@ use Rattle.fmp_run_texts.specs.Faults.{failed_read, is_config}
 use Rattle.fmp_run_texts.specs.Texts.{FlushFails}
 use Rattle.fmp_run_stream.specs.declared.stream.Detail.{Detail}
 use Rattle.fmp_run_stream.specs.Details.{detail_of}
-use Rattle.fmp_run_stream.specs.Runs.{IsPrefixOut}
+use Rattle.fmp_run_stream.specs.Runs.{FirstEventFault, IsPrefixOut}
 use Rattle.fmp_run_stream.specs.Streams.{IsAllOut, Leaves}
 use Rattle.fmp_run_stream.proofs.Streaming.{all_out_begun}
 use Rattle.fmp_run_stream.proofs.Traces.{all_begun, prefix_begun}
@@ -48,6 +48,11 @@ module _ (d : Detail) (c : Setup) (text : List ℕ) (whole : Reading) (old : Lis
       → IfErr ended (Leaves d c text whole old new) → IfErr result (Leaves d c text whole old new)
   leaves_passed new ended result (inl is) all config left = rw is left
   leaves_passed new ended result (inr is) all config left = rw is (ended_begun new ended all config left)
+
+-- a fault of the events is still their first one
+pub first_passed : (whole : Reading) (ended result : Ended) → Passes ended result → IfErr ended (FirstEventFault whole) → IfErr result (FirstEventFault whole)
+first_passed whole ended result (inl is) first = rw is first
+first_passed whole ended result (inr is) first = rw is tt
 
 -- where a read failed and the flush after it failed too, this is so that is so where a read failed
 pub flush_fails : (Whole : Type 0) (n m : ℕ) (ended : Ended) → m ≡ n + cond (failed_read ended) 1 0 → (ended ≡ Err run.Read → Whole) → FlushFails n m Whole

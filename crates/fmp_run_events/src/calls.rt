@@ -1,12 +1,13 @@
 //! The runs that answer a list of events, each as it comes.
-ghost use Rattle.std.specs.Prelude.{◌≡◌, ◌≢◌, ◌+◌, ◌-◌, ◌^◌, ◌<◌, ◌≤◌, [], ℕ, List, true, false, length, OnOk, IfErr, Err, if◌then◌else◌};
+ghost use Rattle.std.specs.Prelude.{◌≡◌, ◌≢◌, ◌++◌, ◌+◌, ◌-◌, ◌^◌, ◌<◌, ◌≤◌, [], ℕ, List, true, false, length, OnOk, IfErr, Err, if◌then◌else◌};
 ghost use Rattle.fmp_setup.specs.Valid.{IsValid};
 ghost use Rattle.fmp_text_feed.specs.Feed.{IsWanting};
 ghost use Rattle.fmp_text.specs.Events.{Reading, reading_by_line};
 ghost use Rattle.fmp_text.specs.Limits.{most_bytes, most_events};
 ghost use Rattle.fmp_run_stream.specs.Details.{detail_of};
 ghost use Rattle.fmp_run_devices.specs.Devices.{IsKnown, bytes_of};
-ghost use Rattle.fmp_run_devices.specs.Ends.{sink_ends, source_ends};
+ghost use Rattle.fmp_run_devices.specs.Ends.{passing_ends, sink_ends, source_ends};
+ghost use Rattle.fmp_run_devices.specs.Hearing.{Moves, Passes};
 ghost use Rattle.fmp_run_texts.specs.Faults.{failed_read, failed_write, is_config, is_thread_fault};
 ghost use Rattle.fmp_run_texts.specs.Texts.{FlushFails};
 ghost use Rattle.fmp_run_events.specs.Owed.{OwesEvents, WritesEvents};
@@ -38,16 +39,17 @@ fn answer_all<S: Source, W: Sink>(
     requires processors { length run.old.kernel.processors ≡ config.now.processors }
     requires room { length piece.old ≡ 65536 }
     ensures known { IsKnown (W.written trace.old) → IsKnown (W.written trace.new) }
-    ensures answered { IsKnown (S.left events.old) → IsKnown (W.written trace.old) → (d : Detail) (text : List ℕ) (whole : Reading) (old : List ℕ)
-        → Streams d true config.now text whole old run.old (bytes_of (W.written trace.old)) (bytes_of (S.left events.old))
+    ensures answered { (p : Passes (S.given events.old) (S.given events.new) (S.ended events.new)) → IsKnown (W.written trace.old) → (d : Detail) (text : List ℕ) (whole : Reading) (old : List ℕ)
+        → Streams d true config.now text whole old run.old (bytes_of (W.written trace.old)) p.all
         → OnOk result (IsAllOut d config.now whole old (bytes_of (W.written trace.new))) }
-    ensures first { IsKnown (S.left events.old) → (d : Detail) (text : List ℕ) (whole : Reading) (old : List ℕ)
-        → Streams d false config.now text whole old run.old (bytes_of (W.written trace.old)) (bytes_of (S.left events.old))
+    ensures first { (p : Passes (S.given events.old) (S.given events.new) (S.ended events.new)) → (d : Detail) (text : List ℕ) (whole : Reading) (old : List ℕ)
+        → Streams d false config.now text whole old run.old (bytes_of (W.written trace.old)) p.all
         → IfErr result (FirstEventFault whole) }
-    ensures leaves { IsKnown (S.left events.old) → IsKnown (W.written trace.old) → (d : Detail) (text : List ℕ) (whole : Reading) (old : List ℕ)
-        → Streams d true config.now text whole old run.old (bytes_of (W.written trace.old)) (bytes_of (S.left events.old))
+    ensures leaves { (p : Passes (S.given events.old) (S.given events.new) (S.ended events.new)) → IsKnown (W.written trace.old) → (d : Detail) (text : List ℕ) (whole : Reading) (old : List ℕ)
+        → Streams d true config.now text whole old run.old (bytes_of (W.written trace.old)) p.all
         → IfErr result (Leaves d config.now text whole old (bytes_of (W.written trace.new))) }
-    ensures events_read { IsKnown (S.left events.old) → OnOk result (bytes_of (S.left events.new) ≡ []) }
+    ensures moves { Moves (S.given events.old) (S.given events.new) (S.left events.old) (S.left events.new) }
+    ensures end { OnOk result (S.ended events.new ≡ true) }
     ensures kinds { IfErr result (λ fault. is_config fault ≡ false) }
     ensures no_thread_fault { IfErr result (λ fault. is_thread_fault fault ≡ false) }
     ensures reads { S.failures events.new ≡ S.failures events.old + (if failed_read result then 1 else 0) }
@@ -72,15 +74,16 @@ fn answer_from_boot<S: Source, W: Sink>(
     requires event_calls { S.failures events.old < 2 ^ 64 - 1 }
     requires trace_calls { W.failures trace.old < 2 ^ 64 - 1 }
     ensures known { IsKnown (W.written trace.old) → IsKnown (W.written trace.new) }
-    ensures answered { IsKnown (S.left events.old) → IsKnown (W.written trace.old)
-        → OnOk result (IsAllOut detail config.now (reading_by_line config.now.names (bytes_of (S.left events.old))) (bytes_of (W.written trace.old))
+    ensures answered { (p : Passes (S.given events.old) (S.given events.new) (S.ended events.new)) → IsKnown (W.written trace.old)
+        → OnOk result (IsAllOut detail config.now (reading_by_line config.now.names p.all) (bytes_of (W.written trace.old))
         (bytes_of (W.written trace.new))) }
     ensures valid { OnOk result (IsValid config.now) }
-    ensures first { IsKnown (S.left events.old) → IfErr result (FirstEventFault (reading_by_line config.now.names (bytes_of (S.left events.old)))) }
-    ensures leaves { IsKnown (S.left events.old) → IsKnown (W.written trace.old)
-        → IfErr result (Leaves detail config.now (bytes_of (S.left events.old)) (reading_by_line config.now.names (bytes_of (S.left events.old)))
+    ensures first { (p : Passes (S.given events.old) (S.given events.new) (S.ended events.new)) → IfErr result (FirstEventFault (reading_by_line config.now.names p.all)) }
+    ensures leaves { (p : Passes (S.given events.old) (S.given events.new) (S.ended events.new)) → IsKnown (W.written trace.old)
+        → IfErr result (Leaves detail config.now p.all (reading_by_line config.now.names p.all)
         (bytes_of (W.written trace.old)) (bytes_of (W.written trace.new))) }
-    ensures events_read { IsKnown (S.left events.old) → OnOk result (bytes_of (S.left events.new) ≡ []) }
+    ensures moves { Moves (S.given events.old) (S.given events.new) (S.left events.old) (S.left events.new) }
+    ensures end { OnOk result (S.ended events.new ≡ true) }
     ensures kinds { IfErr result (λ fault. is_config fault ≡ false) }
     ensures no_thread_fault { IfErr result (λ fault. is_thread_fault fault ≡ false) }
     ensures reads { S.failures events.new ≡ S.failures events.old + (if failed_read result then 1 else 0) }
@@ -103,21 +106,22 @@ pub(crate) fn answer_text<S: Source, W: Sink>(
     requires event_calls { S.failures events.old < 2 ^ 64 - 1 }
     requires trace_calls { W.failures trace.old < 2 ^ 64 - 1 }
     ensures known { IsKnown (W.written trace.old) → IsKnown (W.written trace.new) }
-    ensures answered { IsKnown (S.left events.old) → IsKnown (W.written trace.old)
-        → OnOk result (IsAllOut detail config.now (reading_by_line config.now.names (bytes_of (S.left events.old))) (bytes_of (W.written trace.old))
+    ensures answered { (p : Passes (S.given events.old) (S.given events.new) (S.ended events.new)) → IsKnown (W.written trace.old)
+        → OnOk result (IsAllOut detail config.now (reading_by_line config.now.names p.all) (bytes_of (W.written trace.old))
         (bytes_of (W.written trace.new))) }
     ensures valid { OnOk result (IsValid config.now) }
     ensures passed { result ≢ Err RunFault.Write → W.buffered trace.new ≡ [] }
-    ensures first { IsKnown (S.left events.old) → IfErr result (FirstEventFault (reading_by_line config.now.names (bytes_of (S.left events.old)))) }
-    ensures leaves { IsKnown (S.left events.old) → IsKnown (W.written trace.old)
-        → IfErr result (Leaves detail config.now (bytes_of (S.left events.old)) (reading_by_line config.now.names (bytes_of (S.left events.old)))
+    ensures first { (p : Passes (S.given events.old) (S.given events.new) (S.ended events.new)) → IfErr result (FirstEventFault (reading_by_line config.now.names p.all)) }
+    ensures leaves { (p : Passes (S.given events.old) (S.given events.new) (S.ended events.new)) → IsKnown (W.written trace.old)
+        → IfErr result (Leaves detail config.now p.all (reading_by_line config.now.names p.all)
         (bytes_of (W.written trace.old)) (bytes_of (W.written trace.new))) }
-    ensures events_read { IsKnown (S.left events.old) → OnOk result (bytes_of (S.left events.new) ≡ []) }
+    ensures moves { Moves (S.given events.old) (S.given events.new) (S.left events.old) (S.left events.new) }
+    ensures end { OnOk result (S.ended events.new ≡ true) }
     ensures kinds { IfErr result (λ fault. is_config fault ≡ false) }
     ensures no_thread_fault { IfErr result (λ fault. is_thread_fault fault ≡ false) }
     ensures reads { result ≢ Err RunFault.Write → S.failures events.new ≡ S.failures events.old + (if failed_read result then 1 else 0) }
-    ensures flush { FlushFails (S.failures events.old) (S.failures events.new) (IsKnown (S.left events.old) → IsKnown (W.written trace.old)
-        → IsPrefixOut (detail_of detail) config.now (reading_by_line config.now.names (bytes_of (S.left events.old))).events (bytes_of (W.written trace.old))
+    ensures flush { (p : Passes (S.given events.old) (S.given events.new) (S.ended events.new)) → FlushFails (S.failures events.old) (S.failures events.new) (IsKnown (W.written trace.old)
+        → IsPrefixOut (detail_of detail) config.now (reading_by_line config.now.names p.all).events (bytes_of (W.written trace.old))
         (bytes_of (W.written trace.new))) }
     ensures writes { W.failures trace.new ≡ W.failures trace.old + (if failed_write result then 1 else 0) }
 {
@@ -139,13 +143,19 @@ pub fn run_events<R: Source, S: Source, W: Sink>(
     requires event_calls { S.failures events.old < 2 ^ 64 - 1 }
     requires trace_calls { W.failures trace.old < 2 ^ 64 - 1 }
 
+    // It reads the events as they come, and to their end where it goes to its own.
+    ensures moves { Moves (S.given events.old) (S.given events.new) (S.left events.old) (S.left events.new) }
+    ensures end { OnOk result (S.ended events.new ≡ true) }
+
     // What it owes to both texts and to its devices, whatever it writes.
-    ensures owes { OwesEvents (source_ends R.left R.failures config.old config.new) (source_ends S.left S.failures events.old events.new)
+    ensures owes { (p : Passes (S.given events.old) (S.given events.new) (S.ended events.new))
+        → OwesEvents (source_ends R.left R.failures config.old config.new) (passing_ends p.all p.rest S.failures events.old events.new)
         (sink_ends W.written W.buffered W.failures trace.old trace.new) result }
 
     // What it writes: what is told of the machine at boot and of each event.
-    ensures writes { WritesEvents (detail ≡ Detail.Line) (detail_of detail) (source_ends R.left R.failures config.old config.new)
-        (source_ends S.left S.failures events.old events.new) (sink_ends W.written W.buffered W.failures trace.old trace.new) result }
+    ensures writes { (p : Passes (S.given events.old) (S.given events.new) (S.ended events.new))
+        → WritesEvents (detail ≡ Detail.Line) (detail_of detail) (source_ends R.left R.failures config.old config.new)
+        (passing_ends p.all p.rest S.failures events.old events.new) (sink_ends W.written W.buffered W.failures trace.old trace.new) result }
 {
     let configuration = config_from(alloc, config)?;
     configuration.names().validity();
@@ -165,21 +175,27 @@ pub fn run_calls<R: Source, S: Source, W: Sink>(
     requires event_calls { S.failures events.old < 2 ^ 64 - 1 }
     requires trace_calls { W.failures trace.old < 2 ^ 64 - 1 }
 
+    // It reads the events as they come, and to their end where it goes to its own.
+    ensures moves { Moves (S.given events.old) (S.given events.new) (S.left events.old) (S.left events.new) }
+    ensures end { OnOk result (S.ended events.new ≡ true) }
+
     // What it owes to both texts and to its devices, whatever it writes.
-    ensures owes { OwesEvents (source_ends R.left R.failures config.old config.new) (source_ends S.left S.failures events.old events.new)
+    ensures owes { (p : Passes (S.given events.old) (S.given events.new) (S.ended events.new))
+        → OwesEvents (source_ends R.left R.failures config.old config.new) (passing_ends p.all p.rest S.failures events.old events.new)
         (sink_ends W.written W.buffered W.failures trace.old trace.new) result }
 
-    // Where it goes to its end, what is written is the trace of the answers to the events.
-    ensures answered { IsKnown (R.left config.old) → IsKnown (S.left events.old) → IsKnown (W.written trace.old)
-        → OnOk result (IsAnswered (bytes_of (R.left config.old)) (bytes_of (S.left events.old)) (bytes_of (W.written trace.old)) (bytes_of (W.written trace.new))) }
+    // Where it goes to its end, what is written is the trace of the answers to the events that were handed over.
+    ensures answered { IsKnown (R.left config.old) → (text : List ℕ) → S.given events.new ≡ S.given events.old ++ text → IsKnown (W.written trace.old)
+        → OnOk result (IsAnswered (bytes_of (R.left config.old)) text (bytes_of (W.written trace.old)) (bytes_of (W.written trace.new))) }
 
     // And then it is the trace of records that are told: each by those before it, without a machine.
-    ensures told { IsKnown (R.left config.old) → IsKnown (S.left events.old) → IsKnown (W.written trace.old)
-        → OnOk result (IsTold (bytes_of (R.left config.old)) (bytes_of (S.left events.old)) (bytes_of (W.written trace.old)) (bytes_of (W.written trace.new))) }
+    ensures told { IsKnown (R.left config.old) → (text : List ℕ) → S.given events.new ≡ S.given events.old ++ text → IsKnown (W.written trace.old)
+        → OnOk result (IsTold (bytes_of (R.left config.old)) text (bytes_of (W.written trace.old)) (bytes_of (W.written trace.new))) }
 
     // What it writes.
-    ensures writes { WritesEvents (Unit {0}) trace_of (source_ends R.left R.failures config.old config.new)
-        (source_ends S.left S.failures events.old events.new) (sink_ends W.written W.buffered W.failures trace.old trace.new) result }
+    ensures writes { (p : Passes (S.given events.old) (S.given events.new) (S.ended events.new))
+        → WritesEvents (Unit {0}) trace_of (source_ends R.left R.failures config.old config.new)
+        (passing_ends p.all p.rest S.failures events.old events.new) (sink_ends W.written W.buffered W.failures trace.old trace.new) result }
 {
     run_events(alloc, Detail::Line, config, events, trace)
 }

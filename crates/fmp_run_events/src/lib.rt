@@ -1,6 +1,6 @@
 //! The runs of the program: texts in, a text out, through devices that can fail.
 //!
-//! A run reads a [`Source`] to its end and writes to a [`Sink`]; contracts speak of their bytes where these are known.
+//! A run reads a [`Source`] to its end and writes to a [`Sink`]; contracts speak of what was handed over and written.
 //! [`run_events`] and [`run_life`] answer each event as its line comes, on the kernel, and tell as much as a [`Detail`] says;
 //! [`run_calls`] tells lines alone; [`run_check`] and [`run_report`] judge a trace by the plain machine. The runs of processors
 //! that follow scripts are in `fmp_run_smp`. Devices are in `fmp_run_devices`; how texts are read and judged, and what a run's

@@ -1,7 +1,8 @@
 //! The run that tells what of some things changed, each change as its event comes.
-ghost use Rattle.std.specs.Prelude.{◌-◌, ◌^◌, ◌<◌, IfOk, IfErr};
+ghost use Rattle.std.specs.Prelude.{◌≡◌, true, OnOk, ◌-◌, ◌^◌, ◌<◌, IfOk, IfErr};
 ghost use Rattle.fmp_show_life.specs.Choosing.{IsChosen};
-ghost use Rattle.fmp_run_devices.specs.Ends.{sink_ends, source_ends};
+ghost use Rattle.fmp_run_devices.specs.Ends.{passing_ends, sink_ends, source_ends};
+ghost use Rattle.fmp_run_devices.specs.Hearing.{Moves, Passes};
 ghost use Rattle.fmp_run_events.specs.Lives.{OwesLife, WritesLife};
 ghost use Rattle.fmp_run_events.specs.NameFaults as faults;
 
@@ -50,12 +51,18 @@ pub fn run_life<R: Source, S: Source, W: Sink>(
     requires event_calls { S.failures events.old < 2 ^ 64 - 1 }
     requires trace_calls { W.failures trace.old < 2 ^ 64 - 1 }
 
+    // It reads the events as they come, and to their end where it goes to its own.
+    ensures moves { Moves (S.given events.old) (S.given events.new) (S.left events.old) (S.left events.new) }
+    ensures end { OnOk result (S.ended events.new ≡ true) }
+
     // What it owes to both texts, to the names and to its devices, whatever it writes.
-    ensures owes { OwesLife names.now (source_ends R.left R.failures config.old config.new) (source_ends S.left S.failures events.old events.new)
+    ensures owes { (p : Passes (S.given events.old) (S.given events.new) (S.ended events.new))
+        → OwesLife names.now (source_ends R.left R.failures config.old config.new) (passing_ends p.all p.rest S.failures events.old events.new)
         (sink_ends W.written W.buffered W.failures trace.old trace.new) result }
 
     // What it writes: what is told of the things at boot, and each event that changes it.
-    ensures writes { WritesLife names.now (source_ends R.left R.failures config.old config.new) (source_ends S.left S.failures events.old events.new)
+    ensures writes { (p : Passes (S.given events.old) (S.given events.new) (S.ended events.new))
+        → WritesLife names.now (source_ends R.left R.failures config.old config.new) (passing_ends p.all p.rest S.failures events.old events.new)
         (sink_ends W.written W.buffered W.failures trace.old trace.new) result }
 {
     let machine = match config_from(alloc, config) {

@@ -17,6 +17,7 @@ ghost use Rattle.fmp_run_stream.specs.Lives.{with_changes};
 ghost use Rattle.std.specs.List.{flat_map};
 ghost use Rattle.fmp_show_life.specs.Lives.{renewed, report_since};
 ghost use Rattle.fmp_run_devices.specs.Devices.{BeginsWith, IsKnown, bytes_of};
+ghost use Rattle.fmp_run_devices.specs.Hearing.{Moves};
 ghost use Rattle.fmp_run_texts.specs.Faults.{failed_read, failed_write, is_config, is_read, is_write, is_thread_fault};
 ghost use Rattle.fmp_run_stream.specs.Runs.{FirstEventFault};
 ghost use Rattle.fmp_trace.specs.Lines.{event_text, line_text};
@@ -416,7 +417,7 @@ impl Answering {
     }
 
     /// Reads a further piece of the text, or its end. The trace holds nothing back meanwhile, so who gives events one by one has
-    /// the answers to all that were given.
+    /// the answers to all that were given. What will come is not known: so this is told of each text that begins with what was handed over.
     pub fn take_piece<S: Source, W: Sink>(
         &mut self,
         events: &mut S,
@@ -429,19 +430,19 @@ impl Answering {
         requires unended { self.old.feed.ended ≡ false }
         requires fits { self.old.feed.taken ≤ most_bytes }
         requires room { length piece.old ≡ 65536 }
-        ensures known { IsKnown (S.left events.old) → IsKnown (S.left events.new) }
-        ensures streams { IsKnown (S.left events.old) → (d : Detail) (tells : Bool) (c : Setup) (text : List ℕ) (whole : Reading) (old written : List ℕ)
-            → Streams d tells c text whole old self.old written (bytes_of (S.left events.old))
-            → OnOk result (Streams d tells c text whole old self.new written (bytes_of (S.left events.new))) }
-        ensures leaves { IsKnown (S.left events.old) → (d : Detail) (c : Setup) (text : List ℕ) (whole : Reading) (old written : List ℕ)
-            → Streams d true c text whole old self.old written (bytes_of (S.left events.old))
+        ensures moves { Moves (S.given events.old) (S.given events.new) (S.left events.old) (S.left events.new) }
+        ensures streams { (all rest : List ℕ) → S.given events.old ++ all ≡ S.given events.new ++ rest → (self.new.feed.ended ≡ true → rest ≡ [])
+            → (d : Detail) (tells : Bool) (c : Setup) (text : List ℕ) (whole : Reading) (old written : List ℕ)
+            → Streams d tells c text whole old self.old written all → OnOk result (Streams d tells c text whole old self.new written rest) }
+        ensures leaves { (all rest : List ℕ) → S.given events.old ++ all ≡ S.given events.new ++ rest
+            → (d : Detail) (c : Setup) (text : List ℕ) (whole : Reading) (old written : List ℕ) → Streams d true c text whole old self.old written all
             → IfErr result (Leaves d c text whole old written) }
         ensures first { (whole : Reading) → IfErr result (FirstEventFault whole) }
-        ensures end { IsKnown (S.left events.old) → OnOk result (self.new.feed.ended ≡ true → bytes_of (S.left events.new) ≡ []) }
+        ensures end { OnOk result (self.new.feed.ended ≡ true → S.ended events.new ≡ true) }
         ensures counts { (self.new.count ≡ self.old.count) × (self.new.feed.events ≡ self.old.feed.events) × (self.new.kernel ≡ self.old.kernel)
             × (self.new.detail ≡ self.old.detail) × (pending self.new ≡ pending self.old) }
         ensures fits { OnOk result (self.new.feed.taken ≤ most_bytes) }
-        ensures moves { OnOk result (self.new.feed.ended ≡ false → self.new.feed.dropped ≡ false → (self.old.feed.taken < self.new.feed.taken)
+        ensures grows { OnOk result (self.new.feed.ended ≡ false → self.new.feed.dropped ≡ false → (self.old.feed.taken < self.new.feed.taken)
             × (self.new.feed.taken ≤ most_bytes)) }
         ensures kinds { IfErr result (λ fault. (is_write fault ≡ false) × (is_config fault ≡ false)) }
         ensures no_thread_fault { IfErr result (λ fault. is_thread_fault fault ≡ false) }

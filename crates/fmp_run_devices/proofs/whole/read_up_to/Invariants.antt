@@ -8,6 +8,7 @@ invariant-loop-source g l = record {
   bound : vec_len l.text ≤ l.limit + 65536;
   failures : g.S.Source.failures l.source ≡ g.S.Source.failures l.fn.source;
   known : IsKnown (g.S.Source.left l.fn.source) → IsKnown (g.S.Source.left l.source);
+  heard : g.S.Source.given l.source ≡ g.S.Source.given l.fn.source ++ l.text.items;
   prefix : IsKnown (g.S.Source.left l.fn.source) → bytes_of (g.S.Source.left l.fn.source) ≡ l.text.items ++ bytes_of (g.S.Source.left l.source);
 }
 

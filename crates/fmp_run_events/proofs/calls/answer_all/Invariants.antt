@@ -1,5 +1,6 @@
-use Rattle.std.proofs.Common.{◌≡◌, ◌+◌, ◌-◌, ◌≤◌, ℕ, List, [], Bool, IsTrue, true, cond, length}
+use Rattle.std.proofs.Common.{◌≡◌, ◌+◌, ◌-◌, ◌≤◌, ◌++◌, ℕ, List, [], Bool, IsTrue, true, cond, length}
 use Rattle.fmp_run_devices.specs.Devices.{IsKnown, bytes_of}
+use Rattle.fmp_run_devices.specs.Hearing.{Moves}
 use Rattle.fmp_text_feed.specs.Feed.{IsDone, IsWanting}
 use Rattle.fmp_text.specs.Events.{Reading}
 use Rattle.fmp_text.specs.Limits.{most_bytes, most_events}
@@ -18,13 +19,13 @@ invariant-loop-trace g l = record {
   processors : length l.run.kernel.processors ≡ l.config.processors;
   room : length l.piece ≡ 65536;
   done : l.run.feed.ended ≡ true → IsDone l.config.names l.run.feed;
-  read_known : IsKnown (g.S.Source.left l.fn.events) → IsKnown (g.S.Source.left l.events);
   write_known : IsKnown (g.W.Sink.written l.fn.trace) → IsKnown (g.W.Sink.written l.trace);
-  end : IsKnown (g.S.Source.left l.fn.events) → l.run.feed.ended ≡ true → bytes_of (g.S.Source.left l.events) ≡ [];
-  streams : IsKnown (g.S.Source.left l.fn.events) → (d : Detail) (tells : Bool) (text : List ℕ) (whole : Reading) (old : List ℕ)
-      → (IsTrue tells → IsKnown (g.W.Sink.written l.fn.trace))
-      → Streams d tells l.config text whole old l.fn.run (bytes_of (g.W.Sink.written l.fn.trace)) (bytes_of (g.S.Source.left l.fn.events))
-      → Streams d tells l.config text whole old l.run (bytes_of (g.W.Sink.written l.trace)) (bytes_of (g.S.Source.left l.events));
+  moves : Moves (g.S.Source.given l.fn.events) (g.S.Source.given l.events) (g.S.Source.left l.fn.events) (g.S.Source.left l.events);
+  end : l.run.feed.ended ≡ true → g.S.Source.ended l.events ≡ true;
+  streams : (all rest : List ℕ) → g.S.Source.given l.fn.events ++ all ≡ g.S.Source.given l.events ++ rest → (l.run.feed.ended ≡ true → rest ≡ [])
+      → (d : Detail) (tells : Bool) (text : List ℕ) (whole : Reading) (old : List ℕ) → (IsTrue tells → IsKnown (g.W.Sink.written l.fn.trace))
+      → Streams d tells l.config text whole old l.fn.run (bytes_of (g.W.Sink.written l.fn.trace)) all
+      → Streams d tells l.config text whole old l.run (bytes_of (g.W.Sink.written l.trace)) rest;
 }
 
 abbrev pub decreases-loop-trace : goal.decreases-loop-trace
