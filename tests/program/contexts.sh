@@ -26,6 +26,7 @@ contexts() {
     unread_with_causes
     context_at_terminal
     configuration_from_a_pipe
+    text_from_a_pipe
     greatest_with_context
 }
 
@@ -80,6 +81,20 @@ configuration_from_a_pipe() {
     cat "$machine" > pipe.cfg &
     run 1 "$(as_file echo 1 P1 T1 tick taken)" "$(as_file printf '%s\n' 'fmpsim: events.txt: line 2: E3 unknown name' '  P1 act_tsk(T9)' \
         '             ^' '  expected: act_tsk(task)' "$task")" calls --context pipe.cfg events.txt
+    wait
+}
+
+# Another text from a pipe cannot be read twice either: its fault is told as one of standard input is. And a fault of the configuration is told while the pipe
+# is still open.
+text_from_a_pipe() {
+    mkfifo pipe.txt
+    cat events.txt > pipe.txt &
+    run 1 "$(as_file echo 1 P1 T1 tick taken)" "$(as_file printf '%s\n' 'fmpsim: pipe.txt: line 2: E3 unknown name' \
+        '  Use the name of an object of the configuration, or a constant.')" calls --context "$machine" pipe.txt
+    wait
+    sleep 900 > pipe.txt &
+    run 1 /dev/null "$(as_file echo fmpsim: number.cfg: line 3: F7 value out of range)" check number.cfg pipe.txt
+    kill $!
     wait
 }
 

@@ -1,7 +1,7 @@
 //! What is told of a fault: its line, why a file cannot be read, and with `--context` the place of a fault. For the place the events, scripts
 //! or trace are read once more; the configuration was kept, since it may come from a pipe.
 use crate::lines::{tell_placed, tell_plainly};
-use crate::texts::STANDARD_INPUT;
+use crate::texts::{STANDARD_INPUT, is_file};
 use fmp_cli::Paths;
 use fmp_cli_diagnostics::{LineForm, Spot};
 use fmp_cli_hints::{TextForm, text_advice, text_context, text_spot};
@@ -35,8 +35,12 @@ enum Found {
     Text(TextFault, Config, Vec<u8>),
 }
 
-/// A file, read up to a limit. There is none where it cannot be read, or is longer.
+/// A file, read up to a limit. There is none where it cannot be read, or is longer, and where there is no file but a pipe or a device, at which a second
+/// reader would wait for ever.
 pub fn whole<R: Files + AllocGlobal>(rt: &R, path: &str, limit: usize) -> Option<Vec<u8>> {
+    if !is_file(rt, path) {
+        return None;
+    }
     let file = fs::open(rt, path).ok()?;
     let text = read_up_to(rt.alloc(), &mut ReadSource::new(file), limit).ok()?;
     if text.len() <= limit {
@@ -69,9 +73,9 @@ fn text_fault(alloc: Global, form: TextForm, text: &[u8], config: &Config) -> Op
     }
 }
 
-/// Whether the other text came from standard input.
-fn is_input(paths: &Paths<'_>) -> bool {
-    paths.text == STANDARD_INPUT
+/// Whether the other text came from standard input or a pipe, so that it cannot be read once more.
+fn is_gone<R: Files>(rt: &R, paths: &Paths<'_>) -> bool {
+    paths.text == STANDARD_INPUT || !is_file(rt, paths.text)
 }
 
 /// The fault of the other text, where it can be read once more and has that still.
@@ -82,7 +86,7 @@ fn text_again<R: Files + AllocGlobal>(
     config: &[u8],
     fault: TextFault,
 ) -> Option<Found> {
-    if fault.kind == TextKind::Memory || fault.line == 0 || is_input(paths) {
+    if fault.kind == TextKind::Memory || fault.line == 0 || is_gone(rt, paths) {
         return None;
     }
     let config = read_config(rt.alloc(), config).ok()?;
@@ -148,12 +152,17 @@ fn beside(alloc: Global, form: TextForm, config: &[u8], found: &Found) -> Option
     }
 }
 
-/// What stands below a fault whose line cannot be shown: of a text from standard input, and of one that is too long.
-fn advice(alloc: Global, paths: &Paths<'_>, form: TextForm, fault: &RunFault) -> Option<Vec<u8>> {
+/// What stands below a fault whose line cannot be shown: of a text that cannot be read once more, and of one that is too long.
+fn advice<R: Files + AllocGlobal>(
+    rt: &R,
+    paths: &Paths<'_>,
+    form: TextForm,
+    fault: &RunFault,
+) -> Option<Vec<u8>> {
     match fault {
         RunFault::Text(fault) if fault.kind == TextKind::Memory => None,
-        RunFault::Text(fault) if fault.line == 0 || is_input(paths) => {
-            text_advice(alloc, fault.kind).ok()
+        RunFault::Text(fault) if fault.line == 0 || is_gone(rt, paths) => {
+            text_advice(rt.alloc(), fault.kind).ok()
         }
         _ => None,
     }
@@ -233,7 +242,7 @@ pub fn tell<R: Files + Eprint + AllocGlobal>(
     }
     let text = match &found {
         Some(found) => beside(rt.alloc(), telling.text, config, found),
-        None => advice(rt.alloc(), paths, telling.text, fault),
+        None => advice(rt, paths, telling.text, fault),
     };
     if let Some(text) = text {
         tell_beside(rt, text.as_slice());

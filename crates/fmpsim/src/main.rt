@@ -48,7 +48,7 @@ use std::process::ExitCode;
 use std::rt::{Clock, Env, Files};
 use std::sync::Wait;
 use std::thread::Threads;
-use texts::{STANDARD_INPUT, both_opened, config_alone, trace_read};
+use texts::{STANDARD_INPUT, both_opened, both_read, config_alone, trace_read};
 use values::{refused_number, tell_near_option};
 use words::{settle_context, words_of};
 
@@ -161,8 +161,7 @@ fn judged<R: Files + Input + Print + AllocGlobal>(
     asked: Asked,
 ) -> Result<Verdict, Ending> {
     let alloc = rt.alloc();
-    let (config, trace) = both_opened(rt, paths)?;
-    let mut trace = ReadSource::new(trace);
+    let (config, mut trace) = both_read(rt, paths)?;
     let mut sink = WriteSink::new(alloc, io::writer(rt))?;
     let run = judge(
         alloc,
@@ -213,8 +212,7 @@ fn explore<R: Files + Input + Print + Eprint + Clock + AllocGlobal>(
     if let Some(folder) = request.layer {
         layer::folder_made(rt, folder)?;
     }
-    let (config, scripts) = both_opened(rt, paths)?;
-    let mut scripts = ReadSource::new(scripts);
+    let (config, mut scripts) = both_read(rt, paths)?;
     let mut output = WriteSink::new(alloc, io::writer(rt))?;
     let run = search(
         alloc,
@@ -246,8 +244,7 @@ fn explore_forever<R: Files + Input + Print + Eprint + Clock + AllocGlobal>(
     line: &mut ProgressLine<'_, R>,
 ) -> Result<Status, Ending> {
     let alloc = rt.alloc();
-    let (config, scripts) = both_opened(rt, paths)?;
-    let mut scripts = ReadSource::new(scripts);
+    let (config, mut scripts) = both_read(rt, paths)?;
     let mut output = WriteSink::new(alloc, io::writer(rt))?;
     let run = search_forever(
         alloc,
@@ -275,9 +272,8 @@ fn explore_from<R: Files + Input + Print + Eprint + Clock + AllocGlobal>(
     if begun == STANDARD_INPUT && (paths.config == begun || paths.text == begun) {
         return Err(Ending::OneInput);
     }
-    let (config, scripts) = both_opened(rt, paths)?;
+    let (config, mut scripts) = both_read(rt, paths)?;
     let begun = trace_read(rt, begun)?;
-    let mut scripts = ReadSource::new(scripts);
     let mut output = WriteSink::new(alloc, io::writer(rt))?;
     let run = search_from(
         alloc,
@@ -379,8 +375,7 @@ fn shortened<R: Files + Input + Print + AllocGlobal>(
     request: &ShrinkRequest<'_>,
 ) -> Result<Status, Ending> {
     let alloc = rt.alloc();
-    let (config, events) = both_opened(rt, paths)?;
-    let mut events = ReadSource::new(events);
+    let (config, mut events) = both_read(rt, paths)?;
     let mut output = WriteSink::new(alloc, io::writer(rt))?;
     let run = shrink(
         alloc,

@@ -2,7 +2,7 @@
 ghost use Rattle.std.specs.Prelude.{◌-◌, ◌<◌, ◌^◌};
 
 use crate::output::{Ending, kept, settled_search};
-use crate::texts::both_opened;
+use crate::texts::both_read;
 use crate::waiting;
 use crate::waiting::Waiting;
 use fmp_cli::Paths;
@@ -10,12 +10,12 @@ use fmp_cli_colour::ColourSink;
 use fmp_cli_diagnostics::LineForm;
 use fmp_cli_runs::{Played, play, seek};
 use fmp_cli_table::{Seeds, SmpRequest};
-use fmp_run_events::{MemSource, ReadSource, Sink, Source, Status, WriteSink};
+use fmp_run_events::{MemSource, Sink, Source, Status, WriteSink};
 use fmp_run_explore::ExploreFault;
 use fmp_run_seeds::{SeedProgress, SeedSearch};
 use std::alloc::Global;
 use std::io;
-use std::io::{Input, Read};
+use std::io::Input;
 use std::rt::Files;
 use std::sync::Wait;
 use std::thread::Threads;
@@ -170,24 +170,24 @@ fn sought<R: Source, S: Source, W: Sink, P: SeedProgress>(
 }
 
 /// Writes the trace of what is asked for: of one run, or of the first of many that is looked for.
-fn made<R: AllocGlobal + Threads + Wait + Sync, S: Read + Drop, W: Sink, P: SeedProgress>(
+fn made<R: AllocGlobal + Threads + Wait + Sync, S: Source, W: Sink, P: SeedProgress>(
     rt: &R,
     config: &[u8],
-    scripts: S,
+    scripts: &mut S,
     trace: &mut W,
     request: &SmpRequest<'_>,
     progress: &mut P,
 ) -> Result<Outcome, ExploreFault>
-    requires { W.failures trace.old < 2 ^ 64 - 1 }
+    requires script_calls { S.failures scripts.old < 2 ^ 64 - 1 }
+    requires trace_calls { W.failures trace.old < 2 ^ 64 - 1 }
 {
     let alloc = rt.alloc();
     let mut config = MemSource::new(config);
-    let mut scripts = ReadSource::new(scripts);
     if let Seeds::Range(first, last) = request.seeds {
         return sought(
             alloc,
             &mut config,
-            &mut scripts,
+            scripts,
             trace,
             request,
             first,
@@ -195,7 +195,7 @@ fn made<R: AllocGlobal + Threads + Wait + Sync, S: Read + Drop, W: Sink, P: Seed
             progress,
         );
     }
-    let played = play(rt, alloc, &mut config, &mut scripts, trace, request)?;
+    let played = play(rt, alloc, &mut config, scripts, trace, request)?;
     Ok(Outcome::of_run(played))
 }
 
@@ -203,15 +203,16 @@ fn made<R: AllocGlobal + Threads + Wait + Sync, S: Read + Drop, W: Sink, P: Seed
 fn written<R, S, P>(
     rt: &R,
     config: &[u8],
-    scripts: S,
+    scripts: &mut S,
     request: &SmpRequest<'_>,
     coloured: bool,
     progress: &mut P,
 ) -> Result<Outcome, Ending>
 where
     R: Print + AllocGlobal + Threads + Wait + Sync,
-    S: Read + Drop,
+    S: Source,
     P: SeedProgress,
+    requires { S.failures scripts.old < 2 ^ 64 - 1 }
 {
     let mut trace = WriteSink::new(rt.alloc(), io::writer(rt))?;
     if coloured {
@@ -236,8 +237,9 @@ where
     R: Files + Input + Print + Eprint + AllocGlobal + Threads + Wait + Sync,
     P: SeedProgress,
 {
-    let (config, scripts) = both_opened(rt, paths)?;
-    match written(rt, config.as_slice(), scripts, request, coloured, progress) {
+    let (config, mut scripts) = both_read(rt, paths)?;
+    let config_text = config.as_slice();
+    match written(rt, config_text, &mut scripts, request, coloured, progress) {
         Ok(run) => {
             run.tell(rt, paths, form, config.as_slice());
             Ok(run.status)

@@ -1,10 +1,14 @@
 //! The texts that a run reads: a configuration, and beside it another text. One of them may come from standard input.
+ghost use Rattle.std.specs.Prelude.{◌≡◌, IfOk};
+ghost use Rattle.fmp_run_devices.specs.Either.{of_either};
+
 use crate::output::Ending;
 use fmp_cli::Paths;
-use fmp_config::MOST_BYTES as MOST_CONFIG_BYTES;
+use fmp_config::{MOST_BYTES as MOST_CONFIG_BYTES, read_config};
+use fmp_run_devices::{ReadFault, TextOr, TextSource};
 use fmp_run_events::{ReadSource, RunFault, read_up_to};
 use fmp_text::MOST_BYTES;
-use std::io::{Input, Read};
+use std::io::{ErrorKind, Input, Read};
 use std::rt::Files;
 use std::{fs, io};
 
@@ -16,14 +20,28 @@ pub const STANDARD_INPUT: &str = "-";
 pub enum Text<F, I> {
     File(F),
     Input(I),
+    /// What could not be read.
+    Unreadable,
 }
+
+/// A text for a run that reads it whole.
+pub type WholeText<F, I> = TextOr<ReadSource<Text<F, I>>>;
 
 impl<F: Read, I: Read> Read for Text<F, I> {
     fn read(&mut self, buffer: &mut [u8]) -> io::Result<usize> {
         match self {
             Text::File(file) => file.read(buffer),
             Text::Input(input) => input.read(buffer),
+            Text::Unreadable => Err(io::Error::from(ErrorKind::Other)),
         }
+    }
+}
+
+/// Whether there is a file of bytes at a path, and no pipe or device.
+pub fn is_file<R: Files>(rt: &R, path: &str) -> bool {
+    match fs::metadata(rt, path) {
+        Ok(kind) => kind.is_file(),
+        Err(_) => false,
     }
 }
 
@@ -92,4 +110,33 @@ pub fn both_opened<R: Files + Input + AllocGlobal>(
         Err(error) => return Err(Ending::NoText(error)),
     };
     Ok((config_read(rt, config)?, text))
+}
+
+/// Whether a configuration has a fault, so that a run over it wants no other text.
+fn is_refused<R: AllocGlobal>(rt: &R, config: &[u8]) -> bool {
+    read_config(rt.alloc(), config).is_err()
+}
+
+/// The configuration, read, and the other text for a run that reads it whole. That is read now: then its bytes are known, and what the run promises of such
+/// a text it promises of this one. Where it cannot be read, the run says so when it comes to it, behind a fault of the configuration. Standard input and a
+/// pipe may be long in coming: they are read only where the configuration has no fault, which is told at once.
+pub fn both_read<R: Files + Input + AllocGlobal>(
+    rt: &R,
+    paths: &Paths<'_>,
+) -> Result<(Vec<u8>, WholeText<R::File, R::Reader>), Ending>
+    ensures { IfOk result (λ both. of_either (λ _. 0) (λ source. source.failures) both.1 ≡ 0) }
+{
+    let alloc = rt.alloc();
+    let (config, text) = both_opened(rt, paths)?;
+    if !is_file(rt, paths.text) && is_refused(rt, config.as_slice()) {
+        return Ok((config, TextOr::Other(ReadSource::new(text))));
+    }
+    match read_up_to(alloc, &mut ReadSource::new(text), MOST_BYTES) {
+        Ok(text) => Ok((config, TextOr::Text(TextSource::new(alloc, text)))),
+        Err(ReadFault::Failed) => {
+            let unreadable = ReadSource::new(Text::Unreadable);
+            Ok((config, TextOr::Other(unreadable)))
+        }
+        Err(ReadFault::Memory) => Err(Ending::Fault(RunFault::Memory)),
+    }
 }
