@@ -20,6 +20,11 @@ is_file() {
     count "$well" "# $1 is $2"
 }
 
+# without_times FILE: in the place of each case's time, which is seconds with three digits after the point, stands T.
+without_times() {
+    sed -i -E 's/^(<testcase classname="fmpsim explore" name="[^"]*" time=")[0-9]+\.[0-9]{3}"/\1T"/' "$1"
+}
+
 # The answers of examples/explore-deadlock, each expected and not.
 answers_in_lines() {
     local folder=$top/examples/explore-deadlock words ci=$top/examples/explore-timeout
@@ -65,7 +70,8 @@ lines_beside_never() {
     "$program" "${words[@]}" > output 2>&1
     cat answers.txt beside.txt | cmp -s - output
     count "$([ $? = 0 ] && echo yes || echo no)" "${words[@]}" '# after all answers'
-    { printf '%s\n' 'TAP version 13' 1..5 && sed -E '=;s/^(ok|not ok) /\1 N - /' answers.txt | sed 'N;s/\(.*\)\n\(.*\) N /\2 \1 /'; } > answers.tap
+    printf '%s\n' 'TAP version 13' 1..5 'ok 1 - twice' '# never' 'ok 2 - plain' '# never' 'ok 3 - well' '# shown in 7 lines' 'not ok 4 - missed' '# never' \
+        'ok 5 - stays' '# never' > answers.tap
     run 5 answers.tap beside.txt "${words[@]}" --tap
     # what stays for ever and is not found has none
     printf '%s\n' 'ever never E_OK & E_OK for ever' > asked.txt
@@ -78,25 +84,31 @@ answers_in_other_forms() {
     words=(explore "$folder/machine.cfg" "$folder/scripts.txt" --ticks 0 --turns 4 --questions asked.txt)
     printf '%s\n' 'lock never end & waits sem' 'parameter never E_PAR' 'odd shown *<"'"'"'>* & *&*' 'well shown end & waits sem' > asked.txt
     printf '%s\n' 'not ok lock: shown in 4 lines' 'not known parameter: not within 4' 'not known odd: not within 4' 'ok well: shown in 4 lines' > answers.txt
-    printf '%s\n' 'TAP version 13' 1..4 'not ok 1 - lock: shown in 4 lines' 'not ok 2 - parameter: not within 4 # not known' \
-        'not ok 3 - odd: not within 4 # not known' 'ok 4 - well: shown in 4 lines' > answers.tap
+    printf '%s\n' 'TAP version 13' 1..4 'not ok 1 - lock' '# shown in 4 lines' 'not ok 2 - parameter' '# not known: not within 4' \
+        'not ok 3 - odd' '# not known: not within 4' 'ok 4 - well' '# shown in 4 lines' > answers.tap
     cat > answers.xml << 'END'
 <?xml version="1.0" encoding="UTF-8"?>
 <testsuite name="fmpsim explore" tests="4" failures="1" errors="2">
-<testcase classname="fmpsim explore" name="lock"><failure message="shown in 4 lines">end &amp; waits sem</failure></testcase>
-<testcase classname="fmpsim explore" name="parameter"><error message="not within 4">E_PAR</error></testcase>
-<testcase classname="fmpsim explore" name="odd"><error message="not within 4">*&lt;&quot;'&gt;* &amp; *&amp;*</error></testcase>
-<testcase classname="fmpsim explore" name="well"/>
+<testcase classname="fmpsim explore" name="lock" time="T"><failure message="shown in 4 lines">end &amp; waits sem</failure></testcase>
+<testcase classname="fmpsim explore" name="parameter" time="T"><error message="not within 4">E_PAR</error></testcase>
+<testcase classname="fmpsim explore" name="odd" time="T"><error message="not within 4">*&lt;&quot;'&gt;* &amp; *&amp;*</error></testcase>
+<testcase classname="fmpsim explore" name="well" time="T"/>
 </testsuite>
 END
     run 5 answers.tap /dev/null "${words[@]}" --tap
     rm -f told.xml
     run 5 answers.txt /dev/null "${words[@]}" --junit told.xml
+    without_times told.xml
     is_file told.xml answers.xml
     # written over where it was longer
     seq 1000 > told.xml
     run 5 answers.tap /dev/null "${words[@]}" --junit told.xml --tap
+    without_times told.xml
     is_file told.xml answers.xml
+    # no name changes where an answer does
+    grep -E '^(not )?ok ' answers.tap | sed 's/^not //' > names.txt
+    "$program" "${words[@]/%4/100}" --tap > output 2> errors
+    count "$(! grep -q 'not within' output && grep -E '^(not )?ok ' output | sed 's/^not //' | cmp -s names.txt - && echo yes || echo no)" '# the names are the same'
     python3 - told.xml << 'END'
 import sys, xml.etree.ElementTree as tree
 cases = {case.get("name"): case for case in tree.parse(sys.argv[1]).getroot()}
@@ -129,13 +141,20 @@ answers_in_time() {
     words=(explore "$folder/machine.cfg" "$folder/scripts.txt" --ticks any --drift 1000000 --turns 1000000 --places 20000000 --questions asked.txt)
     for patience in 2 20 200; do
         begun=$SECONDS
-        play "${words[@]}" --seconds "$patience"
+        play "${words[@]}" --seconds "$patience" --junit told.xml
         [ $? = 6 ] && lines=$(sed -n '1s/^not known first: not within \([0-9]*\)$/\1/p' output) && [ -n "$lines" ] && [ ! -s errors ] \
             && tail -n +2 output | cmp -s - "$(as_file printf '%s\n' 'not known second: not within 0' 'not known third: not within 0')" \
             && [ $((SECONDS - begun)) -lt $((patience + 300)) ] || break
         [ "$lines" = 0 ] || { well=yes && break; }
     done
     count "$well" "${words[@]}" --seconds "$patience"
+    # the first took all the time, the others nearly none
+    python3 - told.xml "$patience" << 'END'
+import sys, xml.etree.ElementTree as tree
+first, *others = (float(case.get("time")) for case in tree.parse(sys.argv[1]).getroot())
+sys.exit(not int(sys.argv[2]) - 1 < first < int(sys.argv[2]) + 300 or len(others) != 2 or max(others) > 0.5)
+END
+    count "$([ $? = 0 ] && echo yes || echo no)" '# the time of each question'
 }
 
 # at_fault LINE WORDS [WORD..]: the text on standard input has this fault there, and nothing is searched for or written.

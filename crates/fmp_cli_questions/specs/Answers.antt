@@ -1,5 +1,5 @@
 -- What is told of answers: a line of each, and all in one XML text.
-use Rattle.std.specs.Prelude.{ℕ, ◌+◌, ◌==◌, Bool, true, false, nat_lt, List, [], ◌∷◌, ◌++◌, length, decimal, if◌then◌else◌, codes}
+use Rattle.std.specs.Prelude.{ℕ, ◌+◌, ◌/◌, ◌%◌, ◌==◌, Bool, true, false, nat_lt, List, [], ◌∷◌, ◌++◌, length, decimal, if◌then◌else◌, codes}
 use Rattle.fmp_bytes.specs.Bytes.{quotation_mark}
 use Rattle.fmp_cli_questions.specs.Rows.{Row}
 use Rattle.fmp_cli_questions.specs.declared.rows.Expected.{Expected}
@@ -9,7 +9,7 @@ use Rattle.fmp_cli_questions.specs.declared.answers.Answer.TheVariants.{Never, S
 use Rattle.fmp_cli_questions.specs.declared.answers.Judgement.{Judgement}
 use Rattle.fmp_cli_questions.specs.declared.answers.Judgement.TheVariants.{Right, Wrong, Unknown}
 use Rattle.fmp_cli_questions.specs.declared.answers.Reply.{Reply}
-use Rattle.fmp_cli_questions.specs.declared.junit.TheConstants.{MESSAGE, CASE, FAILURES, ERRORS, END}
+use Rattle.fmp_cli_questions.specs.declared.junit.TheConstants.{MESSAGE, CASE, TIME, FAILURES, ERRORS, END}
 use Rattle.fmp_cli_questions.specs.declared.lines.TheConstants.{TAP}
 use Rattle.fmp_cli_questions.specs.declared.reading.RowKind.{RowKind}
 use Rattle.fmp_cli_questions.specs.declared.reading.RowKind.TheVariants.{Form, Twice, TooMany}
@@ -78,7 +78,7 @@ grade Unknown = codes "not known "
 abbrev pub plain_line : Reply → List ℕ
 plain_line reply = grade (judgement reply) ++ report reply ++ codes "\n"
 
--- the same in the form of TAP, where what is not known is not ok, with a comment
+-- the same in the form of TAP, where what is not known is not ok
 abbrev pub tap_head : ℕ → List ℕ
 tap_head count = counted TAP.now count ++ codes "\n"
 
@@ -87,13 +87,15 @@ tap_grade Right = codes "ok "
 tap_grade Wrong = codes "not ok "
 tap_grade Unknown = codes "not ok "
 
-abbrev pub tap_end : Judgement → List ℕ
-tap_end Right = codes "\n"
-tap_end Wrong = codes "\n"
-tap_end Unknown = codes " # not known\n"
+-- what stands between the name and the answer: the end of the line, and a comment, so that the name of a test never has its answer
+abbrev pub tap_comment : Judgement → List ℕ
+tap_comment Right = codes "\n# "
+tap_comment Wrong = codes "\n# "
+tap_comment Unknown = codes "\n# not known: "
 
 abbrev pub tap_line : ℕ → Reply → List ℕ
-tap_line number reply = counted (tap_grade (judgement reply)) number ++ codes " - " ++ report reply ++ tap_end (judgement reply)
+tap_line number reply =
+    counted (tap_grade (judgement reply)) number ++ codes " - " ++ reply.row.name ++ tap_comment (judgement reply) ++ words_of reply.answer ++ codes "\n"
 
 -- ---- all in an XML text, as JUnit has it
 
@@ -133,8 +135,13 @@ case_end Unknown reply = reason (codes "error") reply
 unfoldable pub named : List ℕ → List ℕ → List ℕ
 named words name = words ++ escaped name
 
+-- so many thousandths of a second, in seconds with three digits after the point
+unfoldable pub timed : ℕ → List ℕ
+timed thousandths =
+    counted TIME.now (thousandths / 1000) ++ codes "." ++ decimal (thousandths / 100 % 10) ++ decimal (thousandths / 10 % 10) ++ decimal (thousandths % 10)
+
 unfoldable pub case_of : Reply → List ℕ
-case_of reply = named CASE.now reply.row.name ++ case_end (judgement reply) reply
+case_of reply = named CASE.now reply.row.name ++ timed reply.thousandths ++ case_end (judgement reply) reply
 
 abbrev pub cases_of : List Reply → List ℕ
 cases_of [] = []

@@ -48,6 +48,8 @@ impl Judgement {
 pub struct Reply {
     pub row: Row,
     pub answer: Answer,
+    /// How many thousandths of a second its search took.
+    pub thousandths: u64,
 }
 
 /// Whether an answer is the one that is expected.

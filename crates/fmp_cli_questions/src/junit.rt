@@ -14,6 +14,9 @@ pub const MESSAGE: &[u8] = b" message=\"";
 /// What stands before the name of a case.
 pub const CASE: &[u8] = b"<testcase classname=\"fmpsim explore\" name=\"";
 
+/// What stands before the seconds that a case took.
+pub const TIME: &[u8] = b"\" time=\"";
+
 /// What stands before the number of those cases that are wrong.
 pub const FAILURES: &[u8] = b"\" failures=\"";
 
@@ -87,12 +90,26 @@ fn put_named(out: &mut Text, words: &[u8], name: &[u8])
     put_escaped(out, name);
 }
 
+/// Adds how long a case took, in seconds with three digits after the point.
+#[tactic(auto, unfolding(crate::specs::Answers::timed, crate::specs::Answers::counted))]
+fn put_time(out: &mut Text, thousandths: u64)
+    ensures { Adds (spec.timed thousandths) out.old out.new }
+{
+    out.put(TIME);
+    out.put_number(thousandths / 1000);
+    out.put_byte(b'.');
+    out.put_number(thousandths / 100 % 10);
+    out.put_number(thousandths / 10 % 10);
+    out.put_number(thousandths % 10);
+}
+
 /// Adds the case of an answer.
 #[tactic(auto, unfolding(crate::specs::Answers::case_of))]
 fn put_case(out: &mut Text, reply: &Reply)
     ensures { Adds (spec.case_of reply.now) out.old out.new }
 {
     put_named(out, CASE, reply.row.name());
+    put_time(out, reply.thousandths);
     put_case_end(out, reply);
 }
 

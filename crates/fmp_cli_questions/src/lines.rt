@@ -84,24 +84,26 @@ fn tap_grade(judgement: Judgement) -> &'static [u8]
     }
 }
 
-/// How it ends.
-fn tap_end(judgement: Judgement) -> &'static [u8]
-    ensures { result.now ≡ spec.tap_end judgement }
+/// What stands between the name of a question and its answer: the answer is a comment, since a name has to be the same in each run.
+fn tap_comment(judgement: Judgement) -> &'static [u8]
+    ensures { result.now ≡ spec.tap_comment judgement }
 {
     match judgement {
-        Judgement::Right | Judgement::Wrong => b"\n",
-        Judgement::Unknown => b" # not known\n",
+        Judgement::Right | Judgement::Wrong => b"\n# ",
+        Judgement::Unknown => b"\n# not known: ",
     }
 }
 
-/// The line of an answer in the form of TAP, which is that of this number, from 1. The error is want of memory.
+/// The lines of an answer in the form of TAP, which is that of this number, from 1. The error is want of memory.
 pub fn tap_line(alloc: Global, number: usize, reply: &Reply) -> Result<Vec<u8>, AllocError>
     ensures { IfOk result (λ line. line.items ≡ spec.tap_line number reply.now) }
 {
     let mut line = Text::new(alloc);
     put_counted(&mut line, tap_grade(reply.judgement()), number);
     line.put(b" - ");
-    put_reported(&mut line, reply);
-    line.put(tap_end(reply.judgement()));
+    line.put(reply.row.name());
+    line.put(tap_comment(reply.judgement()));
+    put_words(&mut line, reply.answer);
+    line.put_byte(b'\n');
     line.finish()
 }

@@ -84,33 +84,33 @@ impl<'a, R: Eprint + Clock> ProgressLine<'a, R> {
         Some(past.as_secs())
     }
 
+    /// How many thousandths of a second the run takes already. Where the clock says nothing there are none.
+    pub fn thousandths(&self) -> u64 {
+        let Some(begun) = self.begun else {
+            return 0;
+        };
+        match begun.elapsed(self.rt) {
+            Ok(past) => past
+                .as_secs()
+                .saturating_mul(1000)
+                .saturating_add(u64::from(past.subsec_millis())),
+            Err(_) => 0,
+        }
+    }
+
     /// Whether the run has taken as long as it may.
     fn has_ended(&mut self) -> bool
         ensures { result ≡ self.new.is_over }
     {
         if let Some(limit) = self.limit {
-            self.is_over = self.has_taken(limit);
+            self.is_over = self.thousandths() / 1000 >= limit;
         }
         self.is_over
     }
 
-    /// Whether the run takes so many seconds already. Where the clock says nothing it does not.
-    fn has_taken(&self, seconds: u64) -> bool {
-        let Some(begun) = self.begun else {
-            return false;
-        };
-        match begun.elapsed(self.rt) {
-            Ok(past) => past.as_secs() >= seconds,
-            Err(_) => false,
-        }
-    }
-
     /// Lets the run go on for as long as it has taken, or a few seconds, but no longer than it may take.
     pub fn allow_as_much(&mut self) {
-        let taken = match self.begun {
-            Some(begun) => begun.elapsed(self.rt).map_or(0, |past| past.as_secs()),
-            None => 0,
-        };
+        let taken = self.thousandths() / 1000;
         let most = taken.saturating_add(taken.max(LEAST_MORE));
         self.limit = Some(self.limit.map_or(most, |limit| limit.min(most)));
     }

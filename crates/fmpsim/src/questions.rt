@@ -334,8 +334,14 @@ fn replies_to<R: Files + Print + Eprint + Clock + AllocGlobal>(
     }
     let mut replies = Vec::new(alloc);
     for row in rows {
+        let begun = progress.thousandths();
         let (answer, outcome) = answered(rt, asking, texts, &row, progress)?;
-        let reply = Reply { row, answer };
+        let thousandths = progress.thousandths().saturating_sub(begun);
+        let reply = Reply {
+            row,
+            answer,
+            thousandths,
+        };
         let line = if asking.request.tap {
             tap_line(alloc, replies.len().saturating_add(1), &reply)?
         } else {
