@@ -12,7 +12,7 @@ contexts() {
     printf '%s\n' 'fmpsim: number.cfg: line 3: F7 value out of range' '  CLASS(C) { CRE_SEM(S, {TA_NULL, 0, 0}); }' \
         '                                     ^' '  expected: CRE_SEM(semid, {sematr | .., isemcnt, maxsem});' \
         '  sematr: TA_NULL TA_TFIFO TA_TPRI' '  maxsem: within 1 to 65535' '  isemcnt: within 0 to maxsem' \
-        '  Give a number within the range that `fmpsim list` shows, without leading zeros, or a name defined before.' > number.told
+        '  here: maxsem, which is out of its range' > number.told
     run 1 /dev/null number.told check number.cfg "$late/trace.txt" --context
     printf '1 P1 T1 tick taken' > cut.txt
     run 1 /dev/null "$(as_file printf '%s\n' 'fmpsim: cut.txt: line 1: E6 cut short' '  1 P1 T1 tick taken' '                    ^' \

@@ -8,10 +8,10 @@ pub const CLASS_BEGINNINGS: [&[u8]; 2] = [b"TCL_", b"CLS_"];
 /// How the words begin that say how a handler is told.
 pub const NOTICE_BEGINNINGS: [&[u8]; 2] = [b"TNFY_", b"TENFY_"];
 
-/// Statements of interrupts, exceptions and initialization, and directives that leave out lines.
-pub const PROJECT_NAMES: [&[u8]; 10] = [
+/// Statements of interrupts, exceptions and initialization, directives that leave out lines, and words that begin declarations of C.
+pub const PROJECT_NAMES: [&[u8]; 14] = [
     b"DEF_INH", b"DEF_EXC", b"CFG_INT", b"CRE_ISR", b"ATT_ISR", b"ATT_INI", b"ATT_TER", b"if",
-    b"ifdef", b"ifndef",
+    b"ifdef", b"ifndef", b"enum", b"typedef", b"extern", b"static",
 ];
 
 /// Whether a word is called as the classes are that a kernel brings with it.

@@ -27,7 +27,7 @@ pub use event::event_place;
 pub use excerpt::{put_excerpt, put_line};
 pub use hints::put_near;
 pub use laws::places_are_in_their_lines;
-pub use likeness::{Likeness, put_config_likeness, without_mark};
+pub use likeness::{Likeness, config_likeness, put_config_likeness, without_mark};
 pub use line::line_after;
 pub use rows::{foreign_words, report_of};
 pub use text::{TextForm, function_at, task_at, text_advice, text_context, text_spot};

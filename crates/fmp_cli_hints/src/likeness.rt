@@ -121,13 +121,25 @@ fn may_be_no_statement(kind: ConfigKind) -> bool {
     matches!(kind, ConfigKind::Syntax | ConfigKind::Unsupported)
 }
 
-/// Adds what a line of a configuration with such a fault looks like, where it looks like one of another text.
-pub fn put_config_likeness(out: &mut Text, kind: ConfigKind, line: &[u8]) {
+/// What a line of a configuration with such a fault looks like, where it looks like one of another text.
+pub fn config_likeness(kind: ConfigKind, line: &[u8]) -> Option<Likeness> {
     if !may_be_no_statement(kind) {
-        return;
+        return None;
     }
     match looks_like(line) {
-        Some(found) if !matches!(found, Likeness::Configuration) => out.put(report(found)),
-        _ => {}
+        Some(Likeness::Configuration) => None,
+        found => found,
+    }
+}
+
+/// What is told of another text where the configuration has to be.
+const FIRST: &[u8] =
+    b"  In the command line the configuration comes first, and this text after it.\n";
+
+/// Adds what a line of a configuration looks like.
+pub fn put_config_likeness(out: &mut Text, found: Likeness) {
+    out.put(report(found));
+    if !matches!(found, Likeness::Marked) {
+        out.put(FIRST);
     }
 }

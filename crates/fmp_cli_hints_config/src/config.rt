@@ -4,13 +4,16 @@ ghost use Rattle.fmp_config.specs.Limits.{most_bytes};
 
 use crate::foreign::{foreign_spot, put_numbered, words_at};
 use crate::hints::put_word_hint;
+use crate::numbers::is_numeric;
 use crate::opened::{end_of_text, is_misplaced, is_stray, missing_at};
 use crate::projects::put_project_line;
 use crate::statements::statement_at;
-use fmp_bytes::cut;
+use fmp_bytes::{Class, cut, is_identifier};
 use fmp_cli_diagnostics::Spot;
 use fmp_cli_help::{put_config_advice, put_statement};
-use fmp_cli_hints::{LABEL, line_after, put_config_likeness, put_excerpt, put_mark};
+use fmp_cli_hints::{
+    LABEL, Likeness, config_likeness, line_after, put_config_likeness, put_excerpt, put_mark,
+};
 use fmp_config::{ConfigFault, ConfigKind};
 use fmp_config_statements::StatementName;
 use fmp_out::Text;
@@ -119,6 +122,55 @@ fn put_fault(out: &mut Text, text: &[u8], fault: &ConfigFault)
     }
 }
 
+/// Whether a text begins with a sign by which C computes.
+fn begins_with_sign(text: &[u8]) -> bool {
+    match text {
+        [
+            b'+' | b'-' | b'*' | b'/' | b'%' | b'<' | b'>' | b'|' | b'&' | b'^',
+            ..
+        ] => true,
+        _ => false,
+    }
+}
+
+/// What is told of such a sign after a number.
+const COMPUTED: &[u8] =
+    b"  Nothing is computed: in place of 5+1 write 6, or a name whose `#define` says 6.\n";
+
+/// What is told of a sign after another word.
+const NAMED: &[u8] = b"  A name has letters, digits and `_`, and no other sign.\n";
+
+/// The last word of a text.
+fn last_word(text: &[u8]) -> &[u8] {
+    let words = text.trim_ascii_end();
+    match words.iter().rposition(|byte| !Class::Word.has(*byte)) {
+        Some(at) => &words[at + 1..],
+        None => words,
+    }
+}
+
+/// Whether a word of a name goes on with a sign that no name has.
+fn is_name_cut(word: &[u8], text: &[u8]) -> bool {
+    is_identifier(word) && (text.starts_with(b"-") || text.starts_with(b"."))
+}
+
+/// Adds the byte that is missing at a place, or where a number or a name goes on there with a sign that neither has.
+fn put_missing(out: &mut Text, text: &[u8], place: usize, byte: u8)
+    requires within { place ≤ length text.now }
+    requires few { length text.now ≤ most_bytes }
+{
+    let before = &text[..place];
+    let rest = &text[place..];
+    let word = last_word(before);
+    if begins_with_sign(rest) && is_numeric(before, word) {
+        out.put(COMPUTED);
+    } else if is_name_cut(word, rest) {
+        out.put(NAMED);
+    } else {
+        put_mark(out, byte);
+    }
+}
+
 /// Adds what is told of the token at fault, of what is missing there, or of a character that no token has.
 fn put_reported(
     alloc: Global,
@@ -133,7 +185,7 @@ fn put_reported(
         return Ok(());
     };
     match missing_at(text, place, fault.kind) {
-        Some((_name, byte)) => put_mark(out, byte),
+        Some((_name, byte)) => put_missing(out, text, place, byte),
         None => put_word_hint(alloc, out, text, place, fault)?,
     }
     Ok(())
@@ -148,22 +200,27 @@ fn report(alloc: Global, text: &[u8], fault: &ConfigFault) -> Result<Vec<u8>, Al
     out.finish()
 }
 
-/// Adds what is told of the token at fault, or else what to do about such a fault.
-fn put_reported_or_advice(out: &mut Text, report: &[u8], kind: ConfigKind) {
-    if report.is_empty() {
-        put_config_advice(out, kind);
-    } else {
-        out.put(report);
+/// What the line of this number looks like, where it has such a fault and looks like one of another text.
+fn likeness_at(text: &[u8], line: u32, kind: ConfigKind) -> Option<Likeness> {
+    if line == 0 {
+        return None;
     }
+    let (line, _after) = line_after(line - 1, text)?;
+    config_likeness(kind, line)
 }
 
-/// Adds what the line of this number looks like, where it has such a fault.
-fn put_likeness_at(out: &mut Text, text: &[u8], line: u32, kind: ConfigKind) {
-    if line == 0 {
-        return;
-    }
-    if let Some((line, _after)) = line_after(line - 1, text) {
-        put_config_likeness(out, kind, line);
+/// Adds what is told of the token at fault, and what its line looks like, or else what to do about such a fault.
+fn put_reported_or_advice(
+    out: &mut Text,
+    report: &[u8],
+    likeness: Option<Likeness>,
+    kind: ConfigKind,
+) {
+    out.put(report);
+    match likeness {
+        Some(found) => put_config_likeness(out, found),
+        None if report.is_empty() => put_config_advice(out, kind),
+        None => {}
     }
 }
 
@@ -180,8 +237,8 @@ pub fn config_context(
     let report = report(alloc, text, fault)?;
     let mut out = Text::new(alloc);
     put_fault(&mut out, text, fault);
-    put_reported_or_advice(&mut out, report.as_slice(), fault.kind);
-    put_likeness_at(&mut out, text, fault.line, fault.kind);
+    let likeness = likeness_at(text, fault.line, fault.kind);
+    put_reported_or_advice(&mut out, report.as_slice(), likeness, fault.kind);
     put_project_line(&mut out, text, fault);
     out.finish()
 }

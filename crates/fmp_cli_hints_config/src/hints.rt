@@ -11,7 +11,7 @@ use fmp_bytes::following;
 use fmp_cli_help::{is_left_out, near_attribute, near_statement, put_left_out, statement_word};
 use fmp_cli_hints::put_near;
 use fmp_config::{ConfigFault, ConfigKind};
-use fmp_config_statements::{Item, StatementName};
+use fmp_config_statements::{Item, StatementName, find_statement};
 use fmp_out::Text;
 use std::alloc::{AllocError, Global};
 
@@ -32,13 +32,53 @@ fn put_attribute_hint(
 const DIRECTIVE: &[u8] =
     b"  Let the C preprocessor do its part before: `cpp -P`, or `tools/from-toppers`.\n";
 
+/// What is told of a `#` that begins no directive.
+const COMMENT: &[u8] =
+    b"  A comment stands between `/*` and `*/`, or after `//` up to the end of its line.\n";
+
+/// What is told of a statement that stands for the second time.
+const ONCE: &[u8] = b"  It stands once: leave one of the two out.\n";
+
+/// The directives of the C preprocessor that are not read.
+pub const DIRECTIVES: [&[u8]; 11] = [
+    b"#if",
+    b"#ifdef",
+    b"#ifndef",
+    b"#elif",
+    b"#else",
+    b"#endif",
+    b"#undef",
+    b"#pragma",
+    b"#error",
+    b"#line",
+    b"#warning",
+];
+
+/// What is told of a word with a `#` before it.
+fn directive_words(word: &[u8]) -> &'static [u8] {
+    for directive in &DIRECTIVES {
+        if *directive == word {
+            return DIRECTIVE;
+        }
+    }
+    COMMENT
+}
+
+/// What is told of a statement of which there are too many.
+fn many_words(word: &[u8]) -> &'static [u8] {
+    match find_statement(word) {
+        Some(StatementName::Processors | StatementName::Timer | StatementName::Limits) => ONCE,
+        _ => b"",
+    }
+}
+
 /// What is to be done about a statement that is left out.
 const LEFT_OUT: &[u8] = b"  Leave the statement out, as `tools/from-toppers` does.\n";
 
 /// Adds that a name is left out, or the nearest statement to it, or what is to be done about a directive.
 fn put_statement_hint(alloc: Global, out: &mut Text, word: &[u8]) -> Result<(), AllocError> {
     if following(b'#', word).is_some() {
-        out.put(DIRECTIVE);
+        out.put(directive_words(word));
     } else if is_left_out(word) {
         out.put(b"  ");
         put_left_out(out, word);
@@ -54,6 +94,9 @@ fn written(item: Item) -> &'static [u8] {
     match item {
         Item::First | Item::Second | Item::Member => {
             b", a number or the name of one, without parentheses, sign or sum\n"
+        }
+        Item::Name | Item::Function => {
+            b", a name: a letter or `_`, then letters, digits and `_`, 64 bytes at most\n"
         }
         _ => b"\n",
     }
@@ -112,6 +155,7 @@ pub(crate) fn put_word_hint(
         ConfigKind::Unsupported => put_statement_hint(alloc, out, word)?,
         ConfigKind::UnknownClass => put_near(out, near_class(alloc, &text[..place], word)?),
         ConfigKind::OutOfRange => put_number_hint(out, text, place),
+        ConfigKind::TooMany => out.put(many_words(word)),
         _ => {}
     }
     Ok(())

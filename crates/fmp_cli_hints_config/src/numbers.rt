@@ -2,9 +2,12 @@
 ghost use Rattle.std.specs.Prelude.{◌≤◌, ◌<◌, ◌+◌, ◌^◌, length};
 ghost use Rattle.fmp_config.specs.Limits.{most_bytes};
 
+use crate::opened::item_in;
 use fmp_bytes::{Class, is_identifier, split_prefix};
-use fmp_config_statements::numeral;
+use fmp_cli_help::statement_word;
+use fmp_config_statements::{Item, StatementName, numeral};
 use fmp_config_tokens::{Lexer, Token, TokenKind};
+use fmp_names::is_processor_word;
 use fmp_out::Text;
 
 /// How much of `#define` stands right before a token.
@@ -80,14 +83,50 @@ fn put_name(out: &mut Text, line: Option<u32>) {
     }
 }
 
-/// Adds what is told of a word where a number has to stand.
-fn put_word(out: &mut Text, text: &[u8], word: &[u8])
+/// What is told of a processor's name.
+const PROCESSOR: &[u8] = b"  A processor is written as its number: 1 for P1.\n";
+
+/// What is told of a name whose `#define` stands after it.
+const LATER: &[u8] = b" comes later: a name is defined before it is used.\n";
+
+/// Adds that the name is defined in this line, which comes later, if there is one.
+fn put_later(out: &mut Text, line: Option<u32>) {
+    if let Some(line) = line {
+        out.put(b"  `#define` in line ");
+        out.put_number(u64::from(line));
+        out.put(LATER);
+    }
+}
+
+/// Adds what is told of a name where a number has to stand, before or after its `#define`.
+fn put_named(out: &mut Text, text: &[u8], place: usize, word: &[u8])
+    requires within { place ≤ length text.now }
+    requires few { length text.now ≤ most_bytes }
+{
+    let before = defined_line(&text[..place], word);
+    let anywhere = defined_line(text, word);
+    if before.is_none() && anywhere.is_some() {
+        put_later(out, anywhere);
+    } else if before.is_none() && is_processor_word(word) {
+        out.put(PROCESSOR);
+    } else {
+        put_name(out, before);
+    }
+}
+
+/// Whether a word stands for a number before a place: it is one, or has a `#define` there.
+pub(crate) fn is_numeric(text: &[u8], word: &[u8]) -> bool
     requires { length text.now + 1 < 2 ^ 32 }
 {
-    if is_identifier(word) {
-        put_name(out, defined_line(text, word));
-    } else if numeral(word).is_none() {
-        out.put(DIGITS);
+    numeral(word).is_some() || defined_line(text, word).is_some()
+}
+
+/// Adds which number is out of its range.
+fn put_field(out: &mut Text, item: Option<(StatementName, Item)>) {
+    if let Some((name, item)) = item {
+        out.put(b"  here: ");
+        out.put(statement_word(name, item));
+        out.put(b", which is out of its range\n");
     }
 }
 
@@ -97,5 +136,11 @@ pub(crate) fn put_number_hint(out: &mut Text, text: &[u8], place: usize)
     requires few { length text.now ≤ most_bytes }
 {
     let (word, _rest) = split_prefix(Class::Word, &text[place..]);
-    put_word(out, text, word);
+    if is_identifier(word) {
+        put_named(out, text, place, word);
+    } else if numeral(word).is_none() {
+        out.put(DIGITS);
+    } else {
+        put_field(out, item_in(&text[..place]));
+    }
 }
