@@ -6,13 +6,14 @@ ghost use Rattle.fmp_cli_hints.specs.Hints as spec;
 ghost use Rattle.fmp_cli_help.specs.Near.{nearest};
 ghost use Rattle.fmp_names.specs.Names.{names_of};
 
-use crate::rows::{CALL_ROWS, foreign_words, report_of};
+use crate::rows::{CALL_ROWS, JUMP_ROWS, foreign_words, report_of};
 use crate::wanted::Wanted;
 use crate::way::is_code;
 use fmp_bytes::{Class, spelled_number, split_prefix};
 use fmp_calls::find_call;
 use fmp_cli_help::{is_left_out, near_answer, near_call, nearer, put_left_out};
 use fmp_codes::{ArgumentKind, NameKind, ObjectKind};
+use fmp_names::is_processor_word;
 use fmp_out::Text;
 use fmp_text::{Names, is_name, value_at};
 use itoa::Buffer;
@@ -27,14 +28,82 @@ pub fn put_near(out: &mut Text, name: Option<&[u8]>) {
     }
 }
 
-/// Adds that a call is left out, or the nearest one to a word that is none.
-fn put_call_hint(alloc: Global, out: &mut Text, word: &[u8]) -> Result<(), AllocError> {
+/// Whether a word is a processor or the name of an object, as it stands before an event in a trace.
+fn is_maker(names: &Names, word: &[u8]) -> bool {
+    is_processor_word(word) || names.contains_object(word)
+}
+
+/// What is told of one where a line has none, after it.
+fn maker_words(wanted: Wanted) -> &'static [u8] {
+    match wanted {
+        Wanted::Step => {
+            b" is to be left out: a step of a script is the call alone, as `act_tsk(T1)`, and who runs the script makes it\n"
+        }
+        _ =>
+            b" is one word too many: an event is written as `P1 act_tsk(T1)`, and a line of a trace as `1 P1 T1 act_tsk(T2) E_OK`\n",
+    }
+}
+
+/// Adds a word with its words after it.
+fn put_reported(out: &mut Text, word: &[u8], words: &[u8]) {
+    out.put(b"  ");
+    out.put(word);
+    out.put(words);
+}
+
+/// Adds the nearest call to a word that is none, or that it would be a label.
+fn put_near_call(
+    alloc: Global,
+    out: &mut Text,
+    word: &[u8],
+    may_be_label: bool,
+) -> Result<(), AllocError> {
+    let near = near_call(alloc, word)?;
+    put_near(out, near);
+    if near.is_none() && may_be_label {
+        put_reported(out, word, b": would be a label, with its colon\n");
+    }
+    Ok(())
+}
+
+/// Adds what the row of a word that is no call says, or what is near.
+fn put_other_hint(
+    alloc: Global,
+    out: &mut Text,
+    word: &[u8],
+    may_be_label: bool,
+) -> Result<(), AllocError> {
+    let row = report_of(&CALL_ROWS, word);
+    out.put(row);
+    if row.is_empty() && is_name(word) && find_call(word).is_none() {
+        put_near_call(alloc, out, word, may_be_label)?;
+    }
+    Ok(())
+}
+
+/// What is told of a blank in the place of a word.
+const BLANK: &[u8] = b"  One blank stands between two words of a trace.\n";
+
+/// Adds what is told of a text in the place of a call: that a call is left out, that a word before it is to be left out, that a blank stands
+/// there, or what is near.
+fn put_call_hint(
+    alloc: Global,
+    out: &mut Text,
+    names: &Names,
+    wanted: Wanted,
+    text: &[u8],
+) -> Result<(), AllocError> {
+    let (word, rest) = split_prefix(Class::Word, text);
     if is_left_out(word) {
         out.put(b"  ");
         put_left_out(out, word);
-    } else if is_name(word) && find_call(word).is_none() {
-        out.put(report_of(&CALL_ROWS, word));
-        put_near(out, near_call(alloc, word)?);
+    } else if is_maker(names, word) {
+        put_reported(out, word, maker_words(wanted));
+    } else if text.starts_with(b" ") {
+        out.put(BLANK);
+    } else {
+        let may_be_label = matches!(wanted, Wanted::Step) && rest.is_empty();
+        put_other_hint(alloc, out, word, may_be_label)?;
     }
     Ok(())
 }
@@ -162,9 +231,14 @@ fn put_name_hint(
     kind: ArgumentKind,
     word: &[u8],
 ) -> Result<(), AllocError> {
-    match names.defined(word) {
-        Some(number) => put_defined_hint(out, names, kind, word, number),
-        None => put_near(out, near_argument(alloc, names, kind, word)?),
+    if let Some(number) = names.defined(word) {
+        put_defined_hint(out, names, kind, word, number);
+    } else if matches!(kind, ArgumentKind::Object(_)) && names.contains_object(word) {
+        put_reported(out, word, b" is of another kind\n");
+    } else if is_processor_word(word) {
+        out.put(b"  A processor is written as its number here: 1 for P1.\n");
+    } else {
+        put_near(out, near_argument(alloc, names, kind, word)?);
     }
     Ok(())
 }
@@ -206,6 +280,26 @@ fn put_code_hint(alloc: Global, out: &mut Text, word: &[u8]) -> Result<(), Alloc
     Ok(())
 }
 
+/// Whether another answer stands where `goto` has to.
+fn is_other_answer(text: &[u8], word: &[u8]) -> bool {
+    text.starts_with(b",") || word == b"or".as_slice() || is_code(word)
+}
+
+/// What is told of more than one answer.
+const ONE_ANSWER: &[u8] =
+    b"  One answer stands in a line: write `on E_OK goto a`, and below it `on E_TMOUT goto a`.\n";
+
+/// Whether a word begins an event.
+fn is_event(word: &[u8]) -> bool {
+    word == b"tick".as_slice() || word == b"ipi".as_slice() || find_call(word).is_some()
+}
+
+/// What is told of a trace that does not say who runs.
+const RUNNER: &[u8] = b"  `fmpsim check --partial` reads a trace that leaves it out.\n";
+
+/// What is told of a comment in a trace.
+const NO_COMMENT: &[u8] = b"  A trace has no comments: leave the line out.\n";
+
 /// Adds what is told of the word that begins the text at a place, where this is wanted.
 pub(crate) fn put_hint(
     alloc: Global,
@@ -216,13 +310,17 @@ pub(crate) fn put_hint(
 ) -> Result<(), AllocError> {
     let (word, _rest) = split_prefix(Class::Word, text);
     match wanted {
-        Wanted::Happening | Wanted::Step => put_call_hint(alloc, out, word)?,
+        Wanted::Happening | Wanted::Step => put_call_hint(alloc, out, names, wanted, text)?,
+        Wanted::Jumps => out.put(report_of(&JUMP_ROWS, word)),
+        Wanted::Runner if is_event(word) => out.put(RUNNER),
+        Wanted::LineNumber(_) if text.starts_with(b"#") => out.put(NO_COMMENT),
         Wanted::Argument(_, kind) => {
             let (word, _rest) = split_prefix(Class::Argument, text);
             put_argument_hint(alloc, out, names, kind, word)?;
         }
         Wanted::Function => put_function_hint(out, names, word),
         Wanted::Answered => put_code_hint(alloc, out, word)?,
+        Wanted::Goal if is_other_answer(text, word) => out.put(ONE_ANSWER),
         Wanted::LineByte | Wanted::PrintedByte => out.put(foreign_words(text)),
         _ => {}
     }

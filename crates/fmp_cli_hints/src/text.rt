@@ -88,7 +88,7 @@ fn whole_place<'a>(
         (TextForm::Events, _) => Ok(event_place(names, line)),
         (TextForm::Scripts, kind) => Ok(script_place(names, line, kind)),
         (TextForm::Trace, kind) => trace_place(alloc, names, fault.line, line, kind),
-        (TextForm::Partial, kind) => Ok(partial_place(line, kind)),
+        (TextForm::Partial, kind) => partial_place(alloc, names, fault.line, line, kind),
     }
 }
 

@@ -5,7 +5,7 @@ ghost use Rattle.fmp_bytes.specs.Bytes.{cut_at};
 
 use crate::walk::{Walk, after_name};
 use crate::wanted::Wanted;
-use fmp_bytes::{Class, cut, following, skip, split_prefix};
+use fmp_bytes::{Class, are_digits, cut, following, skip, split_prefix};
 use fmp_calls::{find_call, form};
 use fmp_codes::{Call, Event, NameKind, ObjectKind, Proc, Record};
 use fmp_text::{Names, TextKind, processor_in, read_call};
@@ -299,11 +299,62 @@ pub(crate) fn trace_place<'a>(
     }
 }
 
+/// Goes on over a word and the blank after it, where it passes, and else not at all.
+fn past<'a>(passes: bool, word: &[u8], text: &'a [u8]) -> &'a [u8] {
+    if passes && word.len() <= text.len() {
+        following(b' ', &text[word.len()..]).unwrap_or(text)
+    } else {
+        text
+    }
+}
+
+/// Goes on over all that stands before the event in a line that may leave out parts, with the blank after it.
+fn partly_headed<'a>(names: &Names, n: u32, line: &'a [u8]) -> Walk<'a> {
+    let (number, _after) = cut(b' ', line);
+    let counts = are_digits(10, number);
+    let walk = numbered(n, line);
+    if counts && walk.wanted().is_some() {
+        return walk;
+    }
+    let text = past(counts, number, line);
+    let (processor, _after) = cut(b' ', text);
+    if processor_in(names, processor).is_err() {
+        return Walk::stuck(text, Wanted::Processor);
+    }
+    let text = past(true, processor, text);
+    let (runner, _after) = cut(b' ', text);
+    Walk::going(past(is_runner(names, runner), runner, text))
+}
+
+/// How far a line that may leave out parts is printed so, up to its event. What stands after that is told as a whole.
+fn partial_line_place<'a>(
+    alloc: Global,
+    names: &Names,
+    n: u32,
+    line: &'a [u8],
+) -> Result<Walk<'a>, AllocError> {
+    let head = partly_headed(names, n, line);
+    if head.wanted().is_some() {
+        return Ok(head);
+    }
+    let event = happened(alloc, names, head.rest())?;
+    if event.wanted().is_some() {
+        return Ok(event);
+    }
+    Ok(Walk::stuck(event.rest(), Wanted::PartialLine))
+}
+
 /// Where a line of a trace that may leave out parts is at fault, by the kind of the fault.
-pub(crate) fn partial_place<'a>(line: &'a [u8], kind: TextKind) -> Walk<'a> {
+pub(crate) fn partial_place<'a>(
+    alloc: Global,
+    names: &Names,
+    n: u32,
+    line: &'a [u8],
+    kind: TextKind,
+) -> Result<Walk<'a>, AllocError> {
     match kind {
-        TextKind::BadByte => byte_place(skip(Class::Printed, line)),
-        TextKind::BadWord => Walk::stuck(line, Wanted::PartialLine),
-        _ => Walk::going(line),
+        TextKind::BadByte => Ok(byte_place(skip(Class::Printed, line))),
+        TextKind::BadWord => partial_line_place(alloc, names, n, line),
+        _ => Ok(Walk::going(line)),
     }
 }

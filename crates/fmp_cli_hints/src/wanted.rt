@@ -28,12 +28,16 @@ pub enum Wanted {
     Step,
     /// Labels and `goto`, which are all by which a script chooses and repeats.
     Jumps,
+    /// A line without a brace.
+    NoBrace,
     /// A call before a jump.
     JumpPlace,
     /// The answers of an `on`.
     Answered,
     /// The value of such an answer.
     AnsweredValue,
+    /// An answer as a whole, and no part of its value.
+    WholeAnswer,
     /// `goto` and a label.
     Goal,
     /// The name of a label.
@@ -84,6 +88,9 @@ fn script_words(wanted: Wanted) -> &'static [u8] {
         Wanted::Jumps => {
             b"labels and `goto`, which are all that a script has of the kind: `again:` before a call, and `on E_TMOUT goto again` or `goto again` after one\n"
         }
+        Wanted::NoBrace => {
+            b"a line without a brace: a script ends with `end`; `again:` before a call and `on E_TMOUT goto again` after it are all by which it chooses and repeats\n"
+        }
         Wanted::JumpPlace => {
             b"a call right before it, or another `on` of that call: `on` and `goto` say where a script goes on after a call\n"
         }
@@ -91,6 +98,9 @@ fn script_words(wanted: Wanted) -> &'static [u8] {
             b"an answer: a code, as `E_TMOUT`, a code and its value, as `E_OK:3`, or `refused`, which is each code but `E_OK`\n"
         }
         Wanted::AnsweredValue => b"a number of 64 bits with a sign, without a leading zero\n",
+        Wanted::WholeAnswer => {
+            b"a code alone, as `on E_OK goto a`, or with one value, as `on E_OK:3 goto a`: for a bit of a pattern a line for each value that has it, or `pol_flg(F1, 1, TWF_ORW)` and `on E_OK goto a`\n"
+        }
         Wanted::Goal => b"`goto` and the name of a label\n",
         Wanted::LabelName => {
             b"the name of a label: a letter or `_`, then letters, digits and `_`, but not `script`, `end`, `on`, `goto` or `ret_hdr`\n"

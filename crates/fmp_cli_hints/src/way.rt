@@ -40,10 +40,16 @@ pub(crate) fn is_code(word: &[u8]) -> bool {
     false
 }
 
-/// From a byte on that stands in no line of a script text: one of those with which C programs set variables and put statements together, or another.
-fn byte_place<'a>(text: &'a [u8]) -> Walk<'a> {
+/// From a byte on that stands in no line of a script text: one of those with which C programs set variables and put statements together, in a line
+/// with an answer one with which they look at a part of it, or another.
+fn byte_place<'a>(first: &[u8], text: &'a [u8]) -> Walk<'a> {
     match text {
-        [b'{' | b'}' | b'=', ..] => Walk::stuck(text, Wanted::Jumps),
+        [b'{' | b'}', ..] => Walk::stuck(text, Wanted::NoBrace),
+        [
+            b'&' | b'|' | b'+' | b'~' | b'<' | b'>' | b'=' | b'!' | b'*' | b'.',
+            ..
+        ] if first == b"on".as_slice() => { Walk::stuck(text, Wanted::WholeAnswer) }
+        [b'=', ..] => Walk::stuck(text, Wanted::Jumps),
         _ => barred(text),
     }
 }
@@ -73,7 +79,7 @@ pub(crate) fn barred_place<'a>(line: &'a [u8]) -> Walk<'a> {
     if rest.is_empty() {
         barred(skip(Class::Line, line))
     } else {
-        byte_place(rest)
+        byte_place(word, rest)
     }
 }
 
