@@ -24,6 +24,10 @@ const STAR: &[u8] = b"  `*` stands for the words between, as in `P1 * tick taken
 /// What is told of a word that begins with a bracket.
 const BRACKET: &[u8] = b"  A question has no brackets: `&` binds closer than `or`.\n";
 
+/// What is told of a word with a quotation mark.
+const QUOTATION: &[u8] =
+    b"  A question has no quotation marks of its own: those around it are for the shell, and in a text of questions there are none.\n";
+
 /// What is told of a release without its code.
 const RELEASE: &[u8] =
     b"  The code stands after the task: write `rel=T1:E_OK`, or `rel=T1:*` for any.\n";
@@ -66,6 +70,8 @@ fn is_numbered(word: &[u8]) -> bool {
 fn other_hint(word: &[u8]) -> &'static [u8] {
     if following(b'(', word).is_some() {
         BRACKET
+    } else if word.iter().any(|byte| *byte == b'"' || *byte == b'\'') {
+        QUOTATION
     } else if is_bare_release(word) {
         RELEASE
     } else if is_numbered(word) {

@@ -193,7 +193,7 @@ pub fn tell_cause<R: Files + Eprint>(rt: &R, path: &str) {
 }
 
 /// Tells what stands beside a fault.
-fn tell_beside<R: Eprint>(rt: &R, text: &[u8]) {
+pub fn tell_beside<R: Eprint>(rt: &R, text: &[u8]) {
     if let Ok(shown) = str::from_utf8(text) {
         let _ = eprint!(rt; "{shown}");
     }

@@ -7,9 +7,10 @@ use crate::texts::{STANDARD_INPUT, both_opened, text_read, trace_read};
 use crate::{beside, lines, unmade, unshown};
 use fmp_cli::Paths;
 use fmp_cli_explore::{ExploreRequest, FEW_TICKS};
+use fmp_cli_hints_question::row_context;
 use fmp_cli_questions::{
-    Answer, Judgement, Reply, Row, Rows, judgement_of, junit_text, plain_line, read_rows, tap_head,
-    tap_line,
+    Answer, Judgement, Reply, Row, RowKind, Rows, judgement_of, junit_text, plain_line, read_rows,
+    tap_head, tap_line,
 };
 use fmp_cli_runs::{search, search_forever};
 use fmp_config::Config;
@@ -178,6 +179,12 @@ fn misfits<R: Eprint + AllocGlobal>(
             fault.line,
             fault.words(),
         );
+        if asking.paths.context.is_some() && matches!(fault.kind, RowKind::Form) {
+            let line = u32::try_from(fault.line).unwrap_or(u32::MAX);
+            if let Ok(text) = row_context(alloc, texts.questions.as_slice(), line) {
+                beside::tell_beside(rt, text.as_slice());
+            }
+        }
         return Ok(Some(Status::Faulty));
     }
     Ok(None)
