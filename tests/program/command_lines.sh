@@ -128,10 +128,45 @@ numbers_expected() {
     near_option
 }
 
-# `-v` is no option, and `-V` is near.
+# told_last LINE WORD..: these words are refused, and this is the last line that is told.
+told_last() {
+    local well=no
+    play "${@:2}"
+    [ $? = 2 ] && [ "$(tail -n 1 errors)" = "  $1" ] && [ ! -s output ] && well=yes
+    count "$well" "${@:2}"
+}
+
+# `-v` is no option, and `-V` is near. Other options are those of another command, a question of several words has to be in quotation marks,
+# and no number has a sign.
 near_option() {
-    local near=no
-    play -v
-    [ $? = 2 ] && [ "$(tail -n 1 errors)" = '  near: -V, which prints the version' ] && [ ! -s output ] && near=yes
-    count "$near" -v
+    local texts=("$late/machine.cfg" "$spin/scripts.txt")
+    local sign='no number has a sign: the least is 0 for --ticks and --seed, and 1 for any other option'
+    local quoted="a question of several words stands in quotation marks: --find 'T1 waits'"
+    local orders='this goes with explore, which goes through every order' find='a question is asked by explore, by smp with `--seeds`, and by shrink'
+    local seeds='explore goes through every order, so that it has no seeds: smp has them' output='what is made goes to standard output: `> FILE` writes it into a file'
+    told_last 'near: -V, which prints the version' -v
+    told_last 'near: smp, which runs scripts, and calls, which plays events' simulate "${texts[@]}"
+    told_last 'near: smp, which runs scripts, and calls, which plays events' run "${texts[@]}"
+    told_last "$output" calls "${texts[@]}" -o trace.txt
+    told_last "$output" wave "${texts[@]}" --output=trace.vcd
+    told_last "$seeds" explore "${texts[@]}" --seed 3
+    told_last "$seeds" explore "${texts[@]}" --seeds=0..9
+    told_last '`--strict` goes with smp; explore tells with `--find deadlock` whether a task can wait for ever' explore "${texts[@]}" --strict
+    told_last "$orders" smp "${texts[@]}" --ticks 1 --turns 9 --questions asked.txt
+    told_last "$orders" smp "${texts[@]}" --ticks 1 --turns 9 --drift 2
+    told_last "$orders" smp "${texts[@]}" --ticks 1 --turns 9 --pace 2
+    told_last "$find" calls "${texts[@]}" --find end
+    told_last "$find" check "${texts[@]}" --find=end
+    told_last 'the events say where ticks come: `P1 tick`' calls "${texts[@]}" --ticks 3
+    told_last 'the state before the first line that differs is shown by `check --show`, all states by `calls --state`' check "${texts[@]}" --state
+    told_last '`--show` goes with check; the states are shown by `calls --state`' calls "${texts[@]}" --show
+    told_last 'the trace that is found is a text for `check`, `wave` and `view`, and `tools/from-trace` makes events of it for `calls --state`' \
+        explore "${texts[@]}" --state
+    told_last "$sign" explore "${texts[@]}" --ticks -1
+    told_last "$sign" smp "${texts[@]}" --ticks -1 --turns 5
+    told_last "$quoted" explore "${texts[@]}" --find T1 waits
+    told_last "$quoted" shrink "${texts[@]}" --find T1 waits
+    # of a line that is refused for something else nothing of this is told
+    play explore "${texts[@]}" --find 'T1 waits' --bogus
+    count "$(! grep -qE 'quotation|sign|near' errors && echo yes || echo no)" explore --bogus
 }

@@ -21,6 +21,7 @@ lists() {
         '  cyctim: within 1 to 2147483647' '  cycphs: within 0 to 2147483647')" /dev/null list CRE_CYC
     run 0 "$(as_file printf '%s\n' 'F10 no PROCESSORS line' '  Begin with `PROCESSORS(n);`.')" /dev/null list F10
     run 0 "$(as_file echo fmpsim has no ini_sem)" /dev/null list ini_sem
+    run 0 "$(as_file printf '%s\n' mutex '  There are none. A semaphore of at most 1 excludes as one does, but changes no priority: see `CRE_SEM`.')" /dev/null list mutex
     run 2 /dev/null "$(as_file echo fmpsim: nothing is called jump: see fmpsim list)" list jump
     unwritten list
     # each call, statement and fault has one line, and each call of the document has one
@@ -204,7 +205,8 @@ listed_texts() {
 listed_words() {
     local word each=yes
     for word in E_OK E_PAR E_ID E_CTX E_ILUSE E_OBJ E_QOVR E_RLWAI E_TMOUT wait spin gone idle held taken none rel lost run ipi tick latch \
-        ready running dormant empty locked disabled due suspended waits left pri act wup count pattern values free stopped end refused E9 TA_NULL TA_ACT TA_STA TA_TFIFO TA_TPRI TA_WSGL TA_WMUL TA_CLR TSK_SELF TPRI_SELF TPRI_INI TPRC_INI TMO_POL TMO_FEVR TWF_ANDW TWF_ORW; do
+        ready running dormant empty locked disabled due suspended waits left pri act wup count pattern values free stopped end refused E9 TA_NULL TA_ACT TA_STA TA_TFIFO TA_TPRI TA_WSGL TA_WMUL TA_CLR TSK_SELF TPRI_SELF TPRI_INI TPRC_INI TMO_POL TMO_FEVR TWF_ANDW TWF_ORW \
+        task semaphore eventflag alarm cyclic mutex interrupt; do
         play list "$word" && [ "$(head -n 1 output)" = "$word" ] && [ "$(grep -cE '^  .*\.$' output)" = 1 ] && [ "$(wc -l < output)" = 2 ] ||
             { each=no && echo "list $word"; }
     done

@@ -6,7 +6,7 @@ ghost use Rattle.std.specs.Str.{bytes_eq};
 use fmp_out::Text;
 
 /// Each word with what it means.
-pub const WORDS: [(&[u8], &[u8]); 59] = [
+pub const WORDS: [(&[u8], &[u8]); 66] = [
     // Answers.
     (
         b"E_OK",
@@ -199,6 +199,35 @@ pub const WORDS: [(&[u8], &[u8]); 59] = [
         b"A mode: all bits of the pattern have to be set.",
     ),
     (b"TWF_ORW", b"A mode: one bit of the pattern has to be set."),
+    // Of what there is, by its name.
+    (
+        b"task",
+        b"`CRE_TSK` creates one. Its calls are `act_tsk`, `slp_tsk`, `chg_pri` and others.",
+    ),
+    (
+        b"semaphore",
+        b"`CRE_SEM` creates one. Its calls are `wai_sem`, `twai_sem`, `pol_sem`, `sig_sem` and `isig_sem`.",
+    ),
+    (
+        b"eventflag",
+        b"`CRE_FLG` creates one. Its calls are `wai_flg`, `twai_flg`, `pol_flg`, `set_flg`, `iset_flg` and `clr_flg`.",
+    ),
+    (
+        b"alarm",
+        b"`CRE_ALM` creates one. Its calls are `sta_alm`, `msta_alm`, `stp_alm` and their forms for handlers.",
+    ),
+    (
+        b"cyclic",
+        b"`CRE_CYC` creates a cyclic handler. Its calls are `sta_cyc`, `msta_cyc` and `stp_cyc`.",
+    ),
+    (
+        b"mutex",
+        b"There are none. A semaphore of at most 1 excludes as one does, but changes no priority: see `CRE_SEM`.",
+    ),
+    (
+        b"interrupt",
+        b"There are no devices. The event `ipi` is an interrupt between processors, and an alarm stands for that of a device.",
+    ),
 ];
 
 /// What the first of these rows tells that has the word.

@@ -1,5 +1,57 @@
-//! The words of a command line that clap refuses, told in other words than clap's: numbers of `smp`, and an option that is nearly another.
+//! The words of a command line that clap refuses, told in other words than clap's: numbers of `smp`, options that are near or of another command, and
+//! questions without quotation marks.
 use clap::error::ErrorKind;
+
+/// What is told of a word of a command line that clap refuses: the command with which it stands, if it is about one, the word, and what is told.
+const WORDS: [(&str, &str, &str); 17] = [
+    ("", "-v", "near: -V, which prints the version"),
+    ("", "run", RUNS),
+    ("", "simulate", RUNS),
+    ("", "-o", OUTPUT),
+    ("", "--output", OUTPUT),
+    ("explore", "--seed", SEEDS),
+    ("explore", "--seeds", SEEDS),
+    (
+        "explore",
+        "--strict",
+        "`--strict` goes with smp; explore tells with `--find deadlock` whether a task can wait for ever",
+    ),
+    ("smp", "--questions", ORDERS),
+    ("smp", "--drift", ORDERS),
+    ("smp", "--pace", ORDERS),
+    ("calls", "--find", FIND),
+    ("check", "--find", FIND),
+    (
+        "calls",
+        "--ticks",
+        "the events say where ticks come: `P1 tick`",
+    ),
+    (
+        "check",
+        "--state",
+        "the state before the first line that differs is shown by `check --show`, all states by `calls --state`",
+    ),
+    (
+        "calls",
+        "--show",
+        "`--show` goes with check; the states are shown by `calls --state`",
+    ),
+    (
+        "explore",
+        "--state",
+        "the trace that is found is a text for `check`, `wave` and `view`, and `tools/from-trace` makes events of it for `calls --state`",
+    ),
+];
+
+const RUNS: &str = "near: smp, which runs scripts, and calls, which plays events";
+
+const OUTPUT: &str = "what is made goes to standard output: `> FILE` writes it into a file";
+
+const SEEDS: &str = "explore goes through every order, so that it has no seeds: smp has them";
+
+const ORDERS: &str = "this goes with explore, which goes through every order";
+
+const FIND: &str = "a question is asked by explore, by smp with `--seeds`, and by shrink";
 
 /// An option with a number, which has to be within a range.
 #[derive(Clone, Copy)]
@@ -29,7 +81,7 @@ const NUMBERS: [NumberOption; 3] = [
 ];
 
 /// The value of an option that is no number within its range.
-#[derive(Clone, Copy)]
+#[derive(Drop)]
 pub struct WrongNumber<'a> {
     option: NumberOption,
     value: &'a str,
@@ -81,9 +133,40 @@ pub fn refused_number<'a>(words: &'a [String], error: &clap::Error) -> Option<Wr
         .find_map(|option| wrong_number(words, *option))
 }
 
-/// Tells the option that is near where the words ask for one that is not there: `-V` in place of `-v`.
+/// Tells what is known of a word that may be refused, of a line with this command.
+fn tell_word<R: Eprint>(rt: &R, command: &str, word: &str) {
+    let (name, _value) = word.split_once('=').unwrap_or((word, ""));
+    for (with, other, told) in &WORDS {
+        if name == *other && (with.is_empty() || command == *with) {
+            let _ = eprintln!(rt; "  {told}");
+        }
+    }
+    if let [b'-', digit, ..] = word.as_bytes()
+        && digit.is_ascii_digit()
+    {
+        let _ = eprintln!(rt;
+            "  no number has a sign: the least is 0 for --ticks and --seed, and 1 for any other option"
+        );
+    }
+}
+
+/// Tells what is known of the words of a line that is refused: of an option that is near, or is another command's, and of a question of several
+/// words without quotation marks.
 pub fn tell_near_option<R: Eprint>(rt: &R, words: &[String]) {
-    if words.iter().any(|word| word.as_str() == "-v") {
-        let _ = eprintln!(rt; "  near: -V, which prints the version");
+    let command = match words {
+        [_, command, ..] => command.as_str(),
+        _ => "",
+    };
+    for (index, word) in words.iter().enumerate() {
+        tell_word(rt, command, word.as_str());
+        if word.as_str() == "--find" && index > 3 {
+            if let Some(next) = words.get(index.saturating_add(2))
+                && !next.as_str().starts_with('-')
+            {
+                let _ = eprintln!(rt;
+                    "  a question of several words stands in quotation marks: --find 'T1 waits'"
+                );
+            }
+        }
     }
 }
