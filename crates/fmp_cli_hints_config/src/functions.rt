@@ -98,7 +98,7 @@ fn put_script_hint(
 }
 
 /// The place, from 0, of the first of these tasks that has the function of this number.
-fn place_with(tasks: &[TaskSetup], number: usize) -> Option<usize>
+pub(crate) fn place_with(tasks: &[TaskSetup], number: usize) -> Option<usize>
     ensures { IfSome result (λ i. i < length tasks.now) }
 {
     for (index, task) in tasks.iter().enumerate() {

@@ -2,6 +2,7 @@
 //! answer `never` may say less than it seems to.
 use crate::progress::ProgressLine;
 use fmp_cli_explore::Bounds;
+use fmp_cli_hints_config::{is_misplaced, put_misplaced};
 use fmp_codes::{Event, NameKind, Proc};
 use fmp_names::Names;
 use fmp_run_explore::{Extent, Finding, Met, Orders, Outcome, Progress, is_made};
@@ -18,14 +19,15 @@ const SOON: u32 = 4;
 // How many positions of a script are looked at: a script has no more steps.
 const POSITIONS: u32 = 256;
 
-/// Puts one call: which of its script it is, and its text.
+/// Puts one call: which of its script it is, its text, and where it is refused what to write.
 fn put_call_line(
     out: &mut Vec<u8>,
     alloc: Global,
     orders: Orders<'_>,
-    function: u8,
-    position: u32,
+    place: (u8, u32),
+    is_refused: bool,
 ) -> Result<(), AllocError> {
+    let (function, position) = place;
     let names = orders.config.names();
     if let Some(call) = orders.scripts.step(Some(function), position) {
         let number = position.saturating_add(1);
@@ -33,6 +35,9 @@ fn put_call_line(
         put_name(out, names, function)?;
         out.extend_from_slice(b": ")?;
         put_event(out, names, Event::Call(Proc::new(1), call))?;
+        if is_refused {
+            put_misplaced(alloc, out, call)?;
+        }
     }
     Ok(())
 }
@@ -43,31 +48,35 @@ fn put_name(out: &mut Vec<u8>, names: &Names, function: u8) -> Result<(), AllocE
     out.extend_from_slice(name.unwrap_or(b"?"))
 }
 
-/// Adds the calls of a function's script that have no mark.
-fn add_unmade(
+/// Adds the calls of a function's script that have no mark, or without marks those that are always refused.
+fn add_calls(
     calls: &mut Vec<(u8, u32)>,
     orders: Orders<'_>,
-    met: &Met,
+    met: Option<&Met>,
     function: u8,
 ) -> Result<(), AllocError> {
     for position in 0..POSITIONS {
-        let is_there = orders.scripts.step(Some(function), position).is_some();
-        if is_there && !is_made(met, function, position) {
+        let is_one = match (orders.scripts.step(Some(function), position), met) {
+            (None, _) => false,
+            (Some(_), Some(met)) => !is_made(met, function, position),
+            (Some(call), None) => is_misplaced(orders.config, function, call),
+        };
+        if is_one {
             calls.push((function, position))?;
         }
     }
     Ok(())
 }
 
-/// The calls of all scripts that have no mark: each its function and its position.
-fn unmade_calls(
+/// The calls of all scripts that have no mark, or without marks those that are always refused: each its function and its position.
+fn calls_without(
     alloc: Global,
     orders: Orders<'_>,
-    met: &Met,
+    met: Option<&Met>,
 ) -> Result<Vec<(u8, u32)>, AllocError> {
     let mut calls = Vec::new(alloc);
     for function in 0..=u8::MAX {
-        add_unmade(&mut calls, orders, met, function)?;
+        add_calls(&mut calls, orders, met, function)?;
     }
     Ok(calls)
 }
@@ -82,24 +91,32 @@ fn tell_call<R: Eprint>(rt: &R, asked: &str, call: &str, within: Option<u32>) {
     };
 }
 
-/// Tells of the first of these calls, and how many more there are.
+/// Tells of the first of these calls that they are always refused, or that no order makes them where there are marks, and how many more there are.
 fn tell_calls<R: Eprint + AllocGlobal>(
     rt: &R,
     asked: &str,
     orders: Orders<'_>,
     calls: &[(u8, u32)],
-    within: Option<u32>,
+    met: Option<&Met>,
+    turns: u32,
 ) -> Result<(), AllocError> {
-    for (function, position) in calls.iter().take(MOST_CALLS) {
+    for place in calls.iter().take(MOST_CALLS) {
         let mut line = Vec::new(rt.alloc());
-        put_call_line(&mut line, rt.alloc(), orders, *function, *position)?;
-        if let Ok(call) = str::from_utf8(line.as_slice()) {
-            tell_call(rt, asked, call, within);
+        put_call_line(&mut line, rt.alloc(), orders, *place, met.is_none())?;
+        let call = str::from_utf8(line.as_slice()).unwrap_or("");
+        match met {
+            None => {
+                let _ = eprintln!(rt; "fmpsim: {asked}: {call}");
+            }
+            Some(met) => tell_call(rt, asked, call, if met.whole { None } else { Some(turns) }),
         }
     }
     let more = calls.len().saturating_sub(MOST_CALLS);
     if more > 0 {
-        let _ = eprintln!(rt; "fmpsim: {asked}: nor {more} more calls of the scripts");
+        let _ = match met {
+            None => eprintln!(rt; "fmpsim: {asked}: and {more} more calls of the scripts"),
+            Some(_) => eprintln!(rt; "fmpsim: {asked}: nor {more} more calls of the scripts"),
+        };
     }
     Ok(())
 }
@@ -116,17 +133,16 @@ pub fn tell_extent<R: Eprint>(rt: &R, asked: &str, extent: Extent, all: bool) {
     };
 }
 
-/// Tells of the calls that have no mark.
-fn tell_met<R: Eprint + AllocGlobal>(
+/// Tells of the calls that have no mark, or without marks of those that are always refused.
+fn tell_without<R: Eprint + AllocGlobal>(
     rt: &R,
     asked: &str,
     orders: Orders<'_>,
-    met: &Met,
+    met: Option<&Met>,
     turns: u32,
 ) -> Result<(), AllocError> {
-    let calls = unmade_calls(rt.alloc(), orders, met)?;
-    let within = if met.whole { None } else { Some(turns) };
-    tell_calls(rt, asked, orders, calls.as_slice(), within)
+    let calls = calls_without(rt.alloc(), orders, met)?;
+    tell_calls(rt, asked, orders, calls.as_slice(), met, turns)
 }
 
 /// Whether the search used up the room for places, and that for the calls would, too. A question of one step without `without` lets both go through the same places.
@@ -155,7 +171,7 @@ fn all_met_soon<P: Progress>(
     let Some(met) = orders.made(alloc, progress, soon, bounds.places)? else {
         return Ok(None);
     };
-    let is_all = unmade_calls(alloc, orders, &met)?.is_empty();
+    let is_all = calls_without(alloc, orders, Some(&met))?.is_empty();
     Ok(is_all.then_some(met))
 }
 
@@ -173,7 +189,8 @@ fn calls_met<P: Progress>(
     }
 }
 
-/// Tells which calls of the scripts no order makes, beside a question that no order shows. It says nothing that is not found in time.
+/// Tells which calls of the scripts are always refused, and which no order makes, beside a question that no order shows. It says nothing that is not
+/// found in time.
 pub fn tell_calls_unmade<R: Eprint + Clock + AllocGlobal>(
     rt: &R,
     asked: &str,
@@ -182,13 +199,14 @@ pub fn tell_calls_unmade<R: Eprint + Clock + AllocGlobal>(
     bounds: Bounds,
     progress: &mut ProgressLine<'_, R>,
 ) {
+    let _ = tell_without(rt, asked, orders, None, bounds.turns);
     if Progress::is_over(progress) {
         return;
     }
     let found = calls_met(rt.alloc(), orders, extent, bounds, progress);
     Progress::end(progress);
     if let Ok(Some(met)) = found {
-        let _ = tell_met(rt, asked, orders, &met, bounds.turns);
+        let _ = tell_without(rt, asked, orders, Some(&met), bounds.turns);
     }
 }
 
