@@ -32,7 +32,7 @@ traces_and_questions() {
     printf '1 P1 T1 tick taken\n2 P1 T1 tack taken\n' > word.txt
     run 1 /dev/null "$(as_file echo word.txt:2:9: error: E2 bad word)" check --all "$machine" word.txt --diagnostics=gcc
     run 1 /dev/null "$(as_file echo word.txt:2:9: error: E2 bad word)" wave "$machine" word.txt --diagnostics=gcc
-    run 1 /dev/null "$(as_file echo word.txt:2:1: error: E2 bad word)" check --partial "$machine" word.txt --diagnostics=gcc
+    run 1 /dev/null "$(as_file echo word.txt:2:9: error: E2 bad word)" check --partial "$machine" word.txt --diagnostics=gcc
     run 1 /dev/null "$(as_file echo '--find:1:10: error: E2 bad word')" shrink "$machine" "$late/events.txt" --find 'tick then' --diagnostics=gcc
 }
 
