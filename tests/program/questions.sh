@@ -8,6 +8,7 @@ questions() {
     answers_not_known
     answers_in_time
     lines_that_are_wrong
+    beside_lines_that_are_wrong
     questions_that_are_wrong
     options_beside_questions
     questions_unread_and_unwritten
@@ -189,6 +190,31 @@ lines_that_are_wrong() {
     # a comment may have any bytes
     printf '#\xff\xfe\na never end\n' > asked.txt
     run 0 "$(as_file echo 'ok a: never')" /dev/null "${words[@]}"
+}
+
+# beside_line LINE TOLD: with --context the line stands below its fault, and this below it.
+beside_line() {
+    printf 'fine never end\n%s\n' "$1" > asked.txt
+    run 1 /dev/null "$(as_file printf '%s\n' 'fmpsim: asked.txt: line 2: expected a name, never or shown, and a question' "  $1" "  $2")" \
+        explore idle.cfg none.txt --ticks 0 --turns 5 --questions asked.txt --context
+}
+
+# With --context it is told what to write in the place of a line that is none, and nothing more of another fault.
+beside_lines_that_are_wrong() {
+    local name='The name is missing, which comes first: write `no-error never E_PAR`.'
+    local three='Write a name, `never` or `shown`, which is the answer that is expected, and a question: `no-error never E_PAR`.'
+    printf 'PROCESSORS(1);\n' > idle.cfg
+    : > none.txt
+    beside_line 'never end' "$name"
+    beside_line '  shown E_OK then end' "$name"
+    beside_line 'a: never end' 'A name has no `:` after it: write `no-error never E_PAR`.'
+    beside_line 'a "never end"' "$three"
+    beside_line 'sig_sem(S) E_QOVR' "$three"
+    printf 'fine never end\r\nb\r\n' > asked.txt
+    run 1 /dev/null "$(as_file printf '%s\n' 'fmpsim: asked.txt: line 2: expected a name, never or shown, and a question' '  b' "  $three")" \
+        explore idle.cfg none.txt --ticks 0 --turns 5 --questions asked.txt --context
+    printf 'fine never end\nfine shown end\n' > asked.txt
+    run 1 /dev/null "$(as_file echo 'fmpsim: asked.txt: line 2: an earlier line has this name')" explore idle.cfg none.txt --ticks 0 --turns 5 --questions asked.txt --context
 }
 
 # The fault of a question is that of --find, with its line, and its byte counts in the question. As compilers tell it the column counts in the line.
