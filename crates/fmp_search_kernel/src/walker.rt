@@ -314,6 +314,13 @@ impl<'a> Walker<'a> {
         Some(event)
     }
 
+    /// The kernel where it stands.
+    pub fn kernel(&self) -> &Kernel
+        ensures { result.now ≡ self.now.place.machine }
+    {
+        &self.kernel
+    }
+
     /// What the last event was told to have done.
     pub fn made(&self) -> &Record
         ensures { result.now ≡ self.now.made }

@@ -1,0 +1,10 @@
+use Rattle.std.proofs.Common.{◌≡◌, subst}
+use Rattle.fmp_run_most.specs.Gauged.{Gauging, gauged, origin_at}
+use Rattle.fmp_run_most.proofs.Gauging.{origin_kept}
+use Rattle.fmp_run_most.proofs.gauge.GaugeSpace.another.Goals as goal
+
+pub returns : goal.returns
+returns c =
+    let s = c.self.inside in
+    let v = c.in_ok-another.field-0.place in
+    subst (λ (x : Gauging). origin_at (gauged s.figures.now s.bounds.now v) ≡ origin_at x.place) c.self.view_is (origin_kept s.figures.now s.bounds.now s.walker.place v c.in_ok-another.ensures)

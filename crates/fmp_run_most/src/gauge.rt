@@ -1,0 +1,142 @@
+//! One who goes through all orders and tells of each event which figure is beyond its bound after it.
+ghost use Rattle.std.specs.Prelude.{◌≡◌, ◌≤◌, length, IfOk, false};
+ghost use Rattle.fmp_search_orders.specs.Places as places;
+ghost use Rattle.fmp_run_most.specs.Gauged as spec;
+
+use crate::figure::{Figure, is_beyond, value};
+use fmp_rules::Config;
+use fmp_search::Space;
+use fmp_search_kernel::Walker;
+use fmp_search_orders::Rules;
+use fmp_search_pattern::Question;
+use fmp_step_words::Views;
+use fmp_text_scripts::Scripts;
+use std::alloc::AllocError;
+use std::marker::Model;
+
+/// How many numbers a figure may have.
+pub(crate) const SPAN: u32 = 65536;
+
+/// Which figure is the first that is beyond its bound in a state, and its number there.
+fn number_beyond<M: Views>(machine: &M, figures: &[Figure], bounds: &[u16]) -> u64
+    requires gauged { (length figures.now ≤ 1024) × (length bounds.now ≡ length figures.now) }
+    ensures { result ≡ spec.first_beyond (M.world machine.now) figures.now bounds.now 0 }
+{
+    for at in 0..figures.len() {
+        let number = value(machine, figures[at]);
+        if is_beyond(figures[at].measure, bounds[at], number) {
+            return at as u64 * u64::from(SPAN) + u64::from(number);
+        }
+    }
+    figures.len() as u64 * u64::from(SPAN)
+}
+
+/// One who stands at a place. Nothing is looked for.
+#[derive(Drop)]
+pub struct Gauge<'a> {
+    walker: Walker<'a>,
+    figures: &'a [Figure],
+    bounds: &'a [u16],
+}
+
+impl<'a> Model for Gauge<'a> {
+    ghost use Rattle.std.specs.Prelude.{◌≡◌, ◌≤◌, length};
+    ghost use Rattle.fmp_run_most.specs.Gauged.{Gauging, gauged};
+
+    ghost Value = { Gauging };
+
+    ghost view = { λ g. record { place = gauged g.figures.now g.bounds.now g.walker.place; left = g.walker.left } };
+
+    ghost invariant = { λ g. (length g.figures.now ≤ 1024) × (length g.bounds.now ≡ length g.figures.now) };
+}
+
+impl<'a> Gauge<'a> {
+    /// One where all runs begin.
+    pub fn new(
+        config: &'a Config,
+        scripts: &'a Scripts,
+        rules: Rules,
+        none: &'a Question,
+        figures: &'a [Figure],
+        bounds: &'a [u16],
+    ) -> Result<Gauge<'a>, AllocError>
+        requires gauged { (length figures.now ≤ 1024) × (length bounds.now ≡ length figures.now) }
+        ensures { IfOk result (λ g. g.place ≡ spec.gauged figures.entry.now bounds.entry.now
+            (places.origin config.entry.now scripts.entry.now rules none.entry.now)) }
+    {
+        Ok(Gauge {
+            walker: Walker::new(config, scripts, rules, none)?,
+            figures,
+            bounds,
+        })
+    }
+}
+
+impl<'a> Space for Gauge<'a> {
+    ghost Place = { spec.Gauged };
+
+    ghost place = { λ g. g.place };
+
+    ghost origin = { λ g. spec.origin_at g.place };
+
+    ghost after = { spec.gauged_after };
+
+    ghost wanted = { λ w. false };
+
+    ghost passes = { spec.gauged_passes };
+
+    ghost room = { λ g. g.left };
+
+    fn another(&self) -> Result<Self, AllocError> {
+        Ok(Gauge {
+            walker: self.walker.another()?,
+            figures: self.figures,
+            bounds: self.bounds,
+        })
+    }
+
+    fn restart(&mut self) -> Result<(), AllocError> {
+        self.walker.restart()
+    }
+
+    fn may_go(&self, step: u8) -> bool {
+        self.walker.may_go(step)
+    }
+
+    fn go(&mut self, step: u8) -> Result<bool, AllocError> {
+        self.walker.go(step)
+    }
+
+    fn watch(&mut self, step: u8, _closed: &mut u64) -> Result<Option<u64>, AllocError> {
+        if !self.walker.go(step)? {
+            return Ok(None);
+        }
+        let machine = self.walker.kernel().machine();
+        Ok(Some(number_beyond(machine, self.figures, self.bounds)))
+    }
+
+    fn again(&mut self, step: u8) {
+        self.walker.again(step);
+    }
+
+    fn copy_from(&mut self, other: &Self) -> Result<(), AllocError> {
+        self.walker.copy_from(&other.walker)
+    }
+
+    fn steps(&self) -> u8 {
+        self.walker.steps()
+    }
+
+    fn is_wanted(&self) -> bool {
+        false
+    }
+
+    /// The figures and their bounds are the same: the runs of both begin at the same place.
+    fn is_same(&self, other: &Self) -> bool {
+        self.walker.is_same(&other.walker)
+    }
+
+    fn hash(&self) -> u64 {
+        self.walker.hash()
+    }
+}
