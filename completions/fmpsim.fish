@@ -38,6 +38,7 @@ complete -c fmpsim -n __fish_use_subcommand -f -a explore -d 'Goes through every
 complete -c fmpsim -n '__fish_seen_subcommand_from explore' -l ticks -x -d 'How many ticks each processor takes at most, 0 to 1000000, or else any'
 complete -c fmpsim -n '__fish_seen_subcommand_from explore' -l turns -x -d 'How many lines the orders have at most, 1 to 1000000, or else 1000000'
 complete -c fmpsim -n '__fish_seen_subcommand_from explore' -l find -x -d 'What is looked for in the orders, or else whether a task can wait for ever'
+complete -c fmpsim -n '__fish_seen_subcommand_from explore' -l most -d 'Tells how far counts, queues and waits go in all orders, and asks nothing'
 complete -c fmpsim -n '__fish_seen_subcommand_from explore' -l prompt -d 'Takes each interrupt before the next call of its processor, as smp does'
 complete -c fmpsim -n '__fish_seen_subcommand_from explore' -l drift -x -d 'How many ticks more than another a processor may have taken, 1 to 1000000'
 complete -c fmpsim -n '__fish_seen_subcommand_from explore' -l pace -x -d 'How many ticks a processor takes at most before it does what it can, 1 to 1000000'

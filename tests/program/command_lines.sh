@@ -82,6 +82,14 @@ refused_lines() {
 	explore machine.cfg scripts.txt --ticks any --turns 1 --find end --drift 0
 	explore machine.cfg scripts.txt --ticks any --turns 1 --find end --places 0
 	explore machine.cfg scripts.txt --ticks any --turns 1 --find end --places 100000001
+	explore machine.cfg scripts.txt --most --find end
+	explore machine.cfg scripts.txt --most --from trace.txt
+	explore machine.cfg scripts.txt --most --layer begun
+	explore machine.cfg scripts.txt --most --questions machine.cfg
+	explore machine.cfg scripts.txt --most --tap
+	explore machine.cfg scripts.txt --most --junit all.xml
+	explore machine.cfg scripts.txt --most --traces begun
+	explore machine.cfg scripts.txt --most --most
 	END
     while IFS= read -r line; do
         read -ra words <<< "$line"

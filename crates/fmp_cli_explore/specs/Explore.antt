@@ -13,7 +13,7 @@ use Rattle.fmp_cli_explore.specs.declared.ExploreRequest.{ExploreRequest}
 abbrev pub explore_line : App
 explore_line = line_of (codes "explore") (
     path_rule (codes "CFG") ∷ path_rule (codes "SCRIPTS") ∷ value_rule (codes "ticks") ∷ value_rule (codes "turns") ∷ value_rule (codes "find")
-    ∷ flag_rule (codes "prompt") ∷ value_rule (codes "drift") ∷ value_rule (codes "pace") ∷ flag_rule (codes "spurious")
+    ∷ flag_rule (codes "most") ∷ flag_rule (codes "prompt") ∷ value_rule (codes "drift") ∷ value_rule (codes "pace") ∷ flag_rule (codes "spurious")
     ∷ value_rule (codes "places") ∷ value_rule (codes "from") ∷ value_rule (codes "layer") ∷ value_rule (codes "seconds")
     ∷ value_rule (codes "questions") ∷ flag_rule (codes "tap") ∷ value_rule (codes "junit") ∷ value_rule (codes "traces")
     ∷ flag_rule (codes "progress") ∷ flag_rule (codes "context") ∷ [])
@@ -63,6 +63,7 @@ pub record Asks (rows : List Row) (r : ExploreRequest) : Type 0 where
   pub scripts : r.scripts.now ≡ text_of (codes "SCRIPTS") rows
   pub question : IsQuestion (first_of (codes "find") rows) r.question.now
   pub find : option_map (λ t. t.now) r.find ≡ first_of (codes "find") rows
+  pub most : IsFlag (one_of (codes "most") rows) r.most
   pub ticks : IsTickLimit (first_of (codes "ticks") rows) r.ticks
   pub says_ticks : r.says_ticks ≡ is_some (first_of (codes "ticks") rows)
   pub prompt : IsFlag (one_of (codes "prompt") rows) r.prompt
@@ -89,8 +90,13 @@ has_conflict_of_one r =
     (r.tap || (is_some r.junit || is_some r.traces))
     || ((is_some r.from && is_some r.layer) || (is_lasting r.question.now && (is_some r.ticks || (is_some r.from || is_some r.layer))))
 
--- and of any request: many questions are those of their text, and each is asked of all orders
+-- a question, or what it is asked of that are not all orders
+abbrev pub asks_more : ExploreRequest → Bool
+asks_more r = is_some r.find || (is_some r.from || is_some r.layer)
+
+-- and of any request: where it is told how far everything goes there is no question and no answer to one. Many questions are those of their text, and each is asked
+-- of all orders
 abbrev pub has_conflict : ExploreRequest → Bool
 has_conflict r =
-    if is_some r.questions then (is_some r.find || (is_some r.from || is_some r.layer))
-    else has_conflict_of_one r
+    if r.most then ((is_some r.questions || asks_more r) || (r.tap || (is_some r.junit || is_some r.traces)))
+    else (if is_some r.questions then asks_more r else has_conflict_of_one r)

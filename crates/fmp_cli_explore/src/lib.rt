@@ -74,6 +74,13 @@ of them, and where all say `never`, no order does. No file is written over.
 On standard output is the trace of a shortest order that shows it, `never`, or `not within N`: no
 order of at most N lines does. With --seconds N the search ends after N seconds and says that.
 
+With `--most` there is no question: for each thing a line tells how far it goes in any order, or at boot.
+`P1 ready=2` is the most tasks that are ready besides the one that runs, `T act=0 wup=1` the most
+queued activations and wakeups, `S count=0..2 of 4 waits=1` the least count, the greatest, the limit,
+and the most tasks that wait, `D values=3 of 8 sdtq=0 rdtq=1` the most values and those that wait to
+send and to receive, and `M free=1 of 4 waits=0` the fewest free blocks. Where not all orders were gone
+through, each line ends with `at least`, and the status is 6.
+
 With `--questions FILE` each question of a text is searched for, one after the other. A line of it is
 `NAME never QUESTION` or `NAME shown QUESTION`, with the answer that is expected; `#` begins a line
 that says nothing. For each there is a line when its answer is known: `ok NAME: never`,
@@ -83,7 +90,7 @@ With --tap these lines are in the form of TAP. --junit FILE has all of them in o
 there. All questions are judged before the first search.
 
 Exit status:
-  0  never; or each of --questions is ok
+  0  never; or each of --questions is ok; or --most is known of all orders
   1  a fault in a text, in the question or in TRACE, reported on standard error with its place
   2  the command line is wrong
   3  a file could not be read, or the output not be written
@@ -98,6 +105,9 @@ const TWO_BEGINNINGS: &str = "--layer writes traces for --from, and does not go 
 
 const ONE_QUESTION: &str =
     "--questions has questions of its own, each of them about all orders: neither --find nor --from nor --layer goes with it";
+
+const MOST_ALONE: &str =
+    "--most asks nothing, and is told of all orders: none of --find, --from, --layer, --questions, --tap, --junit and --traces goes with it";
 
 const NO_QUESTIONS: &str = "--tap, --junit and --traces go with --questions alone";
 
@@ -132,6 +142,11 @@ const PARTS: &[Part<'static>] = &[
         id: "find",
         form: Form::Value("QUESTION"),
         about: "What is looked for in the orders, or else whether a task can wait for ever",
+    },
+    Part {
+        id: "most",
+        form: Form::Flag,
+        about: "Tells how far counts, queues and waits go in all orders, and asks nothing",
     },
     Part {
         id: "prompt",
@@ -208,6 +223,8 @@ pub struct ExploreRequest<'a> {
     pub question: &'a str,
     /// The same, where something is said.
     pub find: Option<&'a str>,
+    /// Whether it is told how far everything goes, and nothing is looked for.
+    pub most: bool,
     /// How many ticks each processor takes at most. Without it any number.
     pub ticks: Option<u32>,
     /// Whether the command line says something of ticks.
@@ -268,6 +285,7 @@ fn request_of<'a>(matches: &ArgMatches<'a>) -> Option<ExploreRequest<'a>>
     let scripts = text_in(matches, "SCRIPTS");
     let find = option_in(matches, "find");
     let question = question_in(find);
+    let most = flag_in(matches, "most");
     let limit = option_in(matches, "ticks");
     let ticks = tick_limit_in(limit)?;
     let says_ticks = limit.is_some();
@@ -291,6 +309,7 @@ fn request_of<'a>(matches: &ArgMatches<'a>) -> Option<ExploreRequest<'a>>
         scripts,
         question,
         find,
+        most,
         ticks,
         says_ticks,
         prompt,
@@ -337,10 +356,18 @@ fn conflict_of_one(request: &ExploreRequest<'_>) -> Option<&'static str>
 fn conflict_in(request: &ExploreRequest<'_>) -> Option<&'static str>
     ensures { is_some result ≡ has_conflict request.now }
 {
+    let asks = request.find.is_some() || request.from.is_some() || request.layer.is_some();
+    if request.most {
+        let answers = request.tap || request.junit.is_some() || request.traces.is_some();
+        if request.questions.is_some() || asks || answers {
+            return Some(MOST_ALONE);
+        }
+        return None;
+    }
     if request.questions.is_none() {
         return conflict_of_one(request);
     }
-    if request.find.is_some() || request.from.is_some() || request.layer.is_some() {
+    if asks {
         return Some(ONE_QUESTION);
     }
     None

@@ -29,7 +29,7 @@ use fmp_cli_colour::ColourSink;
 use fmp_cli_diagnostics::{LineForm, line_form, without_option};
 use fmp_cli_explore::ExploreRequest;
 use fmp_cli_hints::TextForm;
-use fmp_cli_runs::{answer, judge, search, search_forever, search_from, shrink};
+use fmp_cli_runs::{answer, judge, search, search_forever, search_from, search_most, shrink};
 use fmp_cli_shrink::ShrinkRequest;
 use fmp_cli_table::SmpRequest;
 use fmp_run_events::{MemSource, ReadSource, RunFault, Status, WriteSink, run_life};
@@ -236,8 +236,8 @@ fn explore<R: Files + Input + Print + Eprint + Clock + AllocGlobal>(
     Ok(outcome.finding.status())
 }
 
-/// Writes whether something that the request asks stays for ever in an order of what scripts ask, and tells from which line on.
-fn explore_forever<R: Files + Input + Print + Eprint + Clock + AllocGlobal>(
+/// Writes how far everything goes in the orders of what scripts ask, or whether something that the request asks stays for ever in one, and tells from which line on.
+fn explore_all<R: Files + Input + Print + Eprint + Clock + AllocGlobal>(
     rt: &R,
     paths: &Paths<'_>,
     request: &ExploreRequest<'_>,
@@ -246,6 +246,17 @@ fn explore_forever<R: Files + Input + Print + Eprint + Clock + AllocGlobal>(
     let alloc = rt.alloc();
     let (config, mut scripts) = both_read(rt, paths)?;
     let mut output = WriteSink::new(alloc, io::writer(rt))?;
+    if request.most {
+        let run = search_most(
+            alloc,
+            &mut MemSource::new(config.as_slice()),
+            &mut scripts,
+            &mut output,
+            request,
+            line,
+        );
+        return kept(settled(run, output.is_closed()), config);
+    }
     let run = search_forever(
         alloc,
         &mut MemSource::new(config.as_slice()),
@@ -353,8 +364,8 @@ fn explored<R: Files + Input + Print + Eprint + Clock + AllocGlobal>(
     let run = match (request.questions, request.from) {
         (Some(file), _) => questions::asked(rt, &paths, telling, request, file, &mut progress),
         (None, Some(begun)) => explore_from(rt, &paths, request, begun, &mut progress),
-        (None, None) if is_lasting(request.question.as_bytes()) => {
-            explore_forever(rt, &paths, request, &mut progress)
+        (None, None) if request.most || is_lasting(request.question.as_bytes()) => {
+            explore_all(rt, &paths, request, &mut progress)
         }
         (None, None) => explore(rt, &paths, request, &mut progress),
     };
@@ -563,12 +574,6 @@ fn uncoloured<R: Eprint>(rt: &R) -> Status {
     Status::Usage
 }
 
-/// Tells that the word after `--diagnostics` is none of those for it.
-fn unformed<R: Eprint>(rt: &R) -> Status {
-    let _ = eprintln!(rt; "fmpsim: --diagnostics: expected plain or gcc, as in --diagnostics=gcc");
-    Status::Usage
-}
-
 /// How a run of processors that follow scripts ends the program. A fault is told.
 fn scripted<R: Env + Files + Input + Print + Eprint + Clock + AllocGlobal + Threads + Wait + Sync>(
     rt: &R,
@@ -602,14 +607,6 @@ fn scripted<R: Env + Files + Input + Print + Eprint + Clock + AllocGlobal + Thre
     replied(rt, &paths, telling, request.find.unwrap_or(""), run)
 }
 
-/// What the text is of which this is asked.
-fn traced_form(asked: Asked) -> TextForm {
-    match asked {
-        Asked::Partial => TextForm::Partial,
-        _ => TextForm::Trace,
-    }
-}
-
 /// Does what the words ask for, at standard output and standard error that are terminals or not. Fault lines have this form.
 fn execute<R: Env + Files + Input + Print + Eprint + Clock + AllocGlobal + Threads + Wait + Sync>(
     rt: &R,
@@ -636,7 +633,10 @@ fn execute<R: Env + Files + Input + Print + Eprint + Clock + AllocGlobal + Threa
         },
         Ok(Request::Trace(paths, asked)) => {
             let run = trace(rt, &paths, asked, line);
-            let text = traced_form(asked);
+            let text = match asked {
+                Asked::Partial => TextForm::Partial,
+                _ => TextForm::Trace,
+            };
             ended(rt, &paths, Telling { line, text }, run)
         }
         Ok(Request::Save(paths)) => ended(rt, &paths, events, saved(rt, &paths)),
@@ -665,7 +665,10 @@ fn run<R: Env + Files + Input + Print + Eprint + Clock + AllocGlobal + Threads +
         Ok(mut words) => {
             let line = line_form(words.as_slice());
             if line == LineForm::Other {
-                return unformed(rt);
+                let _ = eprintln!(rt;
+                    "fmpsim: --diagnostics: expected plain or gcc, as in --diagnostics=gcc"
+                );
+                return Status::Usage;
             }
             without_option(&mut words);
             let settled = settle_context(rt.alloc(), &mut words, line, is_reported_at_terminal);

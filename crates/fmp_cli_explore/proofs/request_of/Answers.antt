@@ -13,6 +13,7 @@ returns c = record {
   scripts = c.text_in-scripts.ensures;
   question = subst (λ (o : Option (List ℕ)). IsQuestion o c.question_in-question.result.now) c.option_in-find.ensures c.question_in-question.ensures;
   find = c.option_in-find.ensures;
+  most = c.flag_in-most.ensures;
   ticks = subst (λ (o : Option (List ℕ)). IsTickLimit o c.in_ok-ticks.ticks) c.option_in-limit.ensures c.in_ok-ticks.ensures;
   says_ticks = c.is_some-says_ticks.ensures ∙ some_mapped _ c.option_in-limit.result ∙ ap is_some c.option_in-limit.ensures;
   prompt = c.flag_in-prompt.ensures;
