@@ -10,7 +10,7 @@ use Rattle.fmp_cli_table.specs.Parts.{choice_rule, flag_rule, line_of, name_rule
 use Rattle.fmp_cli_table.specs.Smp.{Asks, colour_by, found_in}
 use Rattle.fmp_cli_table.specs.declared.colours.Colour.{Colour}
 use Rattle.fmp_cli_explore.specs.Explore as explore
-use Rattle.fmp_cli_shrink.specs.Shrink as shrink
+use Rattle.fmp_cli_explore.specs.Shrink.Shrink as shrink
 use Rattle.fmp_cli.specs.declared.Asked.{Asked}
 use Rattle.fmp_cli.specs.declared.Asked.TheVariants.{Waveform}
 use Rattle.fmp_cli.specs.declared.Paths.{Paths}

@@ -11,9 +11,10 @@ ghost use Rattle.fmp_cli.specs.Flags.{asked_by, form_by, is_path, page_by, repor
 
 use clap::error::ErrorKind;
 use clap::{Arg, ArgAction, ArgMatches, Command, Error};
-use fmp_cli_explore::{ExploreRequest, explore_command, parse_explore};
+use fmp_cli_explore::{
+    ExploreRequest, ShrinkRequest, explore_command, parse_explore, parse_shrink, shrink_command,
+};
 use fmp_cli_hints::TextForm;
-use fmp_cli_shrink::{ShrinkRequest, parse_shrink, shrink_command};
 pub use fmp_cli_table::Colour;
 use fmp_cli_table::{
     COLOUR_PART, CONFIG_PART, CONTEXT_PART, EVENTS_PART, Form, Part, SmpRequest, Title, colour_of,

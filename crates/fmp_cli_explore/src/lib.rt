@@ -1,4 +1,4 @@
-//! The command line of `fmpsim explore`.
+//! The command lines of the commands that ask a question: `fmpsim explore` here, and `fmpsim shrink` in [`shrink`].
 //!
 //! [`parse_explore`] says which part of a request is what clap finds under which name in the words of a command line (`specs/Explore`). Its
 //! numbers are read here, since `--ticks` takes a word too; they are in their ranges by the request's type. How the help and the texts
@@ -12,6 +12,7 @@ ghost use Rattle.fmp_cli_explore.specs.Explore.{Asks, IsPlaces, IsTurns, explore
 
 mod bounds;
 mod numbers;
+mod shrink;
 
 use crate::numbers::{bound_in, places_in, question_in, tick_limit_in, turns_in};
 pub use bounds::Bounds;
@@ -22,6 +23,7 @@ use fmp_cli_table::{
     option_in, text_in,
 };
 use fmp_search_question::is_lasting;
+pub use shrink::{ShrinkRequest, parse_shrink, shrink_command};
 use std::alloc::{AllocError, Global};
 
 const ABOUT: &str = "Goes through every order of what scripts ask, and answers a question";

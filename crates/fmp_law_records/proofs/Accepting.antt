@@ -29,7 +29,7 @@ use Rattle.fmp_law_balance.specs.Accepted.{is_accepted}
 use Rattle.fmp_law_balance.proofs.Steps.{report}
 use Rattle.fmp_law_waits.proofs.Events.{by_event}
 use Rattle.fmp_law_waits.proofs.Named.{task_known}
-use Rattle.fmp_law_counts.proofs.Tasks.{named_or_caller_is}
+use Rattle.fmp_law_records.proofs.counts.Tasks.{named_or_caller_is}
 use Rattle.fmp_law_records.specs.Suspensions.{is_overflow}
 use Rattle.fmp_law_records.specs.Lives.{queued_count}
 use Rattle.fmp_law_records.specs.Accepting.{TaskReported, is_about, suits, is_full, is_wakeup, is_unsuited, AnswerFits, TaskCallFits}

@@ -12,7 +12,7 @@ use Rattle.fmp_rules.specs.Step.{step, replay, answers}
 use Rattle.fmp_rules.specs.Boot.{booted}
 use Rattle.fmp_law_safety.specs.Runs.{AreOn}
 use Rattle.fmp_law_waits.specs.Asked.{OpenWait}
-use Rattle.fmp_law_counts.proofs.Ready.{ready_after}
+use Rattle.fmp_law_records.proofs.counts.Ready.{ready_after}
 use Rattle.fmp_law_records.specs.Accepting.{report_task, TaskCallFits}
 use Rattle.fmp_law_records.proofs.TaskRuns.{suspension_from_boot}
 use Rattle.fmp_law_records.proofs.LivesRuns.{life_from_boot}

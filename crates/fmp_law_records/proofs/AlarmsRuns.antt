@@ -24,10 +24,10 @@ use Rattle.fmp_law_safety.specs.Runs.{AreOn}
 use Rattle.fmp_law_waits.specs.Waits.{OpenWaits, nobody_waits, after_record, is_tick_for}
 use Rattle.fmp_law_waits.proofs.Events.{by_event}
 use Rattle.fmp_law_balance.specs.Accepted.{is_accepted}
-use Rattle.fmp_law_counts.specs.Alarms.{starts_alarm, stops_alarm, alarm_time, without_tick, alarm_left_after, alarm_left_by}
-use Rattle.fmp_law_counts.proofs.HandlersRuns.{alarms_timed, clocks_step, clock_started, clock_running}
-use Rattle.fmp_law_counts.proofs.Sparing.{Clock}
-use Rattle.fmp_law_counts.proofs.Ready.{Ready, ready_next, ready_at_boot, prefix_on}
+use Rattle.fmp_law_records.specs.Counts.Alarms.{starts_alarm, stops_alarm, alarm_time, without_tick, alarm_left_after, alarm_left_by}
+use Rattle.fmp_law_records.proofs.counts.HandlersRuns.{alarms_timed, clocks_step, clock_started, clock_running}
+use Rattle.fmp_law_records.proofs.counts.Sparing.{Clock}
+use Rattle.fmp_law_records.proofs.counts.Ready.{Ready, ready_next, ready_at_boot, prefix_on}
 use Rattle.fmp_law_records.specs.Handlers.{HandlerReported, takes_alarm, begun_with, alarm_after, alarm_by, alarm_at_boot, IsAlarmReported}
 use Rattle.fmp_law_records.proofs.Alarms.{at_with, untaken, tick_alarms, alarm_call}
 use Rattle.fmp_rules.specs.Tick.{tick}

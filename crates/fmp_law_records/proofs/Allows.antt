@@ -18,7 +18,7 @@ use Rattle.fmp_rules.specs.TaskCalls.{is_dormant, act, mact, mig_tsk, ter_tsk, c
 use Rattle.fmp_law_safety.proofs.Calls.{Accepts, from_task}
 use Rattle.fmp_law_balance.proofs.Called.{AllRefuse, by_called}
 use Rattle.fmp_law_waits.proofs.Named.{task_known}
-use Rattle.fmp_law_counts.proofs.Tasks.{named_or_caller_is}
+use Rattle.fmp_law_records.proofs.counts.Tasks.{named_or_caller_is}
 use Rattle.fmp_law_records.specs.Accepting.{is_about}
 use Rattle.fmp_law_records.specs.Line.{is_done}
 use Rattle.fmp_law_records.proofs.Edits.{refusal}

@@ -15,8 +15,8 @@ use Rattle.fmp_rules.specs.Arrivals.{State, numbered}
 use Rattle.fmp_rules.specs.Tasks.{started, start}
 use Rattle.fmp_rules.specs.Boot.{blank, all_started, booted, unnumbered}
 use Rattle.fmp_law_safety.proofs.Items.{item_holds}
-use Rattle.fmp_law_counts.proofs.Tasks.{after_change}
-use Rattle.fmp_law_counts.proofs.Booted.{tasks_running}
+use Rattle.fmp_law_records.proofs.counts.Tasks.{after_change}
+use Rattle.fmp_law_records.proofs.counts.Booted.{tasks_running}
 use Rattle.fmp_law_records.proofs.Priorities.{HasPriority}
 
 -- not suspended, and of its initial priority

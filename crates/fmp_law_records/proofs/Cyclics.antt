@@ -27,8 +27,8 @@ use Rattle.fmp_law_safety.proofs.KeepsDue.{alarms_keep, cyclics_keep, released_k
 use Rattle.fmp_law_balance.specs.Accepted.{is_accepted, names}
 use Rattle.fmp_law_balance.proofs.Called.{refuses, by_called, either_way, not_accepted}
 use Rattle.fmp_law_balance.proofs.Objects.{IsNamed, object_known, by_object}
-use Rattle.fmp_law_counts.proofs.SparesCalls.{clock_call}
-use Rattle.fmp_law_counts.proofs.Sparing.{Clock}
+use Rattle.fmp_law_records.proofs.counts.SparesCalls.{clock_call}
+use Rattle.fmp_law_records.proofs.counts.Sparing.{Clock}
 use Rattle.fmp_law_records.proofs.Alarms.{taken_is, at_with, untaken}
 use Rattle.fmp_law_records.specs.Handlers.{takes_cyclic, taken_to}
 

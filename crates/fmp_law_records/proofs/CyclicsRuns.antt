@@ -23,11 +23,11 @@ use Rattle.fmp_law_safety.specs.Runs.{AreOn}
 use Rattle.fmp_law_waits.specs.Waits.{OpenWaits, nobody_waits, after_record, is_tick_for}
 use Rattle.fmp_law_waits.proofs.Events.{by_event}
 use Rattle.fmp_law_balance.specs.Accepted.{is_accepted}
-use Rattle.fmp_law_counts.specs.Alarms.{without_tick}
-use Rattle.fmp_law_counts.specs.Cyclics.{starts_cyclic, stops_cyclic, cyclic_left_after, cyclic_left_by}
-use Rattle.fmp_law_counts.proofs.HandlersRuns.{cyclics_timed, clocks_step, clock_started, clock_running}
-use Rattle.fmp_law_counts.proofs.Sparing.{Clock}
-use Rattle.fmp_law_counts.proofs.Ready.{Ready, ready_next, ready_at_boot, prefix_on}
+use Rattle.fmp_law_records.specs.Counts.Alarms.{without_tick}
+use Rattle.fmp_law_records.specs.Counts.Cyclics.{starts_cyclic, stops_cyclic, cyclic_left_after, cyclic_left_by}
+use Rattle.fmp_law_records.proofs.counts.HandlersRuns.{cyclics_timed, clocks_step, clock_started, clock_running}
+use Rattle.fmp_law_records.proofs.counts.Sparing.{Clock}
+use Rattle.fmp_law_records.proofs.counts.Ready.{Ready, ready_next, ready_at_boot, prefix_on}
 use Rattle.fmp_law_records.specs.Handlers.{HandlerReported, takes_cyclic, cyclic_after, cyclic_by, cyclic_reported_at_boot, IsCyclicReported}
 use Rattle.fmp_law_records.proofs.Alarms.{at_with, untaken}
 use Rattle.fmp_law_records.proofs.Cyclics.{tick_cyclics, cyclic_call}

@@ -33,10 +33,10 @@ use Rattle.fmp_law_balance.specs.Accepted.{is_accepted}
 use Rattle.fmp_law_balance.proofs.Called.{by_called, not_accepted}
 use Rattle.fmp_law_balance.proofs.Steps.{report}
 use Rattle.fmp_law_waits.proofs.Events.{by_event}
-use Rattle.fmp_law_counts.specs.Alarms.{is_last}
-use Rattle.fmp_law_counts.specs.Due.{by_number}
-use Rattle.fmp_law_counts.proofs.HandlersRuns.{Clocked}
-use Rattle.fmp_law_counts.proofs.HandlersTick.{same_passed, due_at_tick}
+use Rattle.fmp_law_records.specs.Counts.Alarms.{is_last}
+use Rattle.fmp_law_records.specs.Counts.Due.{by_number}
+use Rattle.fmp_law_records.proofs.counts.HandlersRuns.{Clocked}
+use Rattle.fmp_law_records.proofs.counts.HandlersTick.{same_passed, due_at_tick}
 use Rattle.fmp_law_records.specs.Due.{HandlersReported, is_at_end, made_due, due_after}
 use Rattle.fmp_law_records.proofs.Leaving.{is_return, call_leaves_due}
 

@@ -23,8 +23,8 @@ use Rattle.fmp_law_safety.proofs.Items.{item_holds}
 use Rattle.fmp_law_safety.proofs.Booting.{started_due}
 use Rattle.fmp_law_waits.specs.Waits.{OpenWaits, nobody_waits, after_record}
 use Rattle.fmp_law_waits.proofs.Events.{event_reported, by_event}
-use Rattle.fmp_law_counts.proofs.HandlersRuns.{Clocked, clocked_next, clocked_booted}
-use Rattle.fmp_law_counts.proofs.Ready.{Ready, ready_next, ready_at_boot, prefix_on}
+use Rattle.fmp_law_records.proofs.counts.HandlersRuns.{Clocked, clocked_next, clocked_booted}
+use Rattle.fmp_law_records.proofs.counts.Ready.{Ready, ready_next, ready_at_boot, prefix_on}
 use Rattle.fmp_law_records.specs.Handlers.{alarm_by, cyclic_by}
 use Rattle.fmp_law_records.specs.Due.{HandlersReported, handlers_after, handlers_by, handlers_at_boot, AreDueReported, RunsFirst}
 use Rattle.fmp_law_records.proofs.AlarmsRuns.{alarms_reported}

@@ -26,7 +26,7 @@ use Rattle.fmp_law_balance.specs.Accepted.{is_accepted}
 use Rattle.fmp_law_balance.specs.Queues.{is_task}
 use Rattle.fmp_law_balance.proofs.Called.{refuses, by_called, not_accepted}
 use Rattle.fmp_law_waits.proofs.Named.{by_task, task_known}
-use Rattle.fmp_law_counts.proofs.Tasks.{is_caller_of, named_or_caller_is, changed_here, changed_there}
+use Rattle.fmp_law_records.proofs.counts.Tasks.{is_caller_of, named_or_caller_is, changed_here, changed_there}
 use Rattle.fmp_law_records.specs.Accepting.{is_about}
 use Rattle.fmp_law_records.specs.Line.{is_done}
 use Rattle.fmp_law_records.proofs.Leaving.{besides, Leaves, leaves_all, leaves_ready, leaves_begin}

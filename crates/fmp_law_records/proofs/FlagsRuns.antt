@@ -35,7 +35,7 @@ use Rattle.fmp_law_safety.proofs.Listed.{numbered_lists}
 use Rattle.fmp_law_safety.proofs.Settling.{with_latches, settle_is}
 use Rattle.fmp_law_safety.proofs.Stepping.{keeps_call}
 use Rattle.fmp_law_waits.specs.Waits.{OpenWaits, nobody_waits, after_record}
-use Rattle.fmp_law_counts.proofs.Ready.{Ready, ready_next, ready_at_boot, prefix_on}
+use Rattle.fmp_law_records.proofs.counts.Ready.{Ready, ready_next, ready_at_boot, prefix_on}
 use Rattle.fmp_law_records.specs.Flags.{call_on, leaves, locked_after, disabled_after, locked_by, disabled_by, asked_of, number_if, AreFlagsReported, TellsFlags}
 use Rattle.fmp_codes.specs.declared.calls.SystemCall.{SystemCall}
 use Rattle.fmp_codes.specs.declared.calls.SystemCall.TheVariants as system

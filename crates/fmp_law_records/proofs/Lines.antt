@@ -14,7 +14,7 @@ use Rattle.fmp_rules.specs.Tasks.{make_ready, change_priority}
 use Rattle.fmp_codes.specs.declared.numbers.Pri.{Pri}
 use Rattle.fmp_setup.specs.declared.setup.Order.{Order}
 use Rattle.fmp_setup.specs.declared.setup.Order.TheVariants as order
-use Rattle.fmp_law_counts.proofs.Tasks.{after_change}
+use Rattle.fmp_law_records.proofs.counts.Tasks.{after_change}
 use Rattle.fmp_law_safety.proofs.Items.{item_put, item_same, item_other}
 use Rattle.fmp_law_safety.proofs.Listed.{not_past}
 use Rattle.fmp_law_records.specs.Line.{Line, put_last}

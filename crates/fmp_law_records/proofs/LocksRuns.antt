@@ -35,7 +35,7 @@ use Rattle.fmp_law_safety.proofs.Items.{item_holds}
 use Rattle.fmp_law_balance.proofs.Steps.{report}
 use Rattle.fmp_law_waits.specs.Waits.{OpenWaits, nobody_waits, after_record}
 use Rattle.fmp_law_waits.proofs.Events.{by_event}
-use Rattle.fmp_law_counts.proofs.Ready.{Ready, ready_next, ready_at_boot, prefix_on}
+use Rattle.fmp_law_records.proofs.counts.Ready.{Ready, ready_next, ready_at_boot, prefix_on}
 use Rattle.fmp_law_records.specs.Locks.{asks_for, gives_back, ends_there, holder_after, holder_by, IsHolderReported, LocksFit}
 use Rattle.fmp_law_records.proofs.Leaving.{tick_still}
 use Rattle.fmp_law_records.proofs.Locks.{unchanged_holder, held_call, call_fits}

@@ -30,7 +30,7 @@ use Rattle.fmp_law_safety.specs.Runs.{AreOn}
 use Rattle.fmp_law_balance.proofs.Steps.{report}
 use Rattle.fmp_law_waits.specs.Waits.{OpenWaits, nobody_waits, after_record}
 use Rattle.fmp_law_waits.proofs.Events.{by_event}
-use Rattle.fmp_law_counts.proofs.Ready.{Ready, ready_next, ready_at_boot, ready_after, prefix_on}
+use Rattle.fmp_law_records.proofs.counts.Ready.{Ready, ready_next, ready_at_boot, ready_after, prefix_on}
 use Rattle.fmp_law_records.specs.Patterns.{asks_bits, sets_bits, pattern_after, pattern_by, report_pattern, IsPatternReported, PatternFits}
 use Rattle.fmp_law_records.proofs.Leaving.{tick_calm}
 use Rattle.fmp_law_records.proofs.Patterns.{unchanged_pattern, pattern_call, pattern_fits}

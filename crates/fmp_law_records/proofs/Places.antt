@@ -53,8 +53,8 @@ use Rattle.fmp_law_waits.proofs.Events.{by_event}
 use Rattle.fmp_law_waits.proofs.Follows.{Sound, running_within, running_waits_not}
 use Rattle.fmp_law_waits.proofs.Named.{caller_runs}
 use Rattle.fmp_law_waits.proofs.Words.{IsKept}
-use Rattle.fmp_law_counts.proofs.Tasks.{named_or_caller_is}
-use Rattle.fmp_law_counts.specs.Naming.{names_task}
+use Rattle.fmp_law_records.proofs.counts.Tasks.{named_or_caller_is}
+use Rattle.fmp_law_records.specs.Counts.Naming.{names_task}
 use Rattle.fmp_law_records.specs.Priorities.{given_by, gives_priority}
 use Rattle.fmp_law_records.specs.Served.{is_priority, is_by_priority, Places, is_placed_anew, takes_place, places_after}
 use Rattle.fmp_law_records.proofs.Joins.{Quiet, quiet_all, quiet_then, quiet_ready, placed, Stands, Joins, is_of_priority, call_did}

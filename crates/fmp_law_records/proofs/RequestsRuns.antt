@@ -22,7 +22,7 @@ use Rattle.fmp_law_safety.proofs.Stepping.{numbered_tops, safe_step}
 use Rattle.fmp_law_safety.proofs.Booted.{count_booted}
 use Rattle.fmp_law_waits.specs.Waits.{OpenWaits, nobody_waits, after_record}
 use Rattle.fmp_law_waits.proofs.Events.{event_reported}
-use Rattle.fmp_law_counts.proofs.Ready.{Ready, ready_next, ready_at_boot, ready_after, prefix_on}
+use Rattle.fmp_law_records.proofs.counts.Ready.{Ready, ready_next, ready_at_boot, ready_after, prefix_on}
 use Rattle.fmp_law_records.specs.Flags.{locked_by, disabled_by, AreFlagsReported}
 use Rattle.fmp_law_records.specs.Due.{handlers_by, AreDueReported}
 use Rattle.fmp_law_records.specs.Requests.{ProcessorReported, some_due, is_held_reported, is_held_back, pending_after, processor_after, processor_by, processor_at_boot, report_processor, IsRequestReported, SignalsFit}

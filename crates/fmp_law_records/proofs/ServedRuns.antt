@@ -36,8 +36,8 @@ use Rattle.fmp_law_safety.proofs.Listed.{not_past}
 use Rattle.fmp_law_waits.specs.Waits.{OpenWaits, after_records, setup_of}
 use Rattle.fmp_law_waits.specs.Asked.{OpenWait}
 use Rattle.fmp_law_waits.proofs.Words.{IsKept}
-use Rattle.fmp_law_counts.proofs.Ready.{Ready, ready_next, ready_at_boot, ready_after, followed}
-use Rattle.fmp_law_counts.proofs.Booted.{count_booted_tasks}
+use Rattle.fmp_law_records.proofs.counts.Ready.{Ready, ready_next, ready_at_boot, ready_after, followed}
+use Rattle.fmp_law_records.proofs.counts.Booted.{count_booted_tasks}
 use Rattle.fmp_law_records.specs.Priorities.{priority_by}
 use Rattle.fmp_law_records.specs.Served.{Places, places_after, places_by, places_at_boot, ServesInOrder}
 use Rattle.fmp_law_records.proofs.TaskRuns.{priority_after_all}

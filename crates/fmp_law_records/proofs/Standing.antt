@@ -46,7 +46,7 @@ use Rattle.fmp_law_waits.specs.Waits.{setup_of}
 use Rattle.fmp_law_waits.proofs.Events.{by_event}
 use Rattle.fmp_law_waits.proofs.Follows.{running_within, running_may}
 use Rattle.fmp_law_waits.proofs.Named.{caller_runs, task_known}
-use Rattle.fmp_law_counts.proofs.Tasks.{is_caller_of, named_or_caller_is}
+use Rattle.fmp_law_records.proofs.counts.Tasks.{is_caller_of, named_or_caller_is}
 use Rattle.fmp_law_records.specs.Priorities.{given_by}
 use Rattle.fmp_law_records.specs.Handlers.{taken_to}
 use Rattle.fmp_law_records.specs.Lives.{LifeReported}

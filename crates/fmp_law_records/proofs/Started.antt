@@ -16,8 +16,8 @@ use Rattle.fmp_rules.specs.Arrivals.{State, numbered}
 use Rattle.fmp_rules.specs.Tasks.{started}
 use Rattle.fmp_rules.specs.Boot.{blank, all_started, booted, unnumbered}
 use Rattle.fmp_law_waits.specs.Waits.{setup_of}
-use Rattle.fmp_law_counts.proofs.Tasks.{changed_here}
-use Rattle.fmp_law_counts.proofs.Booted.{started_if, tasks_started_if, other_started, later_started, tasks_running}
+use Rattle.fmp_law_records.proofs.counts.Tasks.{changed_here}
+use Rattle.fmp_law_records.proofs.counts.Booted.{started_if, tasks_started_if, other_started, later_started, tasks_running}
 
 -- a task of this setup, which it had before it started or not
 abbrev pub at_start : TaskSetup → TaskRecord → TaskRecord

@@ -29,7 +29,7 @@ use Rattle.fmp_law_waits.proofs.Events.{by_event}
 use Rattle.fmp_codes.specs.Numbers.{as_task}
 use Rattle.fmp_codes.proofs.Same.{tasks_same}
 use Rattle.fmp_law_safety.proofs.Calls.{from_task}
-use Rattle.fmp_law_counts.proofs.Tasks.{named_or_caller_is}
+use Rattle.fmp_law_records.proofs.counts.Tasks.{named_or_caller_is}
 use Rattle.std.proofs.lemmas.Bool.{not-false, eqb-true}
 use Rattle.fmp_law_safety.specs.Safe.{Safe}
 use Rattle.fmp_law_safety.proofs.Items.{item_holds}
@@ -37,7 +37,7 @@ use Rattle.fmp_law_balance.specs.Accepted.{is_accepted}
 use Rattle.fmp_law_balance.specs.Queues.{is_task}
 use Rattle.fmp_law_balance.proofs.Steps.{report}
 use Rattle.fmp_law_waits.specs.Waits.{is_number_of}
-use Rattle.fmp_law_counts.specs.Naming.{names_task}
+use Rattle.fmp_law_records.specs.Counts.Naming.{names_task}
 use Rattle.fmp_law_records.specs.Suspensions.{suspends, resumes, suspended_after, is_overflow}
 use Rattle.fmp_law_records.specs.Accepting.{is_about}
 use Rattle.fmp_law_records.specs.Line.{is_done}

@@ -17,7 +17,7 @@ use Rattle.fmp_law_balance.specs.Accepted.{is_accepted}
 use Rattle.fmp_law_balance.specs.Queues.{is_task}
 use Rattle.fmp_law_waits.specs.Asked.{OpenWait}
 use Rattle.fmp_law_waits.specs.Waits.{is_number_of, nobody_waits, after_records}
-use Rattle.fmp_law_counts.specs.Naming.{names_task}
+use Rattle.fmp_law_records.specs.Counts.Naming.{names_task}
 use Rattle.fmp_law_records.specs.Suspensions.{suspended_by, is_overflow}
 use Rattle.fmp_law_records.specs.Lives.{LifeReported, report_life}
 

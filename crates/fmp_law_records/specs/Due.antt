@@ -15,8 +15,8 @@ use Rattle.fmp_setup.specs.Setup.{Setup}
 use Rattle.fmp_law_words.specs.Words.{is_clocked_by}
 use Rattle.fmp_rules.specs.World.{World, item}
 use Rattle.fmp_law_balance.specs.Accepted.{is_accepted}
-use Rattle.fmp_law_counts.specs.Alarms.{is_last}
-use Rattle.fmp_law_counts.specs.Due.{by_number}
+use Rattle.fmp_law_records.specs.Counts.Alarms.{is_last}
+use Rattle.fmp_law_records.specs.Counts.Due.{by_number}
 use Rattle.fmp_law_records.specs.Handlers.{HandlerReported, alarm_after, alarm_at_boot, cyclic_after, cyclic_reported_at_boot}
 
 -- what the records say of the alarms, of the cyclic handlers, and of those that are due on one processor, the running one first

@@ -15,8 +15,8 @@ use Rattle.fmp_rules.specs.World.{World, item}
 use Rattle.fmp_rules.specs.Objects.{alarm, cyclic}
 use Rattle.fmp_law_balance.specs.Accepted.{is_accepted, names}
 use Rattle.fmp_law_waits.specs.Waits.{is_tick_for}
-use Rattle.fmp_law_counts.specs.Alarms.{starts_alarm, alarm_time, stops_alarm, without_tick}
-use Rattle.fmp_law_counts.specs.Cyclics.{starts_cyclic, stops_cyclic}
+use Rattle.fmp_law_records.specs.Counts.Alarms.{starts_alarm, alarm_time, stops_alarm, without_tick}
+use Rattle.fmp_law_records.specs.Counts.Cyclics.{starts_cyclic, stops_cyclic}
 
 -- what the records say of a handler: the ticks left, or none where it is stopped, and the processor to which it is assigned
 pub record HandlerReported : Type 0 where

@@ -13,3 +13,6 @@ pub mod Accepting  -- Which calls on a task are due, by what the records before 
 pub mod Line  -- The order in which tasks were put last, and which calls on a task put it last.
 pub mod Standing  -- Which tasks are ready on each processor and in which order, told by records alone, and so who is the top.
 pub mod Tops  -- To which processors a record sends a request, and who begins to run, by the tops that the records tell.
+pub mod Counts  -- What is queued for a task, and when the time of waits and handlers is over.
+pub mod Refusals  -- Why a call was refused, and every other answer.
+pub mod Effects  -- What else a record tells of its event.

@@ -14,8 +14,8 @@ use Rattle.fmp_rules.specs.World as world
 use Rattle.fmp_rules.specs.World.{World}
 use Rattle.fmp_law_balance.specs.Accepted.{is_accepted}
 use Rattle.fmp_law_waits.specs.Waits.{setup_of}
-use Rattle.fmp_law_counts.specs.Naming.{names_task}
-use Rattle.fmp_law_counts.specs.Lives.{activates, takes_back, ends}
+use Rattle.fmp_law_records.specs.Counts.Naming.{names_task}
+use Rattle.fmp_law_records.specs.Counts.Lives.{activates, takes_back, ends}
 use Rattle.fmp_law_records.specs.Handlers.{taken_to}
 
 -- what the records say of it. A queued activation is for a processor that its call named, or for none

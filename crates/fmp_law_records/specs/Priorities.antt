@@ -16,8 +16,8 @@ use Rattle.fmp_rules.specs.World as world
 use Rattle.fmp_rules.specs.World.{World}
 use Rattle.fmp_law_balance.specs.Accepted.{is_accepted, accepted_value}
 use Rattle.fmp_law_waits.specs.Waits.{setup_of}
-use Rattle.fmp_law_counts.specs.Naming.{names_task}
-use Rattle.fmp_law_counts.specs.Lives.{ends}
+use Rattle.fmp_law_records.specs.Counts.Naming.{names_task}
+use Rattle.fmp_law_records.specs.Counts.Lives.{ends}
 
 -- the priority that a call gives this task, where this runs: the argument, of which 0 is the initial one
 abbrev pub given_by : Pri → ℤ → Pri

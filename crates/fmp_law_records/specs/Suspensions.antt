@@ -14,8 +14,8 @@ use Rattle.fmp_rules.specs.World as world
 use Rattle.fmp_rules.specs.World.{World}
 use Rattle.fmp_law_balance.specs.Accepted.{is_accepted}
 use Rattle.fmp_law_waits.specs.Waits.{is_number_of}
-use Rattle.fmp_law_counts.specs.Naming.{names_task}
-use Rattle.fmp_law_counts.specs.Lives.{ends}
+use Rattle.fmp_law_records.specs.Counts.Naming.{names_task}
+use Rattle.fmp_law_records.specs.Counts.Lives.{ends}
 
 -- the event is a call that suspends this task, where this runs
 abbrev pub suspends : Task → Option Runner → Event → Bool

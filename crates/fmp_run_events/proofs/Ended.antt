@@ -2,7 +2,7 @@
 use Rattle.std.proofs.Common.{◌≡◌, ◌∙◌, ℕ, false, List, ◌++◌, take, Result, Ok, Err, IfErr, OnOk, ap, sym, refl, inl, inr}
 use Rattle.std.proofs.lemmas.Bool.{false≢true}
 use Rattle.fmp_law_headline.proofs.Along.{headline_throughout}
-use Rattle.fmp_law_effects.proofs.ReportedRuns.{machine_run}
+use Rattle.fmp_law_records.proofs.effects.ReportedRuns.{machine_run}
 use Rattle.fmp_rules.specs.Arrivals.{numbered}
 use Rattle.fmp_rules.specs.Boot.{booted}
 use Rattle.fmp_rules.specs.Step.{answers}

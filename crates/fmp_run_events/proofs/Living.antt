@@ -6,11 +6,11 @@ use Rattle.fmp_setup.specs.Setup.{Setup}
 use Rattle.fmp_setup.specs.Valid.{IsValid}
 use Rattle.fmp_text.specs.Events.{reading_by_line}
 use Rattle.fmp_names.specs.Names.{NameLists}
-use Rattle.fmp_show_life.proofs.Changes.{first_reported, things_again}
-use Rattle.fmp_show_life.specs.declared.things.Thing.{Thing}
-use Rattle.fmp_show_life.specs.Choosing.{IsChosen}
-use Rattle.fmp_show_life.specs.Lives.{Seen, unseen}
-use Rattle.fmp_show_life.specs.Things.{chosen_in}
+use Rattle.fmp_show_changes.proofs.life.Changes.{first_reported, things_again}
+use Rattle.fmp_show_changes.specs.declared.life.things.Thing.{Thing}
+use Rattle.fmp_show_changes.specs.Life.Choosing.{IsChosen}
+use Rattle.fmp_show_changes.specs.Life.Lives.{Seen, unseen}
+use Rattle.fmp_show_changes.specs.Life.Things.{chosen_in}
 use Rattle.fmp_run_texts.specs.declared.fault.RunFault.{RunFault}
 use Rattle.fmp_run_texts.specs.Texts.{FlushFails, SaysConfig}
 use Rattle.fmp_run_texts.specs.Faults.{is_config}

@@ -3,8 +3,8 @@ use Rattle.std.specs.Prelude.{◌≡◌, ◌≢◌, ℕ, true, false, List, [], 
 use Rattle.fmp_codes.specs.declared.records.Event.{Event}
 use Rattle.fmp_setup.specs.Setup.{Setup}
 use Rattle.fmp_text.specs.TextGrammar.{SpellsText}
-use Rattle.fmp_show_life.specs.Things.{chosen_in}
-use Rattle.fmp_show_life.specs.declared.things.Thing.{Thing}
+use Rattle.fmp_show_changes.specs.Life.Things.{chosen_in}
+use Rattle.fmp_show_changes.specs.declared.life.things.Thing.{Thing}
 use Rattle.fmp_run_devices.specs.Devices.{IsKnown, bytes_of}
 use Rattle.fmp_run_devices.specs.Ends.{Ends, SinkEnd, SourceEnd}
 use Rattle.fmp_run_texts.specs.declared.fault.RunFault.TheVariants.{Write}

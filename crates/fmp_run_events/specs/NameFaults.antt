@@ -2,7 +2,7 @@
 use Rattle.std.specs.Prelude.{◌≡◌, ℕ, Bool, true, List, Result, Ok, Err}
 use Rattle.fmp_names.specs.Names.{NameLists}
 use Rattle.fmp_setup.specs.Setup.{Setup}
-use Rattle.fmp_show_life.specs.Things.{chosen_in}
+use Rattle.fmp_show_changes.specs.Life.Things.{chosen_in}
 use Rattle.fmp_run_texts.specs.declared.fault.RunFault.{RunFault}
 use Rattle.fmp_run_texts.specs.declared.fault.RunFault.TheVariants.{Memory}
 use Rattle.fmp_run_texts.specs.Faults.{is_config}

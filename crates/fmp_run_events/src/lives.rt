@@ -1,6 +1,6 @@
 //! The run that tells what of some things changed, each change as its event comes.
 ghost use Rattle.std.specs.Prelude.{◌≡◌, true, OnOk, ◌-◌, ◌^◌, ◌<◌, IfOk, IfErr};
-ghost use Rattle.fmp_show_life.specs.Choosing.{IsChosen};
+ghost use Rattle.fmp_show_changes.specs.Life.Choosing.{IsChosen};
 ghost use Rattle.fmp_run_devices.specs.Ends.{passing_ends, sink_ends, source_ends};
 ghost use Rattle.fmp_run_devices.specs.Hearing.{Moves, Passes};
 ghost use Rattle.fmp_run_events.specs.Lives.{OwesLife, WritesLife};
@@ -11,7 +11,7 @@ use fmp_names::Names;
 use fmp_run_devices::{Sink, Source};
 use fmp_run_stream::Detail;
 use fmp_run_texts::{RunFault, config_from};
-use fmp_show_life::{Life, NameFault, chosen};
+use fmp_show_changes::{Life, NameFault, chosen};
 use std::alloc::Global;
 
 /// Why a run that tells what of some things changed did not go to its end.

@@ -7,7 +7,7 @@ use Rattle.fmp_run_texts.specs.declared.fault.RunFault.{RunFault}
 use Rattle.fmp_run_texts.specs.declared.fault.RunFault.TheVariants as run
 use Rattle.fmp_run_texts.specs.Texts.{SaysConfig}
 use Rattle.fmp_run_list.specs.Fields.{lines_in}
-use Rattle.fmp_config_listing.specs.Listing.{listing_of}
+use Rattle.fmp_run_list.specs.Listing.Listing.{listing_of}
 
 -- the listing of a configuration that a text says, followed by the fields without effect as they stand in it
 abbrev pub listing_in : Setup → List ℕ → List ℕ

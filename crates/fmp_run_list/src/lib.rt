@@ -1,6 +1,6 @@
 //! The run that tells what was read of a configuration, from bytes to bytes.
 //!
-//! [`run_list`] reads a configuration and writes its listing, which `specs/Listing` of `fmp_config_listing` says, and then a line for each field that has
+//! [`run_list`] reads a configuration and writes its listing, which [`listing`] makes and `specs/Listing/Listing` says, and then a line for each field that has
 //! no effect on the kernel, as it stands in the text: extended information, stack sizes, and the sizes of blocks (`specs/Fields`). What the run reads and
 //! writes is stated in `specs/Runs`.
 //!
@@ -9,7 +9,9 @@
 #![tactic(auto)]
 
 mod fields;
+mod listing;
 mod run;
 mod standing;
 
+pub use listing::{KINDS, count, listing_text, put_processors_line, word};
 pub use run::run_list;

@@ -5,8 +5,8 @@ ghost use Rattle.fmp_run_texts.specs.Owed.{OwesConfig};
 ghost use Rattle.fmp_run_list.specs.Runs.{WritesListing, listing_in};
 
 use crate::fields::put_field_lines;
+use crate::listing_text;
 use fmp_config::Config;
-use fmp_config_listing::listing_text;
 use fmp_out::Text;
 use fmp_run_devices::{Sink, Source, write_out};
 use fmp_run_texts::{RunFault, config_and_text_from};

@@ -12,7 +12,7 @@ use Rattle.fmp_search_shrink.specs.Shrinking.{AnswersShow, IsShrunk}
 use Rattle.fmp_text.specs.TextGrammar.{SpellsText}
 use Rattle.fmp_run_shrink.specs.declared.finding.Shrinking.{Shrinking}
 use Rattle.fmp_run_shrink.specs.declared.finding.Shrinking.TheVariants as shrinking
-use Rattle.fmp_trace_events.specs.Telling.{IsReadBack, event_lines}
+use Rattle.fmp_run_shrink.specs.Written.Telling.{IsReadBack, event_lines}
 
 -- The text that tells what is left of the events: nothing, where their answers do not show what the question asks. A list of events is
 -- read back as what is left.

@@ -11,6 +11,7 @@ ghost use Rattle.fmp_run_shrink.specs.Faults.{IsEventFault};
 ghost use Rattle.fmp_run_shrink.specs.Shrunk.{IsBegun, IsShrunkOut, Leaves};
 
 use crate::events::EventReader;
+use crate::events_text;
 use crate::finding::Shrinking;
 use fmp_codes::Event;
 use fmp_rules::Config;
@@ -19,7 +20,6 @@ use fmp_run_explore::{ExploreFault, question_from};
 use fmp_run_texts::{RunFault, texts_from};
 use fmp_search_pattern::Question;
 use fmp_search_shrink::shrink;
-use fmp_trace_events::events_text;
 use std::alloc::{AllocError, Global};
 
 /// What is left of these events, and the text that tells it. The error is want of memory.

@@ -16,9 +16,9 @@ use Rattle.fmp_run_stream.specs.declared.stream.Detail.{Detail}
 use Rattle.fmp_run_stream.specs.declared.stream.Detail.TheVariants as detail
 use Rattle.fmp_run_stream.specs.Runs.{trace_of}
 use Rattle.std.specs.List.{flat_map}
-use Rattle.fmp_show_life.specs.declared.things.Thing.{Thing}
-use Rattle.fmp_show_life.specs.Lives.{Seen, changes_of as things_changed, report_since}
-use Rattle.fmp_show_life.proofs.Changes.{renewed_again, report_changes}
+use Rattle.fmp_show_changes.specs.declared.life.things.Thing.{Thing}
+use Rattle.fmp_show_changes.specs.Life.Lives.{Seen, changes_of as things_changed, report_since}
+use Rattle.fmp_show_changes.proofs.life.Changes.{renewed_again, report_changes}
 use Rattle.fmp_show_state.specs.States.{state_text}
 use Rattle.fmp_run_stream.specs.Lives.{life_from, life_since, with_changes}
 use Rattle.fmp_run_stream.specs.Details.{boot_text, changes_between, changes_from, changes_of, detail_of, entry_text, states_from, states_of, report_in}

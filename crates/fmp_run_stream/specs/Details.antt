@@ -10,7 +10,7 @@ use Rattle.fmp_rules.specs.Arrivals.{State, numbered}
 use Rattle.fmp_rules.specs.Step.{step}
 use Rattle.fmp_trace.specs.Lines.{line_text}
 use Rattle.fmp_show_changes.specs.Changes.{changes_text}
-use Rattle.fmp_show_life.specs.Lives.{renewed, report_since}
+use Rattle.fmp_show_changes.specs.Life.Lives.{renewed, report_since}
 use Rattle.fmp_show_state.specs.States.{state_lines, state_text}
 use Rattle.fmp_run_stream.specs.declared.stream.Detail.{Detail}
 use Rattle.fmp_run_stream.specs.declared.stream.Detail.TheVariants as detail

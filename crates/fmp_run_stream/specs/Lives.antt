@@ -8,9 +8,9 @@ use Rattle.fmp_rules.specs.Boot.{booted}
 use Rattle.fmp_rules.specs.Arrivals.{State, numbered}
 use Rattle.fmp_rules.specs.Step.{step}
 use Rattle.fmp_trace.specs.Lines.{line_text}
-use Rattle.fmp_show_life.specs.declared.things.Thing.{Thing}
-use Rattle.fmp_show_life.specs.Lives.{Seen, changes_of, lines_of, report_since}
-use Rattle.fmp_show_life.specs.Things.{chosen_in}
+use Rattle.fmp_show_changes.specs.declared.life.things.Thing.{Thing}
+use Rattle.fmp_show_changes.specs.Life.Lives.{Seen, changes_of, lines_of, report_since}
+use Rattle.fmp_show_changes.specs.Life.Things.{chosen_in}
 use Rattle.fmp_run_stream.specs.Runs.{Written}
 
 -- the line of an event with what changed, and nothing where nothing did

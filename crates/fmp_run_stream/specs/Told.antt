@@ -5,7 +5,7 @@ use Rattle.fmp_codes.specs.declared.records.Record.{Record}
 use Rattle.fmp_setup.specs.Setup.{Setup}
 use Rattle.fmp_text.specs.TextGrammar.{SpellsText}
 use Rattle.fmp_trace.specs.Lines.{lines_from}
-use Rattle.fmp_law_effects.specs.Records.{IsReportedRun}
+use Rattle.fmp_law_records.specs.Effects.Records.{IsReportedRun}
 use Rattle.fmp_run_texts.specs.Texts.{SaysConfig}
 
 -- The output is the trace of records of the one text's events, over the configuration that the other says, of which each is as those

@@ -15,7 +15,7 @@ ghost use Rattle.fmp_text.specs.Limits.{most_bytes, most_events};
 ghost use Rattle.fmp_run_stream.specs.Details.{boot_text, entry_text, finished, report_in};
 ghost use Rattle.fmp_run_stream.specs.Lives.{with_changes};
 ghost use Rattle.std.specs.List.{flat_map};
-ghost use Rattle.fmp_show_life.specs.Lives.{renewed, report_since};
+ghost use Rattle.fmp_show_changes.specs.Life.Lives.{renewed, report_since};
 ghost use Rattle.fmp_run_devices.specs.Devices.{BeginsWith, IsKnown, bytes_of};
 ghost use Rattle.fmp_run_devices.specs.Hearing.{Moves};
 ghost use Rattle.fmp_run_texts.specs.Faults.{failed_read, failed_write, is_config, is_read, is_write, is_thread_fault};
@@ -31,8 +31,7 @@ use fmp_kernel::Kernel;
 use fmp_rules::Config;
 use fmp_run_devices::{Failed, Sink, Source, write_all};
 use fmp_run_texts::RunFault;
-use fmp_show_changes::Changes;
-use fmp_show_life::Life;
+use fmp_show_changes::{Changes, Life};
 use fmp_show_state::put_state;
 use fmp_text::{Echo, Names, TextFault};
 use fmp_text_feed::EventFeed;
@@ -54,7 +53,7 @@ pub enum Detail {
 }
 
 /// Adds the lines of those things of which something else is told than was told last, and keeps in mind what is.
-#[tactic(auto, using(fmp_show_life::proofs::Alike::report_alike, fmp_show_life::proofs::Alike::renewed_alike))]
+#[tactic(auto, using(fmp_show_changes::proofs::life::Alike::report_alike, fmp_show_changes::proofs::life::Alike::renewed_alike))]
 fn put_news(
     life: &mut Life,
     names: &Names,

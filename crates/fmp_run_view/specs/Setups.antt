@@ -6,8 +6,8 @@ use Rattle.fmp_setup.specs.Setup.{Setup}
 use Rattle.fmp_setup.specs.declared.setup.Timer.{Timer}
 use Rattle.fmp_setup.specs.declared.setup.Timer.TheVariants as timers
 use Rattle.fmp_trace.specs.Values.{named}
-use Rattle.fmp_config_listing.specs.Listing.{count, processors_line, word}
-use Rattle.fmp_config_listing.specs.declared.listing.TheConstants.{KINDS}
+use Rattle.fmp_run_list.specs.Listing.Listing.{count, processors_line, word}
+use Rattle.fmp_run_list.specs.declared.listing.listing.TheConstants.{KINDS}
 
 module _ (c : Setup) where
   -- of what stands at this place the priority at boot, the greatest count, how many values or blocks it has, or the period

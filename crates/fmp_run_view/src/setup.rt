@@ -1,13 +1,13 @@
 //! What a page has to know of the configuration.
 ghost use Rattle.std.specs.Prelude.{◌≡◌, ◌+◌, ◌^◌, ◌<◌};
 ghost use Rattle.fmp_out.specs.Putting.{Adds};
-ghost use Rattle.fmp_config_listing.specs.Listing.{count};
+ghost use Rattle.fmp_run_list.specs.Listing.Listing.{count};
 ghost use Rattle.fmp_run_view.specs.Setups as spec;
 
 use fmp_codes::ObjectKind;
-use fmp_config_listing::{KINDS, count, put_processors_line, word};
 use fmp_out::Text;
 use fmp_rules::{Config, Timer};
+use fmp_run_list::{KINDS, count, put_processors_line, word};
 use fmp_trace::put_named;
 
 /// The priority of a task at boot, the greatest count of a semaphore, how many values a data queue or blocks a pool has, or the period of a

@@ -4,3 +4,4 @@ pub mod Reading  -- How a question is read: word by word.
 pub mod Waiting  -- That tasks wait for ever.
 pub mod Lasting  -- How a question of what stays for ever is read.
 pub mod Resolved  -- A question once its patterns are resolved.
+pub mod Grammar  -- The grammar of questions, apart from how they are read.

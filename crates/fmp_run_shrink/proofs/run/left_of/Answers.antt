@@ -1,7 +1,7 @@
 use Rattle.std.proofs.Common.{ℕ, subst, sym, arith}
 use Rattle.fmp_codes.specs.Records.{AreOn}
 use Rattle.fmp_search_shrink.specs.Shrinking.{IsShrunk, Shrinks}
-use Rattle.fmp_run_shrink.proofs.Written.{is_written, left_few, left_in_bits, left_on}
+use Rattle.fmp_run_shrink.proofs.Left.{is_written, left_few, left_in_bits, left_on}
 use Rattle.fmp_run_shrink.proofs.run.left_of.Goals as goal
 
 pub returns-in_ok-text-in-Some : goal.returns-in_ok-text-in-Some

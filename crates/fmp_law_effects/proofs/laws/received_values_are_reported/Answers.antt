@@ -1,5 +1,0 @@
-use Rattle.fmp_law_effects.proofs.Received.{received_values_reported}
-use Rattle.fmp_law_effects.proofs.laws.received_values_are_reported.Goals as goal
-
-pub returns : goal.returns
-returns c = received_values_reported
