@@ -34,7 +34,7 @@ use Rattle.fmp_law_footprint.specs.Covers.{CoversTick}
 use Rattle.fmp_law_footprint.specs.Kinds.{of_order, of_waits, of_tasks, of_processors, of_locks, of_handlers, of_semaphores, of_eventflags, of_data_queues, of_pools, of_cyclics, of_alarms, of_exit, of_tick, Group, OnTasks, OnExit, OnSemaphores, OnEventflags, OnDataQueues, OnPools, OnCyclics, OnAlarms, OnOrder, OnProcessors, OnLocks, OnReturn, of_group, may_change}
 
 -- S has the waits of all tasks, and their order
-record HasWaits (S : Cell → Type 0) : Type 0 where
+pub record HasWaits (S : Cell → Type 0) : Type 0 where
   pub wait : (n : ℕ) → S (WaitOf n)
   pub left : (n : ℕ) → S (LeftOf n)
   pub spot : (n : ℕ) → S (SpotOf n)
@@ -42,44 +42,45 @@ record HasWaits (S : Cell → Type 0) : Type 0 where
   pub waiters : (x : QueueKind) (n : ℕ) → S (WaitersOf x n)
   pub timed : S TimedWaits
 
-record HasTasks (S : Cell → Type 0) : Type 0 where
+pub record HasTasks (S : Cell → Type 0) : Type 0 where
   pub waits : HasWaits S
   pub task : (n : ℕ) → S (OfTask n)
   pub counts : (n : ℕ) → S (CountsOf n)
 
+module _ (S : Cell → Type 0) where
+  pub in_queue : ((x : QueueKind) (n : ℕ) → S (WaitersOf x n)) → (x : Option Wait) → InQueue S x
+  in_queue h None = tt
+  in_queue h (Some wait.Sleep) = tt
+  in_queue h (Some wait.Delay) = tt
+  in_queue h (Some (wait.Semaphore s)) = h _ _
+  in_queue h (Some (wait.Eventflag f x m)) = h _ _
+  in_queue h (Some (wait.Send d v)) = h _ _
+  in_queue h (Some (wait.Receive d)) = h _ _
+  in_queue h (Some (wait.Pool m)) = h _ _
+
+  pub in_timed : S TimedWaits → (left : Option ℕ) → InTimed S left
+  in_timed h None = tt
+  in_timed h (Some n) = h
+
 module _ (S : Cell → Type 0) (h : HasWaits S) where
-  in_queue : (x : Option Wait) → InQueue S x
-  in_queue None = tt
-  in_queue (Some wait.Sleep) = tt
-  in_queue (Some wait.Delay) = tt
-  in_queue (Some (wait.Semaphore s)) = h.waiters _ _
-  in_queue (Some (wait.Eventflag f x m)) = h.waiters _ _
-  in_queue (Some (wait.Send d v)) = h.waiters _ _
-  in_queue (Some (wait.Receive d)) = h.waiters _ _
-  in_queue (Some (wait.Pool m)) = h.waiters _ _
-
-  in_timed : (left : Option ℕ) → InTimed S left
-  in_timed None = tt
-  in_timed (Some n) = h.timed
-
-  wakes : (t : Task) → Wakes S t
+  pub wakes : (t : Task) → Wakes S t
   wakes t = (h.wait _, h.left _, h.spot _)
 
-  sleeps : (t : Task) (x : Wait) (left : Option ℕ) → Sleeps S t x left
-  sleeps t x left = (wakes t, in_queue (Some x), in_timed left)
+  pub sleeps : (t : Task) (x : Wait) (left : Option ℕ) → Sleeps S t x left
+  sleeps t x left = (wakes t, in_queue S h.waiters (Some x), in_timed S h.timed left)
 
-  all_wake : (ts : List Task) → Each (Wakes S) ts
+  pub all_wake : (ts : List Task) → Each (Wakes S) ts
   all_wake [] = tt
   all_wake (t ∷ ts) = (wakes t, all_wake ts)
 
   closed : (tasks : List TaskRecord) (left : List (Option ℕ)) → Closed S tasks left
-  closed tasks left = record { ready = λ n s. h.ready _; queue = λ n s. in_queue _; timed = λ n s. in_timed _ }
+  closed tasks left = record { ready = λ n s. h.ready _; queue = λ n s. in_queue S h.waiters _; timed = λ n s. in_timed S h.timed _ }
 
 some_wakes : (S : Cell → Type 0) → HasWaits S → (t : Option Task) → IfSome t (Wakes S)
 some_wakes S h None = tt
 some_wakes S h (Some t) = wakes S h t
 
-some_spot : (S : Cell → Type 0) → ((n : ℕ) → S (SpotOf n)) → (t : Option Task) → IfSome t (λ u. S (SpotOf (at u)))
+pub some_spot : (S : Cell → Type 0) → ((n : ℕ) → S (SpotOf n)) → (t : Option Task) → IfSome t (λ u. S (SpotOf (at u)))
 some_spot S h None = tt
 some_spot S h (Some t) = h _
 
@@ -91,7 +92,7 @@ module _ {Q : Type 0} (k : Ordering Q) (S : Cell → Type 0) (w : World Q) (p : 
   waits : HasWaits S → (can : Bool) (X : Type 0) (x : Wait) (timeout : ℤ) → X → DoneOrWait S w p can X x timeout
   waits h can X x timeout here = (λ _. here, λ _. (λ _. tt, λ _. sleeps S h (caller w p) x (ticks_of timeout)))
 
-  covers_task : HasTasks S → (c : TaskCall) → (c ≡ task_call.ExtTsk → CoversTask k S w p task_call.ExtTsk) → CoversTask k S w p c
+  pub covers_task : HasTasks S → (c : TaskCall) → (c ≡ task_call.ExtTsk → CoversTask k S w p task_call.ExtTsk) → CoversTask k S w p c
   covers_task h (task_call.ActTsk id) e = (λ _. h.counts _, λ _. ((h.task _, h.waits.spot _), h.counts _, h.waits.wait _, h.waits.ready _))
   covers_task h (task_call.IactTsk id) e = (λ _. h.counts _, λ _. ((h.task _, h.waits.spot _), h.counts _, h.waits.wait _, h.waits.ready _))
   covers_task h (task_call.MactTsk id to) e = (λ _. h.counts _, λ _. ((h.task _, h.waits.spot _), h.counts _, h.waits.wait _, h.waits.ready _))
@@ -134,21 +135,11 @@ pools_wait : HasWaits (Within of_pools)
 pools_wait = record { wait = λ n. refl; left = λ n. refl; spot = λ n. refl; ready = λ n. refl; waiters = λ x n. refl; timed = refl }
 
 order_closed : (tasks : List TaskRecord) (left : List (Option ℕ)) → Closed (Within of_order) tasks left
-order_closed tasks left = record { ready = λ n s. refl; queue = λ n s. queued _; timed = λ n s. timed _ }
-  where
-    queued : (x : Option Wait) → InQueue (Within of_order) x
-    queued None = tt
-    queued (Some wait.Sleep) = tt
-    queued (Some wait.Delay) = tt
-    queued (Some (wait.Semaphore s)) = refl
-    queued (Some (wait.Eventflag f x m)) = refl
-    queued (Some (wait.Send d v)) = refl
-    queued (Some (wait.Receive d)) = refl
-    queued (Some (wait.Pool m)) = refl
-
-    timed : (left : Option ℕ) → InTimed (Within of_order) left
-    timed None = tt
-    timed (Some n) = refl
+order_closed tasks left = record {
+  ready = λ n s. refl;
+  queue = λ n s. in_queue (Within of_order) (λ x n. refl) _;
+  timed = λ n s. in_timed (Within of_order) refl _;
+}
 
 -- S has the spot of no task
 placeless : (f : Cell → Bool) → ((n : ℕ) → f (SpotOf n) ≡ false) → (tasks : List TaskRecord) (left : List (Option ℕ)) → Closed (Within f) tasks left

@@ -1,4 +1,3 @@
-pub mod Framed  -- How a change of a state is framed by its record.
-pub mod Calls  -- What each call leaves.
-pub mod Ticks  -- What a tick leaves.
+pub mod Framed  -- How a record frames a change that keeps all cells but those that it lets change.
+pub mod Covers  -- What a record lets change covers its call, or its tick.
 pub mod Steps  -- What each event leaves.
