@@ -1,15 +1,17 @@
 -- A text is read exactly where it partly prints records that fit, and else its first fault is told.
-use Rattle.std.proofs.Common.{◌≡◌, ◌≢◌, ℕ, ◌+◌, ◌<◌, ◌≤◌, ◌^◌, ◌⊎◌, Bool, true, false, not, cond, eqb, ltb, inl, inr, List, [], ◌∷◌, ◌++◌, length, Option, Some, None, Result, Ok, Err, refl, sym, ap, subst, ◌∙◌, arith, append_assoc}
-use Rattle.std.specs.Prelude.{map}
+use Rattle.std.proofs.Common.{◌≡◌, ◌≢◌, ℕ, ◌+◌, ◌<◌, ◌≤◌, ◌^◌, ◌⊎◌, Bool, true, false, not, ◌&&◌, cond, eqb, ltb, inl, inr, List, [], ◌∷◌, ◌++◌, length, Option, Some, None, Result, Ok, Err, refl, sym, ap, subst, ◌∙◌, arith, append_assoc}
+use Rattle.std.specs.Prelude.{codes, map}
+use Rattle.std.specs.Option.{option_map_or}
 use Rattle.std.specs.List.{list_all, join_with_byte}
 use Rattle.std.specs.Str.{bytes_eq}
-use Rattle.std.proofs.lemmas.Bool.{cases_Bool, eqb-true, eqb-false, ltb-true, ltb-false, le-ltb, and_parts, false≢true}
+use Rattle.std.proofs.lemmas.Bool.{cases_Bool, eqb-true, eqb-false, ltb-true, ltb-false, le-ltb, and_parts, and_from, false≢true}
 use Rattle.std.proofs.lemmas.Slice.Eq.{bytes_eq-Decides}
 use Rattle.std.proofs.lemmas.List.{nil_from_length}
 use Rattle.fmp_codes.specs.declared.numbers.Proc.{Proc}
 use Rattle.fmp_codes.specs.declared.records.Record.{Record}
 use Rattle.fmp_bytes.specs.declared.classes.Class.TheVariants.{Printed}
 use Rattle.fmp_bytes.specs.Bytes.{is_of, following, cut_at, pieces_of}
+use Rattle.fmp_bytes.specs.Numerals.{number_of}
 use Rattle.fmp_bytes.proofs.Cutting.{pieces_of-cut, cut_at-append, join-pieces_of, some-pieces_of, apart-pieces_of}
 use Rattle.fmp_bytes.proofs.Parsed.{and_then_parts}
 use Rattle.fmp_bytes.specs.Results.{◌>>=◌}
@@ -28,11 +30,13 @@ use Rattle.fmp_trace.proofs.FittingLines.{guess_event-fits}
 use Rattle.fmp_trace.proofs.FittingParts.{processor_numbered-fits, runner_in-fits}
 use Rattle.fmp_trace.proofs.Numbered.{first_piece}
 use Rattle.fmp_trace.proofs.ReadTexts.{too_long}
-use Rattle.fmp_trace_partial.specs.Partial.{kept_text}
+use Rattle.fmp_trace_partial.specs.Partial.{bounded_text, IsBound}
 use Rattle.fmp_trace_partial.specs.Partly.{PartlyPrints, BeginsWith, PartlyPrintsFrom, PartlyPrintsWithin, LineFault, FaultAt, FaultAfter, FirstFault}
-use Rattle.fmp_trace_partial.specs.Said.{tells_runner, guess_from, guess_on, guess_numbered, guess_line, guess_said}
-use Rattle.fmp_trace_partial.specs.Saying.{limited, confirmed, guessed, line_said, said_from, said_in}
+use Rattle.fmp_trace_partial.specs.Marks.{filled, answer_kept_in, with_code, bound_in, with_bound, with_part, with_mark, with_marks, no_marks, marks_in}
+use Rattle.fmp_trace_partial.specs.Said.{tells_runner, guess_from, guess_on, guess_numbered, guess_line, guess_plain, guess_marked, guess_said}
+use Rattle.fmp_trace_partial.specs.Saying.{is_within, limited, confirmed, guessed, line_said, said_from, said_in}
 use Rattle.fmp_trace_partial.specs.declared.kept.Kept.{Kept}
+use Rattle.fmp_trace_partial.specs.declared.marks.Marks.{Marks}
 use Rattle.fmp_trace_partial.specs.declared.telling.Said.{Said}
 use Rattle.fmp_trace_partial.proofs.GuessedParts.{said_of, said_again, said_whole, line_found}
 use Rattle.fmp_trace_partial.proofs.PrintedParts.{kept_printed}
@@ -64,41 +68,128 @@ guess_line-fits names line None s valid h =
     let digits = and_then_parts (following 80 rest.0) _ s rest.2 in
     guess_on-fits names true digits.0 s valid digits.2
 
-guess_said-fits : (names : NameLists) (line : List ℕ) (s : Said) → AreValid names → guess_said names line ≡ Some s → FitsNames names s.entry
-unfolding guess_said
-guess_said-fits names line s valid h = guess_line-fits names line (following 80 line) s valid h
+-- ---- the bound that is guessed has 32 bits
+
+abbrev IsSmall : Option ℕ → Type 0
+IsSmall None = Unit {0}
+IsSmall (Some last) = last < 2 ^ 32
+
+limited_small : (small other : Bool) (n last : ℕ) → ltb n (2 ^ 32) ≡ small → cond (small && other) (Some n) None ≡ Some last → last < 2 ^ 32
+limited_small true true n last test e = let same : n ≡ last = cc in omega (arith, same, ltb-true n (2 ^ 32) test)
+limited_small true false n last test e = absurd cc
+limited_small false other n last test e = absurd cc
+
+bound_in-small : (text : List ℕ) (last : ℕ) → bound_in text ≡ Some last → last < 2 ^ 32
+unfolding bound_in
+bound_in-small text last e =
+    let number = and_then_parts (number_of text) _ last e in
+    let magnitude = and_then_parts number.0.magnitude _ last number.2 in
+    limited_small (ltb magnitude.0 (2 ^ 32)) _ magnitude.0 last refl magnitude.2
+
+with_bound-small : (m q : Marks) (text : List ℕ) → with_bound m text ≡ Some q → IsSmall q.bound
+unfolding with_bound
+with_bound-small m q text e =
+    let last = and_then_parts (bound_in text) _ q e in
+    let same : Some last.0 ≡ q.bound = let e2 = last.2 in cc in
+    subst IsSmall same (bound_in-small text last.0 last.1)
+
+with_code-small : (m q : Marks) (code : List ℕ) → IsSmall m.bound → with_code m code ≡ Some q → IsSmall q.bound
+unfolding with_code
+with_code-small m q code small e =
+    elim (cases_Bool (eqb (length m.releases) 64)) [
+      | inl t ↦ let e2 = rw t at e in absurd cc
+      | inr f ↦ let e2 = rw f at e in let same : m.bound ≡ q.bound = cc in subst IsSmall same small
+    ]
+
+code-small : (m q : Marks) (code : Option (List ℕ)) → IsSmall m.bound → option_map_or (with_code m) code (Some m) ≡ Some q → IsSmall q.bound
+code-small m q None small e = let same : m.bound ≡ q.bound = cc in subst IsSmall same small
+code-small m q (Some code) small e = with_code-small m q code small e
+
+with_part-small : (m q : Marks) (key text : List ℕ) → IsSmall m.bound → with_part m key text ≡ Some q → IsSmall q.bound
+unfolding with_part
+with_part-small m q key text small e =
+    elim (cases_Bool (bytes_eq key (codes "by"))) [
+      | inl t ↦ with_bound-small m q text (rw t at e)
+      | inr f ↦ code-small m q (cut_at 58 text).1 small (rw f at e)
+    ]
+
+part-small : (m q : Marks) (word key : List ℕ) (text : Option (List ℕ)) → IsSmall m.bound → option_map_or (with_part m key) text (Some (record m { answer = answer_kept_in word })) ≡ Some q → IsSmall q.bound
+part-small m q word key None small e = let same : m.bound ≡ q.bound = cc in subst IsSmall same small
+part-small m q word key (Some text) small e = with_part-small m q key text small e
+
+with_marks-small : (m q : Marks) (words : List (List ℕ)) → IsSmall m.bound → with_marks m words ≡ Some q → IsSmall q.bound
+unfolding with_mark
+with_marks-small m q [] small e = let same : m.bound ≡ q.bound = cc in subst IsSmall same small
+with_marks-small m q (word ∷ words) small e =
+    let p = and_then_parts (with_mark m word) _ q e in
+    with_marks-small p.0 q words (part-small m p.0 word (cut_at 61 word).0 (cut_at 61 word).1 small p.1) p.2
+
+-- what is guessed: its record fits, and so does its bound
+record Fits (names : NameLists) (s : Said) : Type 0 where
+  entry : FitsNames names s.entry
+  bound : IsSmall s.bound
+
+guess_said-fits : (names : NameLists) (line : List ℕ) (s : Said) → AreValid names → guess_said names line ≡ Some s → Fits names s
+unfolding guess_said guess_marked guess_plain
+guess_said-fits names line s valid h =
+    let full = filled line in
+    let m = and_then_parts (marks_in line) _ s h in
+    let plain = and_then_parts (guess_plain names full) _ s m.2 in
+    let is = plain.2 in
+    let entry : plain.0.entry ≡ s.entry = cc in
+    let bound : m.0.bound ≡ s.bound = cc in
+    record {
+      entry = subst (FitsNames names) entry (guess_line-fits names full (following 80 full) plain.0 valid plain.1);
+      bound = subst IsSmall bound (with_marks-small no_marks m.0 (pieces_of 32 line) tt m.1);
+    }
 
 -- ---- one line
 
 -- what line n says, which is what is guessed of it
 pub record IsSaid (names : NameLists) (n : ℕ) (line : List ℕ) (s : Said) : Type 0 where
-  pub printed : line ≡ kept_text names n s.kept s.entry
+  pub printed : line ≡ bounded_text names n s.kept s.bound s.entry
   pub fits : FitsNames names s.entry
+  pub is_bound : IsBound n s.bound
   pub guess : guess_said names line ≡ Some s
 
 pub said_prints : (names : NameLists) (n : ℕ) (line : List ℕ) (s : Said) → IsSaid names n line s → PartlyPrints names n line s.entry
-said_prints names n line s said = record { kept = s.kept; printed = said.printed; fits = said.fits }
+said_prints names n line s said = record { kept = s.kept; bound = s.bound; printed = said.printed; fits = said.fits; is_bound = said.is_bound }
 
 -- of a record that the line partly prints it says what is kept
-pub printed_said : (names : NameLists) (n : ℕ) (line : List ℕ) (r : Record) → AreValid names → n < 2 ^ 64 → (prints : PartlyPrints names n line r) → guess_said names line ≡ Some (said_of prints.kept r)
-printed_said names n line r valid small prints = ap (guess_said names) prints.printed ∙ line_found names r valid prints.fits n prints.kept small
+pub printed_said : (names : NameLists) (n : ℕ) (line : List ℕ) (r : Record) → AreValid names → n < 2 ^ 64 → (prints : PartlyPrints names n line r) → guess_said names line ≡ Some (said_of prints.kept prints.bound r)
+printed_said names n line r valid small prints = ap (guess_said names) prints.printed ∙ line_found names r valid prints.fits n prints.kept prints.bound small prints.is_bound
 
 -- whatever record it is, the line is what its parts print of it
-pub printed_parts : (names : NameLists) (n : ℕ) (line : List ℕ) (s : Said) (r : Record) → AreValid names → n < 2 ^ 64 → IsSaid names n line s → PartlyPrints names n line r → kept_text names n s.kept r ≡ kept_text names n s.kept s.entry
+pub printed_parts : (names : NameLists) (n : ℕ) (line : List ℕ) (s : Said) (r : Record) → AreValid names → n < 2 ^ 64 → IsSaid names n line s → PartlyPrints names n line r
+    → bounded_text names n s.kept s.bound r ≡ bounded_text names n s.kept s.bound s.entry
 printed_parts names n line s r valid small said prints =
-    let found : ◌≡◌ {A = Option Said} (Some s) (Some (said_of prints.kept r)) = sym said.guess ∙ printed_said names n line r valid small prints in
-    let same : s ≡ said_of prints.kept r = cc in
-    ap (λ (x : Said). kept_text names n x.kept r) same ∙ said_whole names n prints.kept r ∙ sym prints.printed ∙ said.printed
+    let found : ◌≡◌ {A = Option Said} (Some s) (Some (said_of prints.kept prints.bound r)) = sym said.guess ∙ printed_said names n line r valid small prints in
+    let same : s ≡ said_of prints.kept prints.bound r = cc in
+    ap (λ (x : Said). bounded_text names n x.kept x.bound r) same ∙ said_whole names n prints.kept prints.bound r ∙ sym prints.printed ∙ said.printed
+
+bound_within : (n : ℕ) (bound : Option ℕ) → IsBound n bound → is_within n bound ≡ true
+bound_within n None is_bound = refl
+bound_within n (Some last) is_bound = let test = le-ltb last n is_bound.0 in rw test refl
+
+within_bound : (n : ℕ) (bound : Option ℕ) → IsSmall bound → is_within n bound ≡ true → IsBound n bound
+within_bound n None small within = tt
+within_bound n (Some last) small within =
+    elim (cases_Bool (ltb last n)) [
+      | inl t ↦ absurd (false≢true (rw t at within))
+      | inr f ↦ (ltb-false last n f, small)
+    ]
 
 -- a line that partly prints a record is read, where there is room for it
-pub line_read : (names : NameLists) (n : ℕ) (line : List ℕ) (r : Record) → AreValid names → n < 2 ^ 64 → (prints : PartlyPrints names n line r) → line_said names n line ≡ limited n (said_of prints.kept r)
+pub line_read : (names : NameLists) (n : ℕ) (line : List ℕ) (r : Record) → AreValid names → n < 2 ^ 64 → (prints : PartlyPrints names n line r) → line_said names n line ≡ limited n (said_of prints.kept prints.bound r)
 unfolding line_said confirmed
 line_read names n line r valid small prints =
     let is_line = prints.printed in
-    let printed = kept_printed names r valid prints.fits n prints.kept small in
-    let found = line_found names r valid prints.fits n prints.kept small in
-    let same = (bytes_eq-Decides (kept_text names n (said_of prints.kept r).kept (said_of prints.kept r).entry) (kept_text names n prints.kept r)).1 (said_again names n prints.kept r) in
-    rw (is_line, printed, found, same) refl
+    let s = said_of prints.kept prints.bound r in
+    let printed = kept_printed names r valid prints.fits n prints.kept prints.bound small prints.is_bound in
+    let found = line_found names r valid prints.fits n prints.kept prints.bound small prints.is_bound in
+    let same = (bytes_eq-Decides (bounded_text names n s.kept s.bound s.entry) (bounded_text names n prints.kept prints.bound r)).1 (said_again names n prints.kept prints.bound r) in
+    let within = bound_within n prints.bound prints.is_bound in
+    rw (is_line, printed, found, same, within) refl
 
 pub limited_ok : (n : ℕ) (s : Said) → n ≤ most_events → limited n s ≡ Ok s
 unfolding limited
@@ -117,19 +208,34 @@ limited_reported names n line s said =
       | inr f ↦ rw f (said, ltb-false most_events n f)
     ]
 
+-- a guess is right: it prints the line, and its bound is within
+abbrev is_right : NameLists → ℕ → List ℕ → Said → Bool
+is_right names n line s = bytes_eq (bounded_text names n s.kept s.bound s.entry) line && is_within n s.bound
+
 -- a line of printed bytes that is no right guess prints nothing
-no_record : (names : NameLists) (n : ℕ) (line : List ℕ) (found : Option Said) → AreValid names → n < 2 ^ 64 → guess_said names line ≡ found → ((s : Said) → found ≡ Some s → kept_text names n s.kept s.entry ≡ line → ⊥) → (r : Record) → PartlyPrints names n line r → ⊥
+no_record : (names : NameLists) (n : ℕ) (line : List ℕ) (found : Option Said) → AreValid names → n < 2 ^ 64 → guess_said names line ≡ found → ((s : Said) → found ≡ Some s → is_right names n line s ≡ true → ⊥) → (r : Record) → PartlyPrints names n line r → ⊥
 no_record names n line found valid small is_found wrong r prints =
-    let right : found ≡ Some (said_of prints.kept r) = sym is_found ∙ printed_said names n line r valid small prints in
-    wrong (said_of prints.kept r) right (said_again names n prints.kept r ∙ sym prints.printed)
+    let s = said_of prints.kept prints.bound r in
+    let right : found ≡ Some s = sym is_found ∙ printed_said names n line r valid small prints in
+    wrong s right (and_from (bytes_eq (bounded_text names n s.kept s.bound s.entry) line) (is_within n s.bound)
+    ((bytes_eq-Decides (bounded_text names n s.kept s.bound s.entry) line).1 (said_again names n prints.kept prints.bound r ∙ sym prints.printed))
+    (bound_within n prints.bound prints.is_bound))
 
 guessed_reported : (names : NameLists) (n : ℕ) (line : List ℕ) (found : Option Said) → AreValid names → n < 2 ^ 64 → list_all (is_of Printed) line ≡ true → guess_said names line ≡ found → LineReported names n line (guessed names n line found)
 unfolding confirmed
 guessed_reported names n line None valid small printed is_found = ((λ e. absurd cc), (printed, no_record names n line None valid small is_found (λ s e h. absurd cc)))
 guessed_reported names n line (Some g) valid small printed is_found =
-    elim (cases_Bool (bytes_eq (kept_text names n g.kept g.entry) line)) [
-      | inl t ↦ rw t (limited_reported names n line g (record { printed = sym ((bytes_eq-Decides (kept_text names n g.kept g.entry) line).0 t); fits = guess_said-fits names line g valid is_found; guess = is_found }))
-      | inr f ↦ rw f ((λ e. absurd cc), (printed, no_record names n line (Some g) valid small is_found (λ s e h. let same : g ≡ s = cc in false≢true (sym f ∙ (bytes_eq-Decides (kept_text names n g.kept g.entry) line).1 (ap (λ (x : Said). kept_text names n x.kept x.entry) same ∙ h)))))
+    elim (cases_Bool (is_right names n line g)) [
+      | inl t ↦
+          let parts = and_parts (bytes_eq (bounded_text names n g.kept g.bound g.entry) line) (is_within n g.bound) t in
+          let fits = guess_said-fits names line g valid is_found in
+          rw t (limited_reported names n line g (record {
+            printed = sym ((bytes_eq-Decides (bounded_text names n g.kept g.bound g.entry) line).0 parts.0);
+            fits = fits.entry;
+            is_bound = within_bound n g.bound fits.bound parts.1;
+            guess = is_found;
+          }))
+      | inr f ↦ rw f ((λ e. absurd cc), (printed, no_record names n line (Some g) valid small is_found (λ s e h. let same : g ≡ s = cc in false≢true (sym f ∙ ap (is_right names n line) same ∙ h))))
     ]
 
 pub line_reported : (names : NameLists) (n : ℕ) (line : List ℕ) → AreValid names → n < 2 ^ 64 → LineReported names n line (line_said names n line)
@@ -145,7 +251,7 @@ line_reported names n line valid small =
 -- what the lines say is what is kept of the records
 abbrev pub AreSaid : NameLists → List Said → List Record → Type 0
 AreSaid names [] [] = Unit {0}
-AreSaid names (s ∷ ss) (r ∷ rs) = ((kept : Kept) × (s ≡ said_of kept r)) × AreSaid names ss rs
+AreSaid names (s ∷ ss) (r ∷ rs) = ((kept : Kept) × (bound : Option ℕ) × (s ≡ said_of kept bound r)) × AreSaid names ss rs
 AreSaid names _ _ = ⊥
 
 -- the pieces of a text that begins with a line
@@ -170,14 +276,14 @@ unfolding said_from pieces_of
 texts_read names n text [] valid few prints = record { said = []; read = rw prints refl; same = tt }
 texts_read names n text (r ∷ rs) valid few (line, rest, begins, here, others) =
     let small : n < 2 ^ 64 = omega (arith, few) in
-    let s = said_of here.kept r in
+    let s = said_of here.kept here.bound r in
     let first : at_line n (line_said names n line) ≡ Ok s = ap (at_line n) (line_read names n line r valid small here ∙ limited_ok n s (omega (arith, few))) in
     let more = texts_read names (n + 1) rest rs valid (omega (arith, few)) others in
     let read = more.read in
     record {
       said = s ∷ more.said;
       read = ap (said_from names n) (line_pieces text line rest begins) ∙ rw (said_from-line, first, read) refl;
-      same = ((here.kept, refl), more.same);
+      same = ((here.kept, here.bound, refl), more.same);
     }
 
 -- ---- what is told of a text

@@ -1,5 +1,5 @@
 -- Which texts partly print which records, and the first fault of a text that partly prints none.
-use Rattle.std.specs.Prelude.{◌≡◌, ℕ, ◌+◌, ◌<◌, ◌≤◌, ◌⊎◌, true, false, List, [], ◌∷◌, ◌++◌, length}
+use Rattle.std.specs.Prelude.{◌≡◌, ℕ, ◌+◌, ◌<◌, ◌≤◌, ◌⊎◌, true, false, List, [], ◌∷◌, ◌++◌, length, Option}
 use Rattle.std.specs.List.{list_all}
 use Rattle.fmp_bytes.specs.declared.classes.Class.TheVariants.{Printed}
 use Rattle.fmp_bytes.specs.Bytes.{is_of, line_feed}
@@ -11,14 +11,16 @@ use Rattle.fmp_text.specs.declared.fault.TextKind.TheVariants.{BadByte, BadWord,
 use Rattle.fmp_names.specs.Names.{NameLists}
 use Rattle.fmp_trace.specs.Fits.{FitsNames}
 use Rattle.fmp_trace.specs.Prints.{IsUnended}
-use Rattle.fmp_trace_partial.specs.Partial.{kept_text}
+use Rattle.fmp_trace_partial.specs.Partial.{bounded_text, IsBound}
 use Rattle.fmp_trace_partial.specs.declared.kept.Kept.{Kept}
 
--- line n, without its line feed, is what is printed of the record, where some parts may be left out
+-- line n, without its line feed, is what is printed of the record, where some parts may be left out, and then its bound, if it has one
 pub record PartlyPrints (names : NameLists) (n : ℕ) (line : List ℕ) (r : Record) : Type 0 where
   pub kept : Kept
-  pub printed : line ≡ kept_text names n kept r
+  pub bound : Option ℕ
+  pub printed : line ≡ bounded_text names n kept bound r
   pub fits : FitsNames names r
+  pub is_bound : IsBound n bound
 
 -- a text is this line and the rest
 pub record BeginsWith (text line rest : List ℕ) : Type 0 where

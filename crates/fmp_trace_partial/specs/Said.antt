@@ -1,5 +1,5 @@
 -- What a line of a partial trace is guessed to say: what it prints, where it partly prints a record, and anything or nothing else.
-use Rattle.std.specs.Prelude.{ℕ, Bool, true, false, not, ◌&&◌, ◌||◌, List, length, Option, None, Some, ◌==◌, if◌then◌else◌, is_some, codes}
+use Rattle.std.specs.Prelude.{ℕ, Bool, true, false, not, ◌&&◌, ◌||◌, List, [], length, Option, None, Some, ◌==◌, if◌then◌else◌, is_some, codes}
 use Rattle.std.specs.Option.{option_map_or}
 use Rattle.std.specs.Str.{bytes_eq}
 use Rattle.fmp_codes.specs.declared.numbers.Proc.{Proc}
@@ -10,7 +10,10 @@ use Rattle.fmp_text.specs.Argument.{◌>>=◌}
 use Rattle.fmp_text.specs.Lines.{processor_numbered}
 use Rattle.fmp_names.specs.Names.{NameLists}
 use Rattle.fmp_trace.specs.Guess.{guess_event, guess_runner}
+use Rattle.fmp_trace_partial.specs.Marks.{filled, marks_in}
+use Rattle.fmp_trace_partial.specs.declared.codes_kept.AnswerKept.TheVariants as of_answer
 use Rattle.fmp_trace_partial.specs.declared.kept.Kept.{Kept}
+use Rattle.fmp_trace_partial.specs.declared.marks.Marks.{Marks}
 use Rattle.fmp_trace_partial.specs.declared.telling.Said.{Said}
 
 -- ---- where the runner is left out
@@ -30,13 +33,14 @@ tells_runner text = not (opens text) && option_map_or begins_event (cut_at space
 
 -- ---- a line
 
--- what a line writes that says this record
+-- what a line writes that says this record, but for its codes
 abbrev pub kept_of : Bool → Bool → Record → Kept
 kept_of number runner r =
     record {
       number = number;
       runner = runner;
-      releases = not (length r.releases == 0);
+      answer = of_answer.Whole;
+      releases = [];
       lost = is_some r.lost;
       run_change = is_some r.run_change;
       requests = not (length r.requests == 0);
@@ -51,7 +55,7 @@ guess_on names number digits = do
   rest ← (cut_at space digits).1
   p ← processor_numbered names (cut_at space digits).0
   r ← guess_from names (tells_runner rest) p rest
-  Some (record { kept = kept_of number (tells_runner rest) r; entry = r })
+  Some (record { kept = kept_of number (tells_runner rest) r; entry = r; bound = None })
 
 unfoldable pub guess_numbered : NameLists → List ℕ → Option Said
 guess_numbered names line = do
@@ -63,6 +67,21 @@ abbrev pub guess_line : NameLists → List ℕ → Option (List ℕ) → Option 
 guess_line names line None = guess_numbered names line
 guess_line names line (Some digits) = guess_on names false digits
 
--- what a line says, whatever its number
+-- what a line says that leaves nothing out of its codes and has no bound, whatever its number
+unfoldable pub guess_plain : NameLists → List ℕ → Option Said
+guess_plain names line = guess_line names line (following letter_p line)
+
+-- the same, where this is left out, with this bound
+abbrev pub marked : Marks → Said → Said
+marked m s = record { kept = record s.kept { answer = m.answer; releases = m.releases }; entry = s.entry; bound = m.bound }
+
+-- what a line says, which is as much as this other line where something is put in
+unfoldable pub guess_marked : NameLists → List ℕ → List ℕ → Option Said
+guess_marked names line full = do
+  m ← marks_in line
+  s ← guess_plain names full
+  Some (marked m s)
+
+-- what a line says
 unfoldable pub guess_said : NameLists → List ℕ → Option Said
-guess_said names line = guess_line names line (following letter_p line)
+guess_said names line = guess_marked names line (filled line)

@@ -1,5 +1,5 @@
 -- Reading a partial trace line by line: each line is guessed, and printed again.
-use Rattle.std.specs.Prelude.{ℕ, ◌+◌, List, [], ◌∷◌, length, Option, None, Some, Result, Ok, Err, nat_lt, ◌==◌, if◌then◌else◌}
+use Rattle.std.specs.Prelude.{ℕ, ◌+◌, Bool, true, not, ◌&&◌, List, [], ◌∷◌, length, Option, None, Some, Result, Ok, Err, nat_lt, ◌==◌, if◌then◌else◌}
 use Rattle.std.specs.List.{list_all}
 use Rattle.std.specs.Str.{bytes_eq}
 use Rattle.fmp_bytes.specs.declared.classes.Class.TheVariants.{Printed}
@@ -11,16 +11,21 @@ use Rattle.fmp_text.specs.declared.fault.TextKind.{TextKind}
 use Rattle.fmp_text.specs.declared.fault.TextKind.TheVariants.{BadByte, BadWord, CutShort, TooMany}
 use Rattle.fmp_names.specs.Names.{NameLists}
 use Rattle.fmp_trace.specs.Reading.{at_line}
-use Rattle.fmp_trace_partial.specs.Partial.{kept_text}
+use Rattle.fmp_trace_partial.specs.Partial.{bounded_text}
 use Rattle.fmp_trace_partial.specs.Said.{guess_said}
 use Rattle.fmp_trace_partial.specs.declared.telling.Said.{Said}
 
 unfoldable pub limited : ℕ → Said → Result Said TextKind
 limited n s = if nat_lt most_events n then Err TooMany else Ok s
 
+-- the bound of line n is no line before it
+abbrev pub is_within : ℕ → Option ℕ → Bool
+is_within n None = true
+is_within n (Some last) = not (nat_lt last n)
+
 -- a guess that prints the line
 unfoldable pub confirmed : NameLists → ℕ → List ℕ → Said → Result Said TextKind
-confirmed names n line s = if bytes_eq (kept_text names n s.kept s.entry) line then limited n s else Err BadWord
+confirmed names n line s = if bytes_eq (bounded_text names n s.kept s.bound s.entry) line && is_within n s.bound then limited n s else Err BadWord
 
 abbrev pub guessed : NameLists → ℕ → List ℕ → Option Said → Result Said TextKind
 guessed names n line None = Err BadWord

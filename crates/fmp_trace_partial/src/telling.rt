@@ -1,12 +1,15 @@
 //! Reading what the lines of a partial trace say. What a line may say is guessed, and printed again.
 ghost use Rattle.std.specs.Prelude.{◌≡◌, IfOk};
 ghost use Rattle.std.specs.Str.{bytes_eq};
+ghost use Rattle.fmp_out.specs.Putting.{Adds};
 ghost use Rattle.fmp_trace.specs.Reading.{GivesOrFails, at_line};
-ghost use Rattle.fmp_trace_partial.specs.Partial.{kept_text};
+ghost use Rattle.fmp_trace_partial.specs.Partial.{bounded_text};
 ghost use Rattle.fmp_trace_partial.specs.Said as spec;
 ghost use Rattle.fmp_trace_partial.specs.Saying as saying;
 
-use crate::kept::{Kept, put_kept};
+use crate::codes_kept::{AnswerKept, CodesKept};
+use crate::kept::{Kept, put_bound, put_kept};
+use crate::marks::{Marks, marks_in, put_filled};
 use fmp_bytes::{Class, all_of, cut, following, split_prefix};
 use fmp_codes::{Proc, Record};
 use fmp_out::Text;
@@ -19,8 +22,11 @@ use std::alloc::AllocError;
 pub struct Said {
     /// Which parts it writes.
     pub kept: Kept,
-    /// What these parts say. What the line leaves out is nothing in it.
+    /// What these parts say. What the line leaves out is nothing in it: no value, `E_OK` where it leaves out a code, and `none` where it leaves out
+    /// the answer.
     pub entry: Record,
+    /// The last line whose event may take effect before this one's, where it is told. It is this line or a later one.
+    pub bound: Option<u32>,
 }
 
 /// Whether a text begins with a word and a parenthesis.
@@ -58,14 +64,15 @@ fn tells_runner(text: &[u8]) -> bool
     }
 }
 
-/// What is written of a line that says this record.
+/// What is written of a line that says this record and leaves nothing out of its codes.
 fn kept_of(number: bool, runner: bool, entry: &Record) -> Kept
     ensures { result ≡ spec.kept_of number runner entry.now }
 {
     Kept {
         number,
         runner,
-        releases: !entry.releases.is_empty(),
+        answer: AnswerKept::Whole,
+        releases: CodesKept::new(),
         lost: entry.lost.is_some(),
         run_change: entry.run_change.is_some(),
         requests: !entry.requests.as_slice().is_empty(),
@@ -97,6 +104,7 @@ fn guess_on(names: &Names, number: bool, digits: &[u8]) -> Option<Said>
     Some(Said {
         kept: kept_of(number, runner, &entry),
         entry,
+        bound: None,
     })
 }
 
@@ -109,15 +117,59 @@ fn guess_numbered(names: &Names, line: &[u8]) -> Option<Said>
     guess_on(names, true, following(b'P', rest?)?)
 }
 
-/// What a line says, if anything. Its number is left aside.
-#[tactic(auto, unfolding(crate::specs::Said::guess_said))]
-fn guess_said(names: &Names, line: &[u8]) -> Option<Said>
-    ensures { result ≡ spec.guess_said names.now line.now }
+/// What a line says that leaves nothing out of its codes, if anything. Its number is left aside.
+#[tactic(auto, unfolding(crate::specs::Said::guess_plain))]
+fn guess_plain(names: &Names, line: &[u8]) -> Option<Said>
+    ensures { result ≡ spec.guess_plain names.now line.now }
 {
     match following(b'P', line) {
         Some(digits) => guess_on(names, false, digits),
         None => guess_numbered(names, line),
     }
+}
+
+/// What a line says where this is left out of its codes, with its bound.
+fn marked(marks: Marks, said: Said) -> Said
+    ensures { result ≡ spec.marked marks said }
+{
+    Said {
+        kept: Kept {
+            answer: marks.answer,
+            releases: marks.releases,
+            ..said.kept
+        },
+        entry: said.entry,
+        bound: marks.bound,
+    }
+}
+
+/// What a line says, which is as much as this other line where something is put in.
+#[tactic(auto, unfolding(crate::specs::Said::guess_marked))]
+fn guess_marked(names: &Names, line: &[u8], full: &[u8]) -> Option<Said>
+    ensures { result ≡ spec.guess_marked names.now line.now full.now }
+{
+    let marks = marks_in(line)?;
+    let said = guess_plain(names, full)?;
+    Some(marked(marks, said))
+}
+
+/// What a line says, if anything. The scratch is written over.
+#[tactic(auto, unfolding(crate::specs::Said::guess_said))]
+fn guess_said(scratch: &mut Text, names: &Names, line: &[u8]) -> Result<Option<Said>, AllocError>
+    ensures { IfOk result (λ said. said ≡ spec.guess_said names.now line.now) }
+{
+    scratch.clear();
+    put_filled(scratch, line);
+    Ok(guess_marked(names, line, scratch.so_far()?))
+}
+
+/// Adds line n of a partial trace, without its line feed, that says as much of a record as another line does, with the bound of that.
+#[tactic(auto, unfolding(crate::specs::Partial::bounded_text))]
+pub fn put_said(out: &mut Text, names: &Names, n: u32, said: &Said, entry: &Record)
+    ensures { Adds (bounded_text names.now n said.now.kept said.now.bound entry.now) out.old out.new }
+{
+    put_kept(out, names, n, &said.kept, entry);
+    put_bound(out, said.bound);
 }
 
 /// Whether line n, without its line feed, is what is printed of what it says. The scratch is written over.
@@ -128,11 +180,21 @@ fn is_line(
     said: &Said,
     line: &[u8],
 ) -> Result<bool, AllocError>
-    ensures { IfOk result (λ same. same ≡ bytes_eq (kept_text names.now n said.now.kept said.now.entry) line.now) }
+    ensures { IfOk result (λ same. same ≡ bytes_eq (bounded_text names.now n said.now.kept said.now.bound said.now.entry) line.now) }
 {
     scratch.clear();
-    put_kept(scratch, names, n, said.kept, &said.entry);
+    put_said(scratch, names, n, said, &said.entry);
     Ok(scratch.so_far()? == line)
+}
+
+/// Whether the bound of line n, if it has one, is no line before it.
+fn is_within(n: u32, bound: Option<u32>) -> bool
+    ensures { result ≡ saying.is_within n bound }
+{
+    match bound {
+        Some(last) => n <= last,
+        None => true,
+    }
 }
 
 /// A fault of this kind in this line.
@@ -165,7 +227,7 @@ fn confirmed(
 ) -> Result<Said, TextFault>
     ensures { GivesOrFails (λ s. s) result (at_line n (saying.confirmed names.now n line.now said)) }
 {
-    if is_line(scratch, names, n, &said, line)? {
+    if is_line(scratch, names, n, &said, line)? && is_within(n, said.bound) {
         limited(n, said)
     } else {
         Err(fault(TextKind::BadWord, n))
@@ -180,7 +242,7 @@ pub fn read_said(scratch: &mut Text, names: &Names, n: u32, line: &[u8]) -> Resu
     if !all_of(Class::Printed, line) {
         return Err(fault(TextKind::BadByte, n));
     }
-    match guess_said(names, line) {
+    match guess_said(scratch, names, line)? {
         Some(said) => confirmed(scratch, names, n, line, said),
         None => Err(fault(TextKind::BadWord, n)),
     }
