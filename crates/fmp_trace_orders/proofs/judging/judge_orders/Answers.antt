@@ -1,0 +1,32 @@
+use Rattle.std.proofs.Common.{length, subst}
+use Rattle.std.proofs.lemmas.Result.{IfOk-weaker}
+use Rattle.fmp_names.specs.Names.{AreValid}
+use Rattle.fmp_search_lines.specs.Lasts.{last_at, must_at}
+use Rattle.fmp_trace_orders.proofs.Numbers.{few_starts, few_lasts, events_kept, judged}
+use Rattle.fmp_trace_orders.proofs.judging.judge_orders.Goals as goal
+
+pub new-requires-clause-few : goal.new-requires-clause-few
+new-requires-clause-few c =
+    few_starts c.args.config.now.names c.args.text.now c.args.lines.now (subst AreValid c.names.ensures.value c.validity.ensures) c.requires
+
+pub new-requires-clause-events : goal.new-requires-clause-events
+new-requires-clause-events c =
+    events_kept c.args.config.now.names c.args.text.now c.args.lines.now (subst AreValid c.names.ensures.value c.validity.ensures) c.requires
+
+pub search_orders-requires : goal.search_orders-requires
+search_orders-requires c =
+    let value = c.deref.ensures.value in
+    rw value (few_lasts c.args.config.now.names c.args.text.now c.args.lines.now (subst AreValid c.names.ensures.value c.validity.ensures) c.requires)
+
+pub returns : goal.returns
+returns c =
+    let config = c.args.config.now in
+    let lines = c.args.lines.now in
+    let valid = subst AreValid c.names.ensures.value c.validity.ensures in
+    let lasts_are = c.deref.ensures.value in
+    let musts_are = c.deref-2.ensures.value in
+    let says = rw (lasts_are, musts_are) at c.search_orders.ensures in
+    IfOk-weaker c.search_orders.result _ _
+    (λ answer known. judged config c.args.text.now lines c.in_ok-player.player.state (last_at lines.lasts.items) (length lines.lasts.items)
+    (must_at lines.musts.items) answer c.names.ensures.valid valid c.requires c.in_ok-player.ensures known)
+    says

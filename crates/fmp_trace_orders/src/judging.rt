@@ -1,0 +1,31 @@
+//! Judging a text whose lines may have come in another order.
+ghost use Rattle.std.specs.Prelude.{length, IfOk};
+ghost use Rattle.fmp_rules.specs.Arrivals.{numbered};
+ghost use Rattle.fmp_search_lines.specs.Answers.{SaysOrders};
+ghost use Rattle.fmp_search_lines.specs.Lasts.{last_at, must_at};
+ghost use Rattle.fmp_trace_orders.specs.Lines.{AreLinesOf, lines_of};
+ghost use Rattle.fmp_trace_orders.specs.Playing.{at_booted, plays};
+
+use crate::lines::Lines;
+use crate::player::LinePlayer;
+use fmp_rules::Config;
+use fmp_search_lines::{Orders, search_orders};
+use std::alloc::{AllocError, Global};
+
+/// Searches for an order of a text's lines within their bounds in which each is what the machine answers there, from boot on. There is room for so many places
+/// of the search. The error is want of memory.
+pub fn judge_orders(
+    alloc: Global,
+    config: &Config,
+    text: &[u8],
+    lines: &Lines,
+    most: u32,
+) -> Result<Orders, AllocError>
+    requires { AreLinesOf config.now.names text.now lines.now }
+    ensures { IfOk result (SaysOrders (plays numbered) (last_at lines.now.lasts.items) (length lines.now.lasts.items) (must_at lines.now.musts.items)
+        (at_booted config.now (lines_of text.now))) }
+{
+    config.names().validity();
+    let player = LinePlayer::new(config, text, lines)?;
+    search_orders(alloc, &player, &lines.lasts, &lines.musts, most)
+}
