@@ -19,7 +19,7 @@ use Rattle.fmp_cli.specs.declared.Request.TheVariants as request
 use Rattle.fmp_cli.specs.declared.Subcommand.{Subcommand}
 use Rattle.fmp_cli.specs.declared.Subcommand.TheVariants as subcommand
 use Rattle.fmp_cli.specs.declared.Report.{Report}
-use Rattle.fmp_cli.specs.Flags.{report_by, asked_by, form_by, is_path, page_by, subcommand_by}
+use Rattle.fmp_cli.specs.Flags.{report_by, asked_by, is_path, page_by, subcommand_by}
 
 -- each command line, as a parse reads it
 abbrev pub calls_line : App
@@ -66,16 +66,20 @@ pub record AsksLife (rows : List Row) (p : Paths) (things : Bor (List ℕ)) (c :
   pub names : first_of (codes "of") rows ≡ Some things.now
   pub colour : c ≡ colour_by (first_of (codes "color") rows)
 
--- what is asked is what the flags say
+-- of a whole trace what the flags say is asked
 pub record AsksCheck (rows : List Row) (p : Paths) (a : Asked) : Type 0 where
-  pub partial : Bool
   pub show : Bool
   pub all : Bool
-  pub partial_flag : IsFlag (one_of (codes "partial") rows) partial
+  pub whole : IsFlag (one_of (codes "partial") rows) false
   pub show_flag : IsFlag (one_of (codes "show") rows) show
   pub all_flag : IsFlag (one_of (codes "all") rows) all
-  pub paths : NamesPaths rows (codes "TRACE") (form_by partial) p
-  pub asked : a ≡ asked_by partial show all
+  pub paths : NamesPaths rows (codes "TRACE") form.Trace p
+  pub asked : a ≡ asked_by show all
+
+-- a trace is judged as a partial one
+pub record AsksPartial (rows : List Row) (p : Paths) : Type 0 where
+  pub partial : IsFlag (one_of (codes "partial") rows) true
+  pub paths : NamesPaths rows (codes "TRACE") form.Partial p
 
 -- the waveform is asked for
 pub record AsksWave (rows : List Row) (p : Paths) (a : Asked) : Type 0 where
@@ -111,6 +115,7 @@ IsCalls rows _ = ⊥
 
 abbrev pub IsCheck : List Row → Request → Type 0
 IsCheck rows (request.Trace p a) = AsksCheck rows p a
+IsCheck rows (request.Partial p) = AsksPartial rows p
 IsCheck rows _ = ⊥
 
 abbrev pub IsWave : List Row → Request → Type 0

@@ -4,11 +4,9 @@ use Rattle.std.specs.List.{list_any}
 use Rattle.std.specs.Str.{bytes_eq}
 use Rattle.fmp_bytes.specs.Bytes.{slash}
 use Rattle.fmp_trace_check.specs.declared.comparing.Shown.TheVariants.{First, Each}
-use Rattle.fmp_cli_hints.specs.declared.text.TextForm.{TextForm}
-use Rattle.fmp_cli_hints.specs.declared.text.TextForm.TheVariants as form
 use Rattle.clap.specs.Words.{Text}
 use Rattle.fmp_cli.specs.declared.Asked.{Asked}
-use Rattle.fmp_cli.specs.declared.Asked.TheVariants.{Verdict, Partial, Differences, Page, DifferencesPage}
+use Rattle.fmp_cli.specs.declared.Asked.TheVariants.{Verdict, Differences, Page, DifferencesPage}
 use Rattle.fmp_cli.specs.declared.Subcommand.{Subcommand}
 use Rattle.fmp_cli.specs.declared.Subcommand.TheVariants as subcommand
 use Rattle.fmp_cli.specs.declared.Report.{Report}
@@ -23,21 +21,15 @@ report_by true changes = report.State
 report_by false true = report.Changes
 report_by false false = report.Line
 
--- what is asked of a trace, by the flags: a verdict on what is written, or else the first line that differs, or else all of them,
--- or else the verdict on whole lines alone
-abbrev pub asked_by : Bool → Bool → Bool → Asked
-asked_by true show all = Partial
-asked_by false true all = Differences First
-asked_by false false true = Differences Each
-asked_by false false false = Verdict
+-- what is asked of a trace, by the flags: the first line that differs, or else all of them, or else the verdict alone
+abbrev pub asked_by : Bool → Bool → Asked
+asked_by true all = Differences First
+asked_by false true = Differences Each
+asked_by false false = Verdict
 
 -- which page is asked for, by the flag
 abbrev pub page_by : Bool → Asked
 page_by differences = if differences then DifferencesPage else Page
-
--- what the text of `check` is, by the flag
-abbrev pub form_by : Bool → TextForm
-form_by partial = if partial then form.Partial else form.Trace
 
 -- a word after `list` is the path of a configuration: a `.` or a `/` is in it
 abbrev pub is_path : List ℕ → Bool

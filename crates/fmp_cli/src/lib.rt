@@ -7,7 +7,7 @@ ghost use Rattle.std.specs.Prelude.{◌≡◌, ◌≤◌, IfOk, IsErr, codes, dr
 ghost use Rattle.fmp_cli_table.specs.Found.{found_by, rows_in};
 ghost use Rattle.fmp_cli.specs.Cli.{AsksFor, AsksList, IsAsked, IsCalls, IsCheck, IsListedBy, IsView, IsWave, NamesPaths};
 ghost use Rattle.fmp_cli.specs.Cli.{calls_line, check_line, list_line, view_line, wave_line};
-ghost use Rattle.fmp_cli.specs.Flags.{asked_by, form_by, is_path, page_by, report_by, subcommand_by};
+ghost use Rattle.fmp_cli.specs.Flags.{asked_by, is_path, page_by, report_by, subcommand_by};
 
 use clap::error::ErrorKind;
 use clap::{Arg, ArgAction, ArgMatches, Command, Error};
@@ -128,9 +128,19 @@ every line that differs; after one the machine goes on with its own answers. Whe
 it is empty.
 
 With --partial each line may leave out its number, who made the call, and each field after its
-answer: what is not written is not judged, and what is written is judged exactly:
+answer; `*` stands for a value or a code that is not told, and `?` for such an answer. What is not
+written is not judged, and what is written is judged exactly:
 
   P1 act_tsk(T2) E_OK
+  P1 get_tid() E_OK:*
+
+Where calls of two processors overlap, ` by=9` at the end of a line says that line 9 is the last
+that may take effect before it, and the answer `open` that its end is not told. Then the verdict
+is `yes` if some order within these bounds is the machine's, `no 57` if none has line 57 and all
+before it, and `not known` if there are too many.
+
+Its last line may be `ends 812`: the trace ends at line 812 of its log, before that. Then the
+verdict is `yes to 812` in place of `yes`.
 
 Exit status:
   0  yes
@@ -138,7 +148,8 @@ Exit status:
   2  the command line is wrong
   3  a file could not be read, or the output not be written
   4  want of memory
-  5  no";
+  5  no
+  6  yes to a line of the log, and the trace has no more of it; or not known";
 
 const WAVE_ABOUT: &str = "Writes the waveform of a trace, for GTKWave and other viewers";
 
@@ -407,8 +418,6 @@ pub enum Report {
 pub enum Asked {
     /// Whether it is the machine's.
     Verdict,
-    /// Whether it is the machine's, where each line may leave out its number, its runner and the fields after its answer.
-    Partial,
     /// Where it is not the machine's.
     Differences(Shown),
     /// Its waveform.
@@ -437,6 +446,8 @@ pub enum Request<'a> {
     Life(Paths<'a>, &'a str, Colour),
     /// What is asked of a trace.
     Trace(Paths<'a>, Asked),
+    /// Whether a trace of which lines leave out parts is the machine's.
+    Partial(Paths<'a>),
     /// GTKWave's save file for a configuration. There is no other text.
     Save(Paths<'a>),
     /// The trace of processors that follow scripts.
@@ -520,14 +531,13 @@ fn report_for(state: bool, changes: bool) -> Report
 }
 
 /// What is asked of a trace by these flags.
-fn asked_for(partial: bool, show: bool, all: bool) -> Asked
-    ensures { result ≡ asked_by partial show all }
+fn asked_for(show: bool, all: bool) -> Asked
+    ensures { result ≡ asked_by show all }
 {
-    match (partial, show, all) {
-        (true, _, _) => Asked::Partial,
-        (false, true, _) => Asked::Differences(Shown::First),
-        (false, false, true) => Asked::Differences(Shown::Each),
-        (false, false, false) => Asked::Verdict,
+    match (show, all) {
+        (true, _) => Asked::Differences(Shown::First),
+        (false, true) => Asked::Differences(Shown::Each),
+        (false, false) => Asked::Verdict,
     }
 }
 
@@ -545,26 +555,17 @@ fn calls_in<'a>(matches: &ArgMatches<'a>) -> Request<'a>
     }
 }
 
-/// What the text of `check` is.
-fn checked_form(partial: bool) -> TextForm
-    ensures { result ≡ form_by partial }
-{
-    if partial {
-        TextForm::Partial
-    } else {
-        TextForm::Trace
-    }
-}
-
 /// What `check` is asked for: by `--partial`, by `--show`, by `--all`, or by none of them.
 fn check_in<'a>(matches: &ArgMatches<'a>) -> Request<'a>
     ensures { IsCheck (rows_in matches.now) result }
 {
-    let partial = flag_in(matches, PARTIAL);
-    let paths = named_paths(matches, TRACE, checked_form(partial));
+    if flag_in(matches, PARTIAL) {
+        return Request::Partial(named_paths(matches, TRACE, TextForm::Partial));
+    }
+    let paths = named_paths(matches, TRACE, TextForm::Trace);
     let show = flag_in(matches, SHOW);
     let all = flag_in(matches, ALL);
-    Request::Trace(paths, asked_for(partial, show, all))
+    Request::Trace(paths, asked_for(show, all))
 }
 
 /// What `wave` is asked for: the save file where `--gtkw` stands, and else the waveform.

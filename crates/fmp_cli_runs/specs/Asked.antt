@@ -2,7 +2,7 @@
 use Rattle.std.specs.Prelude.{ℕ, ◌||◌, List, [], Option, Result, option_map, if◌then◌else◌}
 use Rattle.std.specs.Borrow.{Bor}
 use Rattle.fmp_run_texts.specs.declared.fault.RunFault.{RunFault}
-use Rattle.fmp_run_texts.specs.Traces.{Checked, FirstTraceFault}
+use Rattle.fmp_run_texts.specs.Traces.{Checked}
 use Rattle.fmp_run_texts.specs.Verdicts.{WritesVerdict}
 use Rattle.fmp_run_devices.specs.Ends.{Ends, SinkEnd, SourceEnd}
 use Rattle.fmp_run_events.specs.Reports.{WritesReport}
@@ -19,7 +19,6 @@ use Rattle.fmp_cli.specs.declared.Asked.{Asked}
 use Rattle.fmp_cli.specs.declared.Asked.TheVariants as asked
 use Rattle.fmp_cli.specs.declared.Report.{Report}
 use Rattle.fmp_cli.specs.declared.Report.TheVariants.{Changes, Line, State}
-use Rattle.fmp_run_partial.specs.Partials.{CheckedPartly, FirstPartialFault}
 use Rattle.fmp_run_stream.specs.declared.stream.Detail.{Detail}
 use Rattle.fmp_run_stream.specs.declared.stream.Detail.TheVariants as detail
 use Rattle.fmp_run_stream.specs.Details.{detail_of}
@@ -51,17 +50,10 @@ detail_reported Changes = detail.Changes []
 abbrev pub writing_of : Report → Writing
 writing_of report = detail_of (detail_reported report)
 
--- when a fault of the trace is its first one: of a partial trace by what is written, and else by all that a trace has
-abbrev pub FirstFaultOf : Asked → List ℕ → List ℕ → RunFault → Type 0
-FirstFaultOf asked.Partial = FirstPartialFault
-FirstFaultOf other = FirstTraceFault
-
 -- what a run gives and writes of a trace, by what is asked for
 abbrev pub WritesAsked : Asked → Ends SourceEnd → Ends SourceEnd → Ends SinkEnd → Result Verdict RunFault → Type 0
 -- the verdict alone
 WritesAsked asked.Verdict = WritesVerdict Checked
--- the verdict on what is written alone
-WritesAsked asked.Partial = WritesVerdict CheckedPartly
 -- the lines that differ
 WritesAsked (asked.Differences shown) = WritesReport shown
 -- the waveform of a trace that is the machine's own

@@ -3,16 +3,14 @@ ghost use Rattle.std.specs.Prelude.{◌≡◌, ℕ, List, ◌-◌, ◌^◌, ◌<
 ghost use Rattle.fmp_run_devices.specs.Devices.{IsKnown, bytes_of};
 ghost use Rattle.fmp_run_devices.specs.Ends.{sink_ends, source_ends};
 ghost use Rattle.fmp_run_texts.specs.Owed.{OwesTrace};
-ghost use Rattle.fmp_run_texts.specs.Traces.{IsYes};
-ghost use Rattle.fmp_cli_runs.specs.Asked.{FirstFaultOf, WritesAsked};
-ghost use Rattle.fmp_run_partial.specs.Partials.{IsPartlyOwn};
+ghost use Rattle.fmp_run_texts.specs.Traces.{FirstTraceFault, IsYes};
+ghost use Rattle.fmp_cli_runs.specs.Asked.{WritesAsked};
 ghost use Rattle.fmp_run_smp.specs.Scripted.{Played};
 ghost use Rattle.fmp_world.specs.declared.finishing.Ended.{Ended as AnyEnded};
 
 use fmp_cli::Asked;
 use fmp_run_devices::{Sink, Source};
 use fmp_run_events::{RunFault, run_check, run_report};
-use fmp_run_partial::run_partial;
 use fmp_run_view::{PageKind, run_view};
 use fmp_run_wave::run_wave;
 use fmp_trace_check::Verdict;
@@ -32,16 +30,12 @@ pub fn judge<R: Source, S: Source, W: Sink>(
 
     // What each of these runs owes to both texts and to its devices, whatever it writes. A trace that is the machine's own, as `answer` writes it, is
     // judged with yes.
-    ensures owes { OwesTrace (FirstFaultOf asked) (source_ends R.left R.failures config.old config.new) (source_ends S.left S.failures trace.old trace.new)
+    ensures owes { OwesTrace FirstTraceFault (source_ends R.left R.failures config.old config.new) (source_ends S.left S.failures trace.old trace.new)
         (sink_ends W.written W.buffered W.failures output.old output.new) result }
 
-    // So is a trace of processors that follow scripts, as `play` writes it,
+    // So is a trace of processors that follow scripts, as `play` writes it.
     ensures plays { IsKnown (R.left config.old) → IsKnown (S.left trace.old) → (script_text : List ℕ) (ticks turns : ℕ) (ended : AnyEnded)
         → Played (bytes_of (R.left config.old)) script_text ticks turns (bytes_of (S.left trace.old)) ended → IsYes result }
-
-    // and where it is judged as a partial one, such a trace of which parts are left out.
-    ensures partly_own { asked ≡ Asked.Partial → IsKnown (R.left config.old) → IsKnown (S.left trace.old)
-        → IsPartlyOwn (bytes_of (R.left config.old)) (bytes_of (S.left trace.old)) → IsYes result }
 
     // What it gives and writes: what is asked for.
     ensures writes { WritesAsked asked (source_ends R.left R.failures config.old config.new) (source_ends S.left S.failures trace.old trace.new)
@@ -49,7 +43,6 @@ pub fn judge<R: Source, S: Source, W: Sink>(
 {
     match asked {
         Asked::Verdict => run_check(alloc, config, trace, output),
-        Asked::Partial => run_partial(alloc, config, trace, output),
         Asked::Differences(shown) => run_report(alloc, config, trace, output, shown),
         Asked::Waveform => run_wave(alloc, config, trace, output),
         Asked::Page => run_view(alloc, config, trace, output, PageKind::Own),

@@ -1,5 +1,6 @@
 -- What is answered of a partial trace: whether its lines are what the machine answers to their events.
-use Rattle.std.specs.Prelude.{◌≡◌, ℕ, ◌+◌, List, ◌∷◌, ◌++◌, length, map, All}
+use Rattle.std.specs.Prelude.{◌≡◌, ℕ, ◌+◌, ◌<◌, ◌≤◌, ◌⊎◌, Bool, true, false, List, [], ◌∷◌, ◌++◌, length, map, All, Option, None, Some, Ok, codes, decimal}
+use Rattle.std.specs.List.{list_all}
 use Rattle.fmp_calls.specs.Arguments.{EventInBits}
 use Rattle.fmp_codes.specs.Records.{AreOn}
 use Rattle.fmp_codes.specs.declared.records.Event.{Event}
@@ -10,7 +11,27 @@ use Rattle.fmp_rules.specs.Arrivals.{numbered}
 use Rattle.fmp_rules.specs.Boot.{booted}
 use Rattle.fmp_rules.specs.Step.{answers}
 use Rattle.fmp_names.specs.Names.{NameLists}
+use Rattle.fmp_search_lines.specs.Lasts.{last_at, must_at}
+use Rattle.fmp_search_lines.specs.Orders.{IsFirstWithout, IsRight}
 use Rattle.fmp_setup.specs.Setup.{Setup}
+use Rattle.fmp_run_texts.specs.declared.status.Status.{Status}
+use Rattle.fmp_run_texts.specs.declared.status.Status.TheVariants.{Different, Done, Limit}
+use Rattle.fmp_run_partial.specs.Endings.{IsBody}
+use Rattle.fmp_run_partial.specs.Following.{is_plain}
+use Rattle.fmp_run_partial.specs.declared.following.Followed.{Followed}
+use Rattle.fmp_run_partial.specs.declared.following.Followed.TheVariants as followed
+use Rattle.fmp_run_partial.specs.declared.verdict.Found.{Found}
+use Rattle.fmp_run_partial.specs.declared.verdict.Found.TheVariants as found
+use Rattle.fmp_run_partial.specs.declared.verdict.PartialVerdict.{PartialVerdict}
+use Rattle.fmp_run_partial.specs.declared.verdict.PartialVerdict.TheVariants as partial
+use Rattle.fmp_trace_orders.specs.Lines.{is_open, lasts_from, lines_of, must_of}
+use Rattle.fmp_trace_orders.specs.Playing.{at_booted, plays}
+use Rattle.fmp_trace.specs.Fits.{FitsNames}
+use Rattle.fmp_text.specs.Limits.{most_bytes, most_events}
+use Rattle.fmp_trace_partial.specs.Partial.{kept_text}
+use Rattle.fmp_trace_partial.specs.Saying.{said_in}
+use Rattle.fmp_trace_partial.specs.declared.kept.Kept.{Kept}
+use Rattle.fmp_trace_partial.specs.declared.telling.Said.{Said}
 use Rattle.fmp_trace_partial.specs.Partly.{BeginsWith, PartlyPrints, PartlyPrintsFrom, PartlyPrintsWithin}
 
 -- what the machine answers to the events of these records
@@ -44,8 +65,99 @@ pub record JudgesPartly (c : Setup) (text : List ℕ) (verdict : Verdict) : Type
   pub prints : PartlyPrintsWithin c.names text records
   pub compares : Compares c text records verdict
 
--- the text partly prints what the machine answers to these events, which are on its processors, within the limits of texts
+-- line n partly prints the record, and says nothing of the order of lines
+pub record PlainlyPrints (names : NameLists) (n : ℕ) (line : List ℕ) (r : Record) : Type 0 where
+  pub kept : Kept
+  pub printed : line ≡ kept_text names n kept r
+  pub taken : is_open kept.answer ≡ false
+  pub fits : FitsNames names r
+
+-- so do the lines of the text, from line n on
+abbrev pub PlainlyPrintsFrom : NameLists → ℕ → List ℕ → List Record → Type 0
+PlainlyPrintsFrom names n text [] = text ≡ []
+PlainlyPrintsFrom names n text (r ∷ rs) =
+    (line : List ℕ) × (rest : List ℕ) × BeginsWith text line rest × PlainlyPrints names n line r × PlainlyPrintsFrom names (n + 1) rest rs
+
+-- the text partly prints what the machine answers to these events, which are on its processors, within the limits of texts, and says nothing of orders
 pub record PartlyPrintsAnswers (c : Setup) (text : List ℕ) (events : List Event) : Type 0 where
   pub on : AreOn c.processors events
   pub in_bits : All EventInBits events
-  pub prints : PartlyPrintsWithin c.names text (answers numbered (booted c) events)
+  pub prints : PlainlyPrintsFrom c.names 1 text (answers numbered (booted c) events)
+  pub few : length (answers numbered (booted c) events) ≤ most_events
+  pub short : length text ≤ most_bytes
+
+-- ---- texts whose lines stand in their order, and others
+
+-- whether no line of a text says something of the order of lines
+pub record StandsSo (c : Setup) (text : List ℕ) (plain : Bool) : Type 0 where
+  pub said : List Said
+  pub read : said_in c.names text ≡ Ok said
+  pub are_plain : list_all is_plain said ≡ plain
+
+-- what was found of the lines as they stand
+abbrev pub FollowedSays : Setup → List ℕ → Followed → Type 0
+FollowedSays c text followed.Yes = StandsSo c text true × JudgesPartly c text Yes
+FollowedSays c text (followed.No k) = StandsSo c text true × JudgesPartly c text (No k)
+FollowedSays c text followed.Ordered = StandsSo c text false
+
+-- what was found of the orders of the lines, which say this: an order within their bounds has each line that has to be taken, and each of its lines is the
+-- machine's own for the events of that order; or there is none, and the first lines, so many less one, have one and with the next they have none
+abbrev pub SaysOfOrders : Setup → List ℕ → List Said → Found → Type 0
+SaysOfOrders c text said found.Yes = (order : List ℕ)
+    × IsRight (plays numbered) (last_at (lasts_from 0 said)) (length said) (must_at (map must_of said)) (length said) (at_booted c (lines_of text)) order
+SaysOfOrders c text said (found.No k) = (n : ℕ) × (k ≡ n + 1) × (n < length said)
+    × IsFirstWithout (plays numbered) (last_at (lasts_from 0 said)) (length said) (must_at (map must_of said)) (at_booted c (lines_of text)) n
+SaysOfOrders c text said found.NotKnown = Unit {0}
+
+-- the verdict on lines of which some say something of orders
+pub record JudgesOrders (c : Setup) (text : List ℕ) (v : Found) : Type 0 where
+  pub said : List Said
+  pub read : said_in c.names text ≡ Ok said
+  pub ordered : list_all is_plain said ≡ false
+  pub says : SaysOfOrders c text said v
+
+-- the verdict on other lines
+abbrev pub JudgesStanding : Setup → List ℕ → Found → Type 0
+JudgesStanding c text found.Yes = FollowedSays c text followed.Yes
+JudgesStanding c text (found.No k) = FollowedSays c text (followed.No k)
+JudgesStanding c text found.NotKnown = ⊥
+
+-- ---- whole texts
+
+-- the verdict on lines that end before their log, or with it
+abbrev pub verdict_to : Found → Option ℕ → PartialVerdict
+verdict_to found.Yes None = partial.Yes
+verdict_to found.Yes (Some line) = partial.YesTo line
+verdict_to (found.No k) ends = partial.No k
+verdict_to found.NotKnown ends = partial.NotKnown
+
+-- the verdict on a text: that on its lines, but for the last one where that says at which line of its log the text ends
+pub record JudgesText (c : Setup) (text : List ℕ) (verdict : PartialVerdict) : Type 0 where
+  pub short : length text ≤ most_bytes
+  pub body : List ℕ
+  pub ends : Option ℕ
+  pub is_body : IsBody text body ends
+  pub found : Found
+  pub judges : JudgesStanding c body found ⊎ JudgesOrders c body found
+  pub is : verdict ≡ verdict_to found ends
+
+-- the verdict as it is written
+abbrev pub partial_text : PartialVerdict → List ℕ
+partial_text partial.Yes = codes "yes\n"
+partial_text (partial.YesTo line) = codes "yes to " ++ decimal line ++ codes "\n"
+partial_text (partial.No k) = codes "no " ++ decimal k ++ codes "\n"
+partial_text partial.NotKnown = codes "not known\n"
+
+-- what it says of a text that does not end before its log: only `yes` is yes
+abbrev pub plain_verdict : PartialVerdict → Verdict
+plain_verdict partial.Yes = Yes
+plain_verdict (partial.YesTo line) = No line
+plain_verdict (partial.No k) = No k
+plain_verdict partial.NotKnown = No 0
+
+-- how the program ends after it
+abbrev pub status_of_partial : PartialVerdict → Status
+status_of_partial partial.Yes = Done
+status_of_partial (partial.YesTo line) = Limit
+status_of_partial (partial.No k) = Different
+status_of_partial partial.NotKnown = Limit

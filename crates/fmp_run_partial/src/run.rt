@@ -1,17 +1,18 @@
 //! The run that checks a partial trace.
 ghost use Rattle.std.specs.Prelude.{◌-◌, ◌^◌, ◌<◌};
-ghost use Rattle.fmp_run_texts.specs.Verdicts.{WritesVerdict};
+ghost use Rattle.fmp_run_texts.specs.Verdicts.{WritesAnswer};
 ghost use Rattle.fmp_run_devices.specs.Devices.{IsKnown, bytes_of};
 ghost use Rattle.fmp_run_devices.specs.Ends.{sink_ends, source_ends};
 ghost use Rattle.fmp_run_texts.specs.Owed.{OwesTrace};
-ghost use Rattle.fmp_run_texts.specs.Traces.{IsYes};
+ghost use Rattle.fmp_run_texts.specs.Traces.{IsYes, verdict_by};
+ghost use Rattle.fmp_run_partial.specs.Verdicts.{partial_text, plain_verdict};
 ghost use Rattle.fmp_run_partial.specs.Partials.{CheckedPartly, FirstPartialFault, IsFirstOfPartial, IsPartlyOwn};
 
-use crate::following::check_partial;
+use crate::judging::judge_partial;
+use crate::verdict::PartialVerdict;
 use fmp_rules::Config;
 use fmp_run_devices::{Sink, Source, write_out};
-use fmp_run_texts::{Judge, Reader, RunFault, judged_texts, verdict_text};
-use fmp_trace_check::Verdict;
+use fmp_run_texts::{Judge, Reader, RunFault, judged_texts};
 use std::alloc::Global;
 
 /// Judges a partial trace.
@@ -21,20 +22,25 @@ impl Reader for PartialJudge {
     ghost use Rattle.std.specs.Prelude.{◌⊎◌};
     ghost use Rattle.fmp_run_texts.specs.Traces.{IsOfMachine};
     ghost use Rattle.fmp_run_partial.specs.Partials.{IsFirstOfPartial, IsPartlyOfMachine};
-    ghost use Rattle.fmp_run_partial.specs.Verdicts.{JudgesPartly};
+    ghost use Rattle.fmp_run_partial.specs.Verdicts.{JudgesText, plain_verdict};
 
-    type Out = Verdict;
+    type Out = PartialVerdict;
 
-    ghost says = { λ _. JudgesPartly };
+    ghost says = { λ _. JudgesText };
 
     ghost is_fault = { λ _ c. IsFirstOfPartial c.names };
 
-    ghost verdict = { λ _ verdict. verdict };
+    ghost verdict = { λ _ verdict. plain_verdict verdict };
 
     ghost accepts = { λ _ c text. IsOfMachine c text ⊎ IsPartlyOfMachine c text };
 
-    fn read(&self, alloc: Global, config: &Config, text: Vec<u8>) -> Result<Verdict, RunFault> {
-        match check_partial(alloc, config, text.as_slice()) {
+    fn read(
+        &self,
+        alloc: Global,
+        config: &Config,
+        text: Vec<u8>,
+    ) -> Result<PartialVerdict, RunFault> {
+        match judge_partial(alloc, config, text.as_slice()) {
             Ok(verdict) => Ok(verdict),
             Err(fault) => Err(RunFault::Text(fault)),
         }
@@ -48,30 +54,31 @@ impl Judge for PartialJudge {
 }
 
 /// Reads a configuration and a partial trace, and writes whether what the lines of the trace say is what the machine answers to
-/// their events: `yes`, or `no` and the first line that is not.
+/// their events: `yes`, or `no` and the first line that is not. Where the last line says that the trace ends before its log, `yes to` has the
+/// line of the log.
 pub fn run_partial<R: Source, S: Source, W: Sink>(
     alloc: Global,
     config: &mut R,
     trace: &mut S,
     answer: &mut W,
-) -> Result<Verdict, RunFault>
+) -> Result<PartialVerdict, RunFault>
     requires config_calls { R.failures config.old < 2 ^ 64 - 1 }
     requires trace_calls { S.failures trace.old < 2 ^ 64 - 1 }
     requires answer_calls { W.failures answer.old < 2 ^ 64 - 1 }
 
     // What it owes to both texts and to its devices, whatever it writes.
     ensures owes { OwesTrace FirstPartialFault (source_ends R.left R.failures config.old config.new) (source_ends S.left S.failures trace.old trace.new)
-        (sink_ends W.written W.buffered W.failures answer.old answer.new) result }
+        (sink_ends W.written W.buffered W.failures answer.old answer.new) (verdict_by plain_verdict result) }
 
     // A trace of the machine's own of which parts may be left out is checked with yes, too.
-    ensures partly { IsKnown (R.left config.old) → IsKnown (S.left trace.old) → IsPartlyOwn (bytes_of (R.left config.old)) (bytes_of (S.left trace.old)) → IsYes result }
+    ensures partly { IsKnown (R.left config.old) → IsKnown (S.left trace.old) → IsPartlyOwn (bytes_of (R.left config.old)) (bytes_of (S.left trace.old)) → IsYes (verdict_by plain_verdict result) }
 
     // What it writes: the verdict, which is right.
-    ensures writes { WritesVerdict CheckedPartly (source_ends R.left R.failures config.old config.new) (source_ends S.left S.failures trace.old trace.new)
+    ensures writes { WritesAnswer partial_text CheckedPartly (source_ends R.left R.failures config.old config.new) (source_ends S.left S.failures trace.old trace.new)
         (sink_ends W.written W.buffered W.failures answer.old answer.new) result }
 {
     let (_config, verdict) = judged_texts(alloc, &PartialJudge, config, trace)?;
-    let text = verdict_text(verdict);
+    let text = verdict.text();
     write_out(answer, text.as_str().as_bytes())?;
     Ok(verdict)
 }

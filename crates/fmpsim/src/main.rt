@@ -34,6 +34,7 @@ use fmp_cli_table::SmpRequest;
 use fmp_run_events::{MemSource, ReadSource, RunFault, Status, WriteSink, run_life};
 use fmp_run_explore::{Finding, Progress};
 use fmp_run_list::run_list;
+use fmp_run_partial::{PartialVerdict, run_partial};
 use fmp_run_seeds::SeedProgress;
 use fmp_run_wave::run_save;
 use fmp_search_question::is_lasting;
@@ -184,6 +185,28 @@ fn trace<R: Files + Input + Print + Eprint + AllocGlobal>(
         lines::tell_differs(rt, line, paths.text, asked, number);
     }
     Ok(Status::of_verdict(verdict))
+}
+
+/// Judges a partial trace, and reports the first line that is not the machine's where nothing that is written does.
+fn partial<R: Files + Input + Print + Eprint + AllocGlobal>(
+    rt: &R,
+    paths: &Paths<'_>,
+    line: LineForm,
+) -> Result<Status, Ending> {
+    let alloc = rt.alloc();
+    let (config, mut trace) = both_read(rt, paths)?;
+    let mut sink = WriteSink::new(alloc, io::writer(rt))?;
+    let run = run_partial(
+        alloc,
+        &mut MemSource::new(config.as_slice()),
+        &mut trace,
+        &mut sink,
+    );
+    let verdict = kept(settled(run, sink.is_closed()), config)?;
+    if let PartialVerdict::No(number) = verdict {
+        lines::tell_differs(rt, line, paths.text, Asked::Verdict, number);
+    }
+    Ok(verdict.status())
 }
 
 /// Writes GTKWave's save file for a configuration.
@@ -632,10 +655,12 @@ fn execute<R: Env + Files + Input + Print + Eprint + Clock + AllocGlobal + Threa
         },
         Ok(Request::Trace(paths, asked)) => {
             let run = trace(rt, &paths, asked, line);
-            let text = match asked {
-                Asked::Partial => TextForm::Partial,
-                _ => TextForm::Trace,
-            };
+            let text = TextForm::Trace;
+            ended(rt, &paths, Telling { line, text }, run)
+        }
+        Ok(Request::Partial(paths)) => {
+            let run = partial(rt, &paths, line);
+            let text = TextForm::Partial;
             ended(rt, &paths, Telling { line, text }, run)
         }
         Ok(Request::Save(paths)) => ended(rt, &paths, events, saved(rt, &paths)),

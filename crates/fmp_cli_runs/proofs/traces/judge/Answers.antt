@@ -3,9 +3,6 @@ use Rattle.fmp_cli_runs.proofs.traces.judge.Goals as goal
 pub returns-in-Verdict-clause-writes : goal.returns-in-Verdict-clause-writes
 returns-in-Verdict-clause-writes g c = rw c.in-Verdict.is c.run_check.ensures.writes
 
-pub returns-in-Partial-clause-writes : goal.returns-in-Partial-clause-writes
-returns-in-Partial-clause-writes g c = rw c.in-Partial.is c.run_partial.ensures.writes
-
 pub returns-in-Differences-clause-writes : goal.returns-in-Differences-clause-writes
 returns-in-Differences-clause-writes g c = rw c.in-Differences.is c.run_report.ensures.writes
 

@@ -1,7 +1,7 @@
 use Rattle.std.proofs.Common.{subst}
 use Rattle.fmp_names.specs.Names.{AreValid}
 use Rattle.fmp_run_partial.proofs.PartlyPrinted.{is_judged, has_one, is_answered, is_own, is_first_fault}
-use Rattle.fmp_run_partial.proofs.following.check_partial.Goals as goal
+use Rattle.fmp_run_partial.proofs.following.follow_text.Goals as goal
 
 pub returns : goal.returns
 returns c =
