@@ -52,6 +52,14 @@ class Refused(Exception):
         self.line, self.status = line, status
 
 
+class Ends(Exception):
+    """Why a log cannot be followed on, and from which line: what stands before it can be judged."""
+
+    def __init__(self, what, line):
+        super().__init__(what)
+        self.line = line
+
+
 def printable(text):
     text = "".join(it if " " <= it <= "~" else "?" for it in text)
     return text if len(text) <= 80 else text[:80] + ".."

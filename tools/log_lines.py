@@ -34,7 +34,7 @@ class Lines:
             line = self.places[line - 1] if self.places and line else (0, line)
         return self.paths[line[0]], line[1]
 
-    def read(self, up_to=0):
+    def read(self):
         """Each line of a log: its place, its processor and its text; of a gap the number of messages that are lost, without a processor."""
         if len(self.paths) > 1:
             logs = [self.timed(file) for file in range(len(self.paths))]
@@ -43,9 +43,6 @@ class Lines:
                 yield len(self.places), processor, text
             return
         for _, _, line, processor, text in self.timed(0):
-            if up_to and line > up_to:
-                self.tell(f"note: the log is read up to line {up_to}: what stands here and after it is not judged", line)
-                return
             yield line, processor, text
 
     def pass_over(self, line):
@@ -71,8 +68,8 @@ class Lines:
                 time = int(found[1]) + turns
                 if time < last:
                     if not last - turns >= TURN - TURN // 4 or last - turns >= TURN or int(found[1]) >= TURN // 4:
-                        raise Refused(f"the time goes back, from {last} to {time}: merge the logs of the processors by their times, as `sort -s -n -k 1.2` does, or "
-                                      "name each log", (file, line))
+                        raise Refused(f"the time goes back, from {last} to {time}: merge the logs of the processors by their times, as "
+                                      "`sort -s -n -k 1.2` does, or name each log", (file, line))
                     self.tell("note: the clock of 32 bits begins again at 0 here", (file, line))
                     turns, time = turns + TURN, time + TURN
                 last = time

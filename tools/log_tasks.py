@@ -1,4 +1,5 @@
 """What becomes of tasks by a kernel's log: their states, which events may be the cause, and by which of them a wait ended."""
+from log_answers import NOTHING_TOLD, UNTOLD
 from log_calls import plain
 
 RUNNABLE, DORMANT, WAITING, SUSPENDED, BOTH = "RUNNABLE", "DORMANT", "WAITING", "SUSPENDED", "WAITING-SUSPENDED"
@@ -20,8 +21,6 @@ ENDS = {
     "get_mpf": {"rel_mpf"},
 }
 TIMED = {"twai_sem": "wai_sem", "twai_flg": "wai_flg", "tsnd_dtq": "snd_dtq", "trcv_dtq": "rcv_dtq", "tget_mpf": "get_mpf", "tslp_tsk": "slp_tsk"}
-# Calls that answer E_OK without a value where they take effect.
-EFFECTS = set("act_tsk mact_tsk wup_tsk rel_wai sus_tsk rsm_tsk sig_sem set_flg snd_dtq tsnd_dtq psnd_dtq fsnd_dtq rel_mpf ter_tsk".split())
 
 
 def is_timed(name):
@@ -86,8 +85,8 @@ class Ended:
 
     def answered(self, code):
         """The call that waited answered this, by which some events are not the cause, if others can be."""
-        self.code = code
-        if code and not self.other:
+        self.code = None if code == UNTOLD else code
+        if self.code and not self.other:
             # Where none ends a wait so, the answer is wrong, whichever it was: the first is as good as any.
             self.causes = [it for it in self.causes if self.fits(it)] or self.causes[:1]
             if len(self.causes) == 1:
@@ -95,24 +94,15 @@ class Ended:
 
     def fits(self, event):
         """Whether an event ends this wait with this code."""
-        code, call = (self.code or "").split(":")[0], plain(event.name)
+        code, call = self.code.split(":")[0], plain(event.name)
         if call == "rel_wai":
             return code == "E_RLWAI"
         if call == "tick":
             return code == ("E_OK" if self.waited.name == "dly_tsk" else "E_TMOUT")
+        if call == "rel_mpf" and "@" in self.code:
+            return event.text.endswith(f", {self.code.split('@')[1]})")
         return code == "E_OK"
 
-    def known(self):
-        """With what the wait ended: what the log says, or, of a call that does not return in it, what its end has to be."""
-        if self.code is not None:
-            return self.code
-        call = plain(self.causes[0].name) if len(self.causes) == 1 else None
-        if call is None or self.waited is None:
-            return None
-        if call == "rel_wai":
-            return "E_RLWAI"
-        if call == "tick":
-            return "E_OK" if self.waited.name == "dly_tsk" else "E_TMOUT"
-        if TIMED.get(self.waited.name, self.waited.name) == "rcv_dtq":
-            return f"E_OK:{self.causes[0].text.rstrip(')').split(', ')[1]}"
-        return "E_OK" if call in ("sig_sem", "wup_tsk", "rcv_dtq", "trcv_dtq", "prcv_dtq") else None
+    def said(self):
+        """With what the wait ended, as far as the log says it."""
+        return self.code or NOTHING_TOLD

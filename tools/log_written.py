@@ -1,111 +1,134 @@
-"""Writes the events of a log as a list of events, or as a partial trace, in the order in which they took effect."""
-from log_calls import BLOCKS, CALLS, COUNTS, MAY_WAIT, SENSES, VALUED, Refused, plain
-from log_tasks import EFFECTS
+"""Writes the events of a log as a list of events, or as a partial trace, in the order in which they began."""
+import bisect
+from array import array
+from operator import attrgetter
 
-# Calls that answer E_OK without a value where another task is dispatched in them.
-DISPATCHES = set(CALLS) - MAY_WAIT - COUNTS - SENSES - VALUED - BLOCKS
+from log_answers import UNTOLD
+from log_calls import Ends
+from log_pools import Numbers
 
-
-class Pools:
-    """Which block of each pool stands for which address: the free one with the smallest number is handed out."""
-
-    def __init__(self, tell, place):
-        self.tell, self.place, self.handed = tell, place, {}
-
-    def got(self, event, pool, address):
-        """The number of a block that is handed out."""
-        blocks = self.handed.setdefault(pool, {})
-        if address in blocks:
-            raise Refused(f"block {address:#x} of {pool} is got, and it was handed out at line {self.place(blocks[address][1])[1]}", event.line)
-        taken = {number for number, _ in blocks.values()}
-        number = next(it for it in range(len(taken) + 1) if it not in taken)
-        blocks[address] = (number, event.line)
-        return number
-
-    def given_back(self, event):
-        """The text of `rel_mpf` with the number of its block. If its block goes to a task, that one has to get the same."""
-        pool, address = event.text[len("rel_mpf("):-1].split(", ")
-        blocks = self.handed.setdefault(pool, {})
-        known = blocks.get(int(address))
-        if known is None:
-            self.tell("note: the log does not say which number this block has: it is an address on the target, and a number from 0 in fmpsim, to be written here by hand", event.line)
-            return event.text
-        if event.answer == "E_OK" and not any(it.code and "@" in it.code for it in event.ends or ()):
-            del blocks[int(address)]
-        return f"rel_mpf({pool}, {known[0]})"
-
-    def numbered(self, pool, code):
-        """The code with which a wait for a block ends, with the block's number: -1, which is none, where the address is not handed out."""
-        known = self.handed.get(pool, {}).get(int(code.split("@")[1]))
-        return f"E_OK:{known[0] if known else -1}"
-
-
-def number_blocks(events, tell, place):
-    """Addresses of blocks become their numbers."""
-    pools = Pools(tell, place)
-    for event in events:
-        if event.name == "rel_mpf":
-            event.text = pools.given_back(event)
-            for ended in event.ends or ():
-                if ended.code and "@" in ended.code:
-                    ended.code = pools.numbered(event.text.split("(")[1].split(",")[0], ended.code)
-        elif event.answer and "@" in event.answer:
-            pool = event.text.split("(")[1].rstrip(")").split(",")[0]
-            event.answer = f"E_OK:{pools.got(event, pool, int(event.answer.split('@')[1]))}"
+# It began, and the log tells no end of it: it took effect or not.
+OPEN = "open"
+# How many lines before a line may still come after it.
+MOST_OPEN = 16
 
 
 def releases(event, tell):
     """The fields of the tasks whose waits the event ended: all of them, or none where the log does not tell one."""
-    fields = []
-    for ended in event.ends or ():
-        if event not in ended.causes:
-            continue
-        code = ended.known()
-        if ended.other or len(ended.causes) > 1:
-            tell("note: more than one event may have ended this wait, so which one is not judged", ended.line)
-            return ""
-        if code is None:
-            tell("note: the log does not say with what this wait ended, so that is not judged", ended.line)
-            return ""
-        fields.append(f" rel={ended.task}:{code}")
-    return "".join(fields)
+    own = [it for it in event.ends if event in it.causes]
+    shared = next((it for it in own if it.other or len(it.causes) > 1), None)
+    if shared is not None:
+        tell("note: more than one event may have ended this wait, so which one is not judged", shared.line)
+        return ""
+    for it in own:
+        if it.code is None:
+            tell("note: the log does not say with what this wait ended, so that is not judged", it.line)
+    return "".join(f" rel={it.task}:{it.said()}" for it in own)
 
 
-def trace_line(event, tell):
+def trace_line(event, bound, tell):
     runner = event.runner + " " if event.runner else ""
     ends = releases(event, tell) if event.ends else ""
     run = f" run={event.run}" if event.run else ""
-    return f"P{event.processor} {runner}{event.text} {event.answer}{ends}{run}\n"
+    by = f" by={bound}" if bound else ""
+    return f"P{event.processor} {runner}{event.text} {event.answer}{ends}{run}{by}\n"
 
 
-def begun(events, up_to, tell, place):
-    """The events up to the first one whose answer the log does not tell: those after it have to be without an answer, too, or the trace would pass over
-    what the log tells of them. Who says up to which line the trace goes is told where it ends."""
-    for event in events:
-        if event.answer is None and (event.told and plain(event.name) in EFFECTS or event.over and event.name in DISPATCHES):
-            tell(f"note: {event.name} of this line does not return in the log, and what it did is told: E_OK is taken for its answer", event.line)
-            event.answer = "E_OK"
-    first = next((at for at, it in enumerate(events) if it.answer is None), len(events))
-    if first == len(events):
-        return events
-    event = events[first]
-    if not up_to and any(it.answer is not None for it in events[first:]):
-        raise Refused(f"the log does not say what {event.name} of this line answered: say --up-to {place(event.line)[1] - 1} to have what stands before it", event.line)
-    tell(f"note: the log does not say what {event.name} of this line answered, so the trace ends before it", event.line)
-    return events[:first]
+class Writer:
+    """The events of a log that a trace has, and the line of the log before which it ends, with the reason, if it ends before the log does."""
+
+    def __init__(self, reader, tell):
+        self.reader, self.tell = reader, tell
+        self.events, self.end = reader.events, reader.end
+
+    def end_before(self, place, why):
+        """The trace ends before the event at this place, which may have taken effect before those that were not over when it began."""
+        event = self.events[place]
+        self.events, self.end = self.events[:place], Ends(why, event.at)
+        for it in self.events:
+            if it.high() is None or it.high() >= event.low():
+                self.leave_open(it)
+
+    def leave_open(self, event):
+        event.answer, event.run, event.ends, event.end, event.told = OPEN, None, None, None, False
+
+    def see_what_is_open(self):
+        """Sees which events were under way where the log ends, and which of them took effect."""
+        handlers = [it.event for at in self.reader.processors for it in at.handlers if it.event is not None]
+        for event in handlers:
+            self.see_handler(event)
+        for event in self.events:
+            if event.answer is None and (event.told or event.over):
+                self.tell(f"note: {event.name} of this line does not return in the log, so what it answered is not judged", event.line)
+                event.answer = UNTOLD
+            elif event.answer in (None, "gone") and not event.told and event.end is None:
+                self.tell(f"note: {event.name} of this line is under way where the log ends, so whether it took effect is not judged", event.line)
+                self.leave_open(event)
+            if event.ends and event.answer == UNTOLD and event.end is None and not event.over:
+                self.drop_ends(event)
+
+    def see_handler(self, event):
+        """An interrupt whose handler is not left took effect if a handler is due by it, or a wait ended."""
+        if event.end is None and not event.told:
+            event.answer = None
+        elif event.ends:
+            self.drop_ends(event)
+
+    def drop_ends(self, event):
+        """The log ends before it may have told of all waits that the event ended."""
+        self.tell(f"note: the log ends before {event.name} of this line is over, so the waits that it ended are not judged", event.line)
+        event.ends = None
+
+    def tell_untold(self):
+        untold = self.reader.untold
+        if untold:
+            more = f", and of {untold - 1} more" if untold > 1 else ""
+            self.tell(f"note: no line says by what the wait in this call ended{more}, so how it ended is not judged", self.reader.first_untold)
+
+    def number_blocks(self, trace):
+        numbers = Numbers(self.events, trace, self.reader.states_told, self.tell, self.reader.lines.place)
+        numbers.write()
+        unknown = set(numbers.unknown)
+        place = next((place for place, it in enumerate(self.events) if it in unknown), None) if unknown else None
+        if place is not None:
+            self.end_before(place, f"no line tells which number the block of {self.events[place].name} has")
+
+    def bounds(self):
+        """Of each event the last line whose event may take effect before it, or 0 where that is its own."""
+        lows = array("q", (it.low() for it in self.events))
+        for place, event in enumerate(self.events, 1):
+            high = event.high()
+            bound = len(lows) if high is None else bisect.bisect_right(lows, high)
+            yield bound if bound > place else 0
+
+    def end_where_crowded(self):
+        """The trace ends where too many events are under way at once for their orders to be searched."""
+        later = []
+        for place, bound in enumerate(self.bounds()):
+            later = [it for it in later if it > place]
+            if len(later) > MOST_OPEN:
+                self.end_before(place, f"more than {MOST_OPEN} events are under way at once")
+                return
+            if bound:
+                later.append(bound)
+
+    def lines(self):
+        yield from (trace_line(event, bound, self.tell) for event, bound in zip(self.events, self.bounds()))
+        if self.end is not None:
+            self.tell(f"the trace ends here: {self.end}", self.end.line)
+            yield f"ends {self.reader.lines.place(self.end.line)[1]}\n"
 
 
-def written(reader, trace, up_to, tell):
+def written(reader, trace, tell):
     """The lines of the events, one after the other."""
-    events, place = reader.events, reader.lines.place
-    events.sort(key=lambda it: it.at)
+    # This is the order of their moments, without a new number for each. Events after the same line stay as they were told.
+    reader.events.sort(key=attrgetter("at"))
+    writer = Writer(reader, tell)
     if trace:
-        events = begun(events, up_to, tell, place)
-        if reader.untold:
-            more = f", and of {reader.untold - 1} more" if reader.untold > 1 else ""
-            tell(f"note: no line says by what the wait in this call ended{more}, so how it ended is not judged", reader.first_untold)
+        writer.see_what_is_open()
+        writer.tell_untold()
     if any(reader.machine.names["pool"]):
-        number_blocks(events, tell, place)
-    if trace and not events:
-        raise Refused("the log does not say what its first call answered")
-    return (trace_line(it, tell) if trace else f"P{it.processor} {it.text}\n" for it in events)
+        writer.number_blocks(trace)
+    if trace:
+        writer.end_where_crowded()
+    return writer.lines() if trace else (f"P{it.processor} {it.text}\n" for it in writer.events)

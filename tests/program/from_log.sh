@@ -89,7 +89,7 @@ answered() {
 }
 
 # Each call, left at once, and with a dispatch in it. One that may wait does so where its task is dispatched from, or becomes WAITING, and no other can.
-# A log that does not say the value of an answer in its midst is refused.
+# Where a log does not say what a call answered, or not with what value, the trace goes on.
 reads_calls() {
     local enter event answer waits name
     answered
@@ -104,13 +104,20 @@ reads_calls() {
         elif [[ $name = [gp][eo][tl]_* ]]; then
             reads 1 "$refused" "$(as_file echo "x.log:4: refused: task 1 becomes WAITING, and it is in no call that can make it wait")" --trace
         fi
-        [[ $answer = E_OK:* ]] || continue
-        printf '[1]:[2]: %s.\n' 'enter to slp_tsk' 'leave to slp_tsk ercd=0' "enter to $enter" "leave to $name" 'enter to slp_tsk' 'leave to slp_tsk ercd=0' > x.log
-        reads 1 "$refused" "$(as_file echo "x.log:3: refused: the log does not say what $name of this line answered: say --up-to 2 to have what stands before it")" --trace
+        [[ $answer != gone && $name != rel_mpf ]] || continue
+        answers_in_part '' '?' "no answer of $name is told here"
+        [[ $answer = E_OK:* && $name != sns_* ]] || continue
+        answers_in_part ' ercd=E_OK' 'E_OK:*' "no value is told here that $name answered"
     done < "$(log_rows "$logs/calls.txt")"
 }
 
-# Each code by its number and by its name; and codes that fmpsim does not answer.
+# answers_in_part LEFT ANSWER WHY: where the call is left with no more than this, its line has this answer, those beside it have theirs, and this is told.
+answers_in_part() {
+    printf '[1]:[2]: %s.\n' 'enter to loc_cpu' 'leave to loc_cpu ercd=0' "enter to $enter" "leave to $name$1" 'enter to unl_cpu' 'leave to unl_cpu ercd=0' > x.log
+    reads 0 "$(as_file printf 'P2 %s\n' 'loc_cpu() E_OK' "$event $2" 'unl_cpu() E_OK')" "$(as_file echo "x.log:4: note: $3, so that is not judged")" --trace
+}
+
+# Each code by its number and by its name. A code that fmpsim does not answer is not judged.
 reads_codes() {
     local code number others
     : > x.log
@@ -126,7 +133,7 @@ reads_codes() {
     reads 0 wanted /dev/null --trace
     for code in "${others[@]}"; do
         printf '[1]:[1]: %s to wai_sem %s.\n' enter semid=1 leave "ercd=$code" > x.log
-        reads 1 "$refused" "$(as_file echo "x.log:2: refused: \`$code\` is no code that fmpsim answers")" --trace
+        reads 0 "$(as_file echo 'P1 wai_sem(S1) ?')" "$(as_file echo "x.log:2: note: \`$code\` is no code that fmpsim answers, so that is not judged")" --trace
     done
 }
 
@@ -283,11 +290,17 @@ logs_of_one_run() {
     printf '[%s]:[1]: %s.\n' 1 'enter to sns_loc' 3 'leave to sns_loc state=false' 4294967290 'enter to sns_dsp' 2 'leave to sns_dsp state=false' > a.log
     { echo board && printf '[%s]:[2]: %s.\n' 2 'enter to sns_loc' 4 'leave to sns_loc state=true' 4294967295 'enter to pol_sem semid=1'; } > b.log
     printf '[%s]:[2]: %s.\n' 1 'leave to pol_sem ercd=0' >> b.log
-    printf 'P%s %s\n' 1 'sns_loc() E_OK:0' 2 'sns_loc() E_OK:1' 1 'sns_dsp() E_OK:0' 2 'pol_sem(S) E_OK' > wanted
+    printf 'P%s %s\n' 1 'sns_loc() E_OK:0 by=2' 2 'sns_loc() E_OK:1' 1 'sns_dsp() E_OK:0 by=4' 2 'pol_sem(S) E_OK' > wanted
     printf '%s\n' 'b.log:5: note: the clock of 32 bits begins again at 0 here' 'a.log:4: note: the clock of 32 bits begins again at 0 here' \
         'b.log:1: passed over: what tells of no event, this line the first' | LC_ALL=C sort > to_tell
     "$tool" "$logs/machine.cfg" a.log b.log --trace > made 2> told && diff wanted made && LC_ALL=C sort told | diff to_tell - && well=yes
     count "$well" '#' tools/from-log machine.cfg a.log b.log --trace
+    { cat b.log && printf '%s\n' '[3]:[2]: enter to exception handler 1.' '2 messages are lost.' '[4]:[2]: leave to pol_sem ercd=0.'; } > c.log
+    echo 'ends 7' >> wanted
+    sed 's/^b/c/' to_tell > to_tell_more && echo 'c.log:7: the trace ends here: 2 messages are lost' >> to_tell_more
+    well=no
+    "$tool" "$logs/machine.cfg" a.log c.log --trace > made 2> told && diff wanted made && LC_ALL=C sort told | diff "$(as_file env LC_ALL=C sort to_tell_more)" - && well=yes
+    count "$well" '#' tools/from-log machine.cfg a.log c.log --trace
     echo '[3]:[2]: leave to pol_sem ercd=0.' >> b.log
     refuses 1 "$(printf '%s\n' 'a.log:4: note: the clock of 32 bits begins again at 0 here' 'b.log:5: note: the clock of 32 bits begins again at 0 here' \
         'b.log:6: refused: pol_sem is left, and was not entered: begin the log before it')" "$logs/machine.cfg" a.log b.log

@@ -4,6 +4,7 @@ to_log() {
     local logs=$top/tests/kernel_logs
     made_by_hand
     comes_back
+    overlaps
     to_log_refuses
     planted
 }
@@ -34,6 +35,26 @@ comes_back() {
     done
 }
 
+# Logs in which calls overlap, drawn by several seeds. Some order within the bounds is the machine's, which the trace's own need not be.
+overlaps() {
+    local example well seed bounds=0
+    for example in alarm four-processors migration scripted-spin-lock whole-configuration; do
+        example=$top/examples/$example
+        for seed in 1 2 3 4; do
+            well=no
+            "$top/tools/to-log" "$example/machine.cfg" "$example/trace.txt" --spread 8 --seed "$seed" > x.log 2> told && log_options told &&
+                "$top/tools/from-log" "$example/machine.cfg" x.log --trace "${options[@]}" > made 2> told && ! diff made last > /dev/null 2>&1 && well=yes
+            cp made last
+            bounds=$((bounds + $(grep -c ' by=' made)))
+            count "$well" '#' tools/to-log "$example/machine.cfg" trace.txt --spread 8 --seed "$seed" '|' tools/from-log
+            run 0 "$(as_file echo yes)" /dev/null check --partial "$example/machine.cfg" made
+        done
+    done
+    well=no
+    ((bounds > 40)) && well=yes
+    count "$well" '#' "$bounds" bounds
+}
+
 to_log_refuses() {
     local row status text what well
     while IFS=$'\1' read -r status text what; do
@@ -50,7 +71,7 @@ to_log_refuses() {
 	END
 }
 
-# Each row changes one line of a log. The wrong log is refused, or its trace is not the machine's: a `yes` is never right.
+# Each row changes one line of a log. The wrong log is refused, its trace ends before it, or is not the machine's: a `yes` is never right.
 planted() {
     local log line before after verdict well options ended
     read_options
@@ -63,6 +84,7 @@ planted() {
         "$program" check --partial "$log.cfg" made > output 2> errors
         case $?$verdict$ended in
             1refused1) [ "$(cat made)" = refused ] && grep -q '^wrong.log:[0-9]*: refused: ' told && well=yes ;;
+            *ends0) [[ $(tail -n 1 made) = 'ends '* ]] && grep -q '^wrong.log:[0-9]*: the trace ends here: ' told && well=yes ;;
             5no0) grep -q '^no [0-9]*$' output && well=yes ;;
         esac
         [ "$(sed -n "${line}s/^[^ ]* //p" "$log.log")" = "$before" ] || well=no
