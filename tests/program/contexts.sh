@@ -6,8 +6,8 @@ contexts() {
     printf 'P1 tick\nP1 act_tsk(T9)\n' > events.txt
     run 1 "$(as_file echo 1 P1 T1 tick taken)" "$(as_file printf '%s\n' 'fmpsim: events.txt: line 2: E3 unknown name' '  P1 act_tsk(T9)' \
         '             ^' '  expected: act_tsk(task)' "$task")" calls --context "$machine" events.txt
-    from=events.txt run 1 "$(as_file echo 1 P1 T1 tick taken)" "$(as_file printf '%s\n' 'fmpsim: -: line 2: E3 unknown name' \
-        '  Use the name of an object of the configuration, or a constant.')" calls "$machine" - --context
+    from=events.txt run 1 "$(as_file echo 1 P1 T1 tick taken)" "$(as_file printf '%s\n' 'fmpsim: -: line 2: E3 unknown name' '  P1 act_tsk(T9)' \
+        '             ^' '  expected: act_tsk(task)' "$task")" calls "$machine" - --context
     printf 'PROCESSORS(1);\nDEF_CLASS(C, 1, {1});\nCLASS(C) { CRE_SEM(S, {TA_NULL, 0, 0}); }\n' > number.cfg
     printf '%s\n' 'fmpsim: number.cfg: line 3: F7 value out of range' '  CLASS(C) { CRE_SEM(S, {TA_NULL, 0, 0}); }' \
         '                                     ^' '  expected: CRE_SEM(semid, {sematr | .., isemcnt, maxsem});' \
@@ -84,18 +84,42 @@ configuration_from_a_pipe() {
     wait
 }
 
-# Another text from a pipe cannot be read twice either: its fault is told as one of standard input is. And a fault of the configuration is told while the pipe
+# Another text from a pipe cannot be read twice either, and its line at fault is shown all the same. And a fault of the configuration is told while the pipe
 # is still open.
 text_from_a_pipe() {
     mkfifo pipe.txt
     cat events.txt > pipe.txt &
-    run 1 "$(as_file echo 1 P1 T1 tick taken)" "$(as_file printf '%s\n' 'fmpsim: pipe.txt: line 2: E3 unknown name' \
-        '  Use the name of an object of the configuration, or a constant.')" calls --context "$machine" pipe.txt
+    run 1 "$(as_file echo 1 P1 T1 tick taken)" "$(as_file printf '%s\n' 'fmpsim: pipe.txt: line 2: E3 unknown name' '  P1 act_tsk(T9)' \
+        '             ^' '  expected: act_tsk(task)' "$task")" calls --context "$machine" pipe.txt
     wait
+    cat cut.txt > pipe.txt &
+    run 1 /dev/null "$(as_file printf '%s\n' 'fmpsim: pipe.txt: line 1: E6 cut short' '  1 P1 T1 tick taken' '                    ^' \
+        '  End the last line with a line feed, and the last script with `end`.')" check "$machine" --context pipe.txt
+    wait
+    from=name.txt run 1 /dev/null "$(as_file printf '%s\n' 'fmpsim: -: line 2: E3 unknown name' '  act_tsk(T9)' '          ^' \
+        '  expected: act_tsk(task)' "$task")" explore again.cfg - --find end --ticks 0 --turns 1 --context
+    from=events.txt run 1 "$(as_file echo 1 P1 T1 tick taken)" "$(as_file echo '-:2:12: error: E3 unknown name')" --diagnostics=gcc calls "$machine" -
+    lines_in_pieces
     sleep 900 > pipe.txt &
     run 1 /dev/null "$(as_file echo fmpsim: number.cfg: line 3: F7 value out of range)" check number.cfg pipe.txt
     kill $!
     wait
+}
+
+# A line at fault behind others that are gone, in events that come in pieces: after 30,000 comments of 20 bytes, and then one with 200,000 blanks before its
+# call, of which 100 bytes before the caret are shown. A line of more than 16 MiB is not kept.
+lines_in_pieces() {
+    local advice='  Use the name of an object of the configuration, or a constant.'
+    { yes '# nineteen bytes ..' | head -n 30000 && echo 'P1 act_tsk(T9)' && yes '# more' | head -n 30000; } > far.txt
+    from=far.txt run 1 /dev/null "$(as_file printf '%s\n' 'fmpsim: -: line 30001: E3 unknown name' '  P1 act_tsk(T9)' '             ^' \
+        '  expected: act_tsk(task)' "$task")" calls "$machine" - --context
+    from=far.txt run 1 /dev/null "$(as_file echo '-:30001:12: error: E3 unknown name')" calls "$machine" - --diagnostics=gcc
+    { yes '# nineteen bytes ..' | head -n 30000 && printf 'P1 %200000sact_tsk(T9)\n' ''; } > far.txt
+    from=far.txt run 1 /dev/null "$(as_file printf '%s\n' 'fmpsim: -: line 30001: E3 unknown name' "$(printf '..%92sact_tsk(T9)' '')" \
+        "$(printf '%102s^' '')" '  expected: act_tsk(task)' "$task")" calls "$machine" - --context
+    { echo '# one' && printf 'P1 %17000000sact_tsk(T9)\n' ''; } > far.txt
+    from=far.txt run 1 /dev/null "$(as_file printf '%s\n' 'fmpsim: -: line 2: E3 unknown name' "$advice")" calls "$machine" - --context
+    rm far.txt
 }
 
 # Under a failed read stands which file it was and why, the first one that cannot be opened or read. Events and scripts from standard

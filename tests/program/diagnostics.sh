@@ -11,7 +11,7 @@ diagnostics() {
     run 1 tick.txt "$(as_file printf '%s\n' "$told" '  P1 act_tsk(T9)' '             ^' '  expected: act_tsk(task)' "$task")" \
         --diagnostics=gcc calls --context "$machine" events.txt
     run 1 tick.txt "$(as_file echo fmpsim: events.txt: line 2: E3 unknown name)" calls --diagnostics=plain "$machine" events.txt
-    from=events.txt run 1 tick.txt "$(as_file echo '-:2: error: E3 unknown name')" calls "$machine" - --diagnostics=gcc
+    from=events.txt run 1 tick.txt "$(as_file echo '-:2:12: error: E3 unknown name')" calls "$machine" - --diagnostics=gcc
     run 1 /dev/null "$(as_file echo "$told")" shrink "$machine" events.txt --find tick --diagnostics=gcc
     printf 'script main\nact_tsk(T9)\nend\n' > name.txt
     run 1 /dev/null "$(as_file echo name.txt:2:9: error: E3 unknown name)" smp again.cfg name.txt --ticks 0 --turns 1 --diagnostics=gcc

@@ -39,8 +39,8 @@ one_from_input() {
     from=$machine run 2 /dev/null "$twice" check - -
     from=$machine run 2 /dev/null "$twice" explore - "$dead/scripts.txt" --from - "${question[@]}"
     from=$machine run 2 /dev/null "$twice" explore "$dead/machine.cfg" - --from - "${question[@]}"
-    # the fault of a text from there has its line, and no place in it
-    from=$(as_file echo 1 P1 T1 tack taken) run 1 /dev/null "$(as_file echo '-:1: error: E2 bad word')" check "$machine" - --diagnostics=gcc
+    # the fault of a text from there has its line and its place in it
+    from=$(as_file echo 1 P1 T1 tack taken) run 1 /dev/null "$(as_file echo '-:1:9: error: E2 bad word')" check "$machine" - --diagnostics=gcc
     from=$(as_file echo 'PROCESSORS(9);') run 1 /dev/null "$(as_file echo 'fmpsim: -: line 1: F7 value out of range')" check - "$trace"
     # a file of this name
     cp "$trace" ./-

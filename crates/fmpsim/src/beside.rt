@@ -1,7 +1,7 @@
-//! What is told of a fault: its line, why a file cannot be read, and with `--context` the place of a fault. For the place the events, scripts
-//! or trace are read once more; the configuration was kept, since it may come from a pipe.
+//! What is told of a fault: its line, why a file cannot be read, and with `--context` the place of a fault. For the place the configuration was kept, and
+//! of events the lines that were read last. Scripts and a trace are read once more, or were kept, too, where they came from a pipe.
 use crate::lines::{tell_placed, tell_plainly};
-use crate::texts::{STANDARD_INPUT, is_file};
+use crate::texts::{Kept, STANDARD_INPUT, is_file};
 use fmp_cli::Paths;
 use fmp_cli_diagnostics::{LineForm, Spot};
 use fmp_cli_hints::{TextForm, text_advice, text_context, text_spot};
@@ -28,7 +28,8 @@ pub struct Telling {
     pub text: TextForm,
 }
 
-/// A fault whose text is at hand: the configuration that was kept, or the other text, which was read once more, with its configuration.
+/// A fault whose text is at hand: the configuration that was kept, or the other text, with its configuration. Of the other text there may be its last
+/// lines alone, so that the number of the line at fault is another there.
 #[derive(Drop)]
 enum Found {
     Config(ConfigFault),
@@ -78,23 +79,48 @@ fn is_gone<R: Files>(rt: &R, paths: &Paths<'_>) -> bool {
     paths.text == STANDARD_INPUT || !is_file(rt, paths.text)
 }
 
-/// The fault of the other text, where it can be read once more and has that still.
+/// The fault of a text with this configuration, where its first one is that: at the same line, unless there are the text's last lines alone.
+fn found_in(
+    alloc: Global,
+    form: TextForm,
+    config: &[u8],
+    text: Vec<u8>,
+    fault: TextFault,
+    is_whole: bool,
+) -> Option<Found> {
+    let config = read_config(alloc, config).ok()?;
+    let again = text_fault(alloc, form, text.as_slice(), &config)?;
+    if again.kind == fault.kind && (again.line == fault.line || !is_whole) {
+        Some(Found::Text(again, config, text))
+    } else {
+        None
+    }
+}
+
+/// The fault of the other text, where that was kept and has it, or can be read once more and has it still.
 fn text_again<R: Files + AllocGlobal>(
     rt: &R,
     paths: &Paths<'_>,
     form: TextForm,
-    config: &[u8],
+    texts: &mut Kept,
     fault: TextFault,
 ) -> Option<Found> {
-    if fault.kind == TextKind::Memory || fault.line == 0 || is_gone(rt, paths) {
+    if fault.kind == TextKind::Memory || fault.line == 0 {
         return None;
     }
-    let config = read_config(rt.alloc(), config).ok()?;
+    let alloc = rt.alloc();
+    let config = texts.config.as_slice();
+    if let Some(text) = texts.text.take() {
+        let found = found_in(alloc, form, config, text, fault, false);
+        if found.is_some() {
+            return found;
+        }
+    }
+    if is_gone(rt, paths) {
+        return None;
+    }
     let text = whole(rt, paths.text, MOST_BYTES)?;
-    if text_fault(rt.alloc(), form, text.as_slice(), &config)? != fault {
-        return None;
-    }
-    Some(Found::Text(fault, config, text))
+    found_in(alloc, form, config, text, fault, true)
 }
 
 /// The fault with its text, where that has it still.
@@ -102,26 +128,43 @@ fn find_again<R: Files + AllocGlobal>(
     rt: &R,
     paths: &Paths<'_>,
     form: TextForm,
-    config: &[u8],
+    texts: &mut Kept,
     fault: &RunFault,
 ) -> Option<Found> {
     match fault {
-        RunFault::Config(fault) => config_again(rt.alloc(), config, fault),
-        RunFault::Text(fault) => text_again(rt, paths, form, config, *fault),
+        RunFault::Config(fault) => config_again(rt.alloc(), texts.config.as_slice(), fault),
+        RunFault::Text(fault) => text_again(rt, paths, form, texts, *fault),
         _ => None,
     }
 }
 
+/// A place of a text's last lines, in the line of this number of the whole text.
+fn in_line(spot: Spot, line: u32) -> Spot {
+    match spot {
+        Spot::Nowhere => Spot::Nowhere,
+        Spot::Line(_) => Spot::Line(line as usize),
+        Spot::Column(_, column) => Spot::Column(line as usize, column),
+    }
+}
+
 /// Where a fault is that was found again.
-fn spot_in(alloc: Global, form: TextForm, config: &[u8], found: &Found) -> Option<Spot> {
+fn spot_in(
+    alloc: Global,
+    form: TextForm,
+    config: &[u8],
+    found: &Found,
+    fault: &RunFault,
+) -> Option<Spot> {
     if config.len() > MOST_CONFIG_BYTES {
         return None;
     }
-    match found {
-        Found::Config(fault) => Some(config_spot(config, fault)),
-        Found::Text(fault, config, text) => {
-            text_spot(alloc, config.names(), form, text.as_slice(), *fault).ok()
+    match (found, fault) {
+        (Found::Config(fault), _) => Some(config_spot(config, fault)),
+        (Found::Text(again, config, text), RunFault::Text(fault)) => {
+            let spot = text_spot(alloc, config.names(), form, text.as_slice(), *again).ok()?;
+            Some(in_line(spot, fault.line))
         }
+        _ => None,
     }
 }
 
@@ -204,13 +247,14 @@ fn tell_line<R: Files + Eprint + AllocGlobal>(
     rt: &R,
     paths: &Paths<'_>,
     telling: Telling,
-    config: &[u8],
+    texts: &mut Kept,
     fault: &RunFault,
 ) -> Option<Found> {
     if telling.line == LineForm::Gcc {
-        let found = find_again(rt, paths, telling.text, config, fault);
+        let found = find_again(rt, paths, telling.text, texts, fault);
+        let config = texts.config.as_slice();
         let spot = match &found {
-            Some(found) => spot_in(rt.alloc(), telling.text, config, found),
+            Some(found) => spot_in(rt.alloc(), telling.text, config, found, fault),
             None => None,
         };
         tell_placed(rt, paths, fault, spot);
@@ -218,22 +262,22 @@ fn tell_line<R: Files + Eprint + AllocGlobal>(
     }
     tell_plainly(rt, paths, fault);
     if paths.context.is_some() {
-        find_again(rt, paths, telling.text, config, fault)
+        find_again(rt, paths, telling.text, texts, fault)
     } else {
         None
     }
 }
 
-/// Tells a fault of a run that has read this configuration: its line, and below it why the other text cannot be read, or with `--context`
+/// Tells a fault of a run that has read these texts: its line, and below it why the other text cannot be read, or with `--context`
 /// the place of the fault.
 pub fn tell<R: Files + Eprint + AllocGlobal>(
     rt: &R,
     paths: &Paths<'_>,
     telling: Telling,
-    config: &[u8],
+    mut texts: Kept,
     fault: &RunFault,
 ) {
-    let found = tell_line(rt, paths, telling, config, fault);
+    let found = tell_line(rt, paths, telling, &mut texts, fault);
     if matches!(fault, RunFault::Read) {
         tell_cause(rt, paths.text);
     }
@@ -241,7 +285,7 @@ pub fn tell<R: Files + Eprint + AllocGlobal>(
         return;
     }
     let text = match &found {
-        Some(found) => beside(rt.alloc(), telling.text, config, found),
+        Some(found) => beside(rt.alloc(), telling.text, texts.config.as_slice(), found),
         None => advice(rt, paths, telling.text, fault),
     };
     if let Some(text) = text {

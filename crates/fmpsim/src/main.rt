@@ -48,7 +48,7 @@ use std::process::ExitCode;
 use std::rt::{Clock, Env, Files};
 use std::sync::Wait;
 use std::thread::Threads;
-use texts::{STANDARD_INPUT, both_opened, both_read, config_alone, trace_read};
+use texts::{Kept, LineKeeper, STANDARD_INPUT, both_opened, both_read, config_alone, trace_read};
 use values::{refused_number, tell_near_option};
 use words::{settle_context, words_of};
 
@@ -92,8 +92,9 @@ fn calls<R: Files + Input + Print + AllocGlobal>(
     coloured: bool,
 ) -> Result<Status, Ending> {
     let (config, events) = both_opened(rt, paths)?;
-    let run = answered(rt, config.as_slice(), events, report, coloured);
-    kept(run, config)
+    let mut events = LineKeeper::new(rt.alloc(), events);
+    let run = answered(rt, config.as_slice(), &mut events, report, coloured);
+    kept(run, Kept { config, text: events.into_last() })
 }
 
 /// Writes what the events change of the things with these names, each change as its event comes.
@@ -132,8 +133,9 @@ fn life<R: Files + Input + Print + AllocGlobal>(
     coloured: bool,
 ) -> Result<Status, Ending> {
     let (config, events) = both_opened(rt, paths)?;
-    let run = followed(rt, config.as_slice(), events, names, coloured);
-    kept(run, config)
+    let mut events = LineKeeper::new(rt.alloc(), events);
+    let run = followed(rt, config.as_slice(), &mut events, names, coloured);
+    kept(run, Kept { config, text: events.into_last() })
 }
 
 /// How a run that is asked for some things ends the program. A fault is told, and a name that names nothing.
@@ -161,16 +163,16 @@ fn judged<R: Files + Input + Print + AllocGlobal>(
     asked: Asked,
 ) -> Result<Verdict, Ending> {
     let alloc = rt.alloc();
-    let (config, mut trace) = both_read(rt, paths)?;
+    let (texts, mut trace) = both_read(rt, paths)?;
     let mut sink = WriteSink::new(alloc, io::writer(rt))?;
     let run = judge(
         alloc,
-        &mut MemSource::new(config.as_slice()),
+        &mut MemSource::new(texts.config.as_slice()),
         &mut trace,
         &mut sink,
         asked,
     );
-    kept(settled(run, sink.is_closed()), config)
+    kept(settled(run, sink.is_closed()), texts)
 }
 
 /// Writes what is asked of a trace, and reports the first line that is not the machine's where nothing that is written does.
@@ -194,15 +196,15 @@ fn partial<R: Files + Input + Print + Eprint + AllocGlobal>(
     line: LineForm,
 ) -> Result<Status, Ending> {
     let alloc = rt.alloc();
-    let (config, mut trace) = both_read(rt, paths)?;
+    let (texts, mut trace) = both_read(rt, paths)?;
     let mut sink = WriteSink::new(alloc, io::writer(rt))?;
     let run = run_partial(
         alloc,
-        &mut MemSource::new(config.as_slice()),
+        &mut MemSource::new(texts.config.as_slice()),
         &mut trace,
         &mut sink,
     );
-    let verdict = kept(settled(run, sink.is_closed()), config)?;
+    let verdict = kept(settled(run, sink.is_closed()), texts)?;
     if let PartialVerdict::No(number) = verdict {
         lines::tell_differs(rt, line, paths.text, Asked::Verdict, number);
     }
@@ -215,10 +217,10 @@ fn saved<R: Files + Input + Print + AllocGlobal>(
     paths: &Paths<'_>,
 ) -> Result<Status, Ending> {
     let alloc = rt.alloc();
-    let config = config_alone(rt, paths)?;
+    let texts = config_alone(rt, paths)?;
     let mut sink = WriteSink::new(alloc, io::writer(rt))?;
-    let run = run_save(alloc, &mut MemSource::new(config.as_slice()), &mut sink);
-    kept(settled(run, sink.is_closed()), config)?;
+    let run = run_save(alloc, &mut MemSource::new(texts.config.as_slice()), &mut sink);
+    kept(settled(run, sink.is_closed()), texts)?;
     Ok(Status::Done)
 }
 
@@ -234,17 +236,17 @@ fn explore<R: Files + Input + Print + Eprint + Clock + AllocGlobal>(
     if let Some(folder) = request.layer {
         layer::folder_made(rt, folder)?;
     }
-    let (config, mut scripts) = both_read(rt, paths)?;
+    let (texts, mut scripts) = both_read(rt, paths)?;
     let mut output = WriteSink::new(alloc, io::writer(rt))?;
     let run = search(
         alloc,
-        &mut MemSource::new(config.as_slice()),
+        &mut MemSource::new(texts.config.as_slice()),
         &mut scripts,
         &mut output,
         request,
         line,
     );
-    let outcome = kept(settled_search(run, output.is_closed()), config)?;
+    let outcome = kept(settled_search(run, output.is_closed()), texts)?;
     if let Some(folder) = request.layer {
         layer::written(rt, folder, &outcome.layer)?;
     }
@@ -266,28 +268,28 @@ fn explore_all<R: Files + Input + Print + Eprint + Clock + AllocGlobal>(
     line: &mut ProgressLine<'_, R>,
 ) -> Result<Status, Ending> {
     let alloc = rt.alloc();
-    let (config, mut scripts) = both_read(rt, paths)?;
+    let (texts, mut scripts) = both_read(rt, paths)?;
     let mut output = WriteSink::new(alloc, io::writer(rt))?;
     if request.most {
         let run = search_most(
             alloc,
-            &mut MemSource::new(config.as_slice()),
+            &mut MemSource::new(texts.config.as_slice()),
             &mut scripts,
             &mut output,
             request,
             line,
         );
-        return kept(settled(run, output.is_closed()), config);
+        return kept(settled(run, output.is_closed()), texts);
     }
     let run = search_forever(
         alloc,
-        &mut MemSource::new(config.as_slice()),
+        &mut MemSource::new(texts.config.as_slice()),
         &mut scripts,
         &mut output,
         request,
         line,
     );
-    let stayed = kept(settled_search(run, output.is_closed()), config)?;
+    let stayed = kept(settled_search(run, output.is_closed()), texts)?;
     line.allow_as_much();
     staying::tell_stayed(rt, &stayed, request.bounds, line);
     Ok(stayed.staying.status())
@@ -305,19 +307,19 @@ fn explore_from<R: Files + Input + Print + Eprint + Clock + AllocGlobal>(
     if begun == STANDARD_INPUT && (paths.config == begun || paths.text == begun) {
         return Err(Ending::OneInput);
     }
-    let (config, mut scripts) = both_read(rt, paths)?;
+    let (texts, mut scripts) = both_read(rt, paths)?;
     let begun = trace_read(rt, begun)?;
     let mut output = WriteSink::new(alloc, io::writer(rt))?;
     let run = search_from(
         alloc,
-        &mut MemSource::new(config.as_slice()),
+        &mut MemSource::new(texts.config.as_slice()),
         &mut scripts,
         begun.as_slice(),
         &mut output,
         request,
         line,
     );
-    kept(settled_begun(run, output.is_closed()), config)
+    kept(settled_begun(run, output.is_closed()), texts)
 }
 
 /// How a run that answers a question ends the program. A fault is told.
@@ -408,16 +410,16 @@ fn shortened<R: Files + Input + Print + AllocGlobal>(
     request: &ShrinkRequest<'_>,
 ) -> Result<Status, Ending> {
     let alloc = rt.alloc();
-    let (config, mut events) = both_read(rt, paths)?;
+    let (texts, mut events) = both_read(rt, paths)?;
     let mut output = WriteSink::new(alloc, io::writer(rt))?;
     let run = shrink(
         alloc,
-        &mut MemSource::new(config.as_slice()),
+        &mut MemSource::new(texts.config.as_slice()),
         &mut events,
         &mut output,
         request,
     );
-    kept(settled_search(run, output.is_closed()), config)
+    kept(settled_search(run, output.is_closed()), texts)
 }
 
 /// How leaving events out ends the program. A fault is told, and where the answers to the events do not show what is asked.
@@ -476,10 +478,10 @@ fn configured<R: Files + Input + Print + AllocGlobal>(
     paths: &Paths<'_>,
 ) -> Result<Status, Ending> {
     let alloc = rt.alloc();
-    let config = config_alone(rt, paths)?;
+    let texts = config_alone(rt, paths)?;
     let mut output = WriteSink::new(alloc, io::writer(rt))?;
-    let run = run_list(alloc, &mut MemSource::new(config.as_slice()), &mut output);
-    kept(settled(run, output.is_closed()), config)?;
+    let run = run_list(alloc, &mut MemSource::new(texts.config.as_slice()), &mut output);
+    kept(settled(run, output.is_closed()), texts)?;
     Ok(Status::Done)
 }
 
@@ -540,8 +542,8 @@ fn ended<R: Files + Eprint + AllocGlobal>(
             }
             status
         }
-        Err(Ending::Faulty(fault, config)) => {
-            beside::tell(rt, paths, telling, config.as_slice(), &fault);
+        Err(Ending::Faulty(fault, texts)) => {
+            beside::tell(rt, paths, telling, texts, &fault);
             fault.status()
         }
         Err(Ending::NoConfig(error)) => unopened(rt, paths, paths.config, &error),

@@ -1,4 +1,5 @@
 //! Standard output: whether the trace is coloured there, and what a run ends with whose output nobody reads any more.
+use crate::texts::Kept;
 use fmp_cli::Colour;
 use fmp_run_events::{LifeFault, RunFault};
 use fmp_run_explore::ExploreFault;
@@ -14,8 +15,8 @@ use std::{env, io};
 pub enum Ending {
     /// This is told.
     Fault(RunFault),
-    /// This is told of a run that has read this configuration.
-    Faulty(RunFault, Vec<u8>),
+    /// This is told of a run that has read these texts.
+    Faulty(RunFault, Kept),
     /// The configuration cannot be opened, for this cause.
     NoConfig(io::Error),
     /// The other text cannot be opened, for this cause.
@@ -74,13 +75,13 @@ impl Ending {
     }
 }
 
-/// What became of a run that has read this configuration, which is kept for what stands beside a fault.
-pub fn kept<T: Drop>(run: Result<T, Ending>, config: Vec<u8>) -> Result<T, Ending> {
+/// What became of a run that has read these texts, which are kept for what stands beside a fault.
+pub fn kept<T: Drop>(run: Result<T, Ending>, texts: Kept) -> Result<T, Ending> {
     match run {
         Ok(done) => Ok(done),
-        Err(Ending::Fault(fault)) => Err(Ending::Faulty(fault, config)),
-        Err(Ending::Question(fault, place)) => Err(Ending::Asked(fault, place, config)),
-        Err(Ending::Name(index)) => Err(Ending::Unnamed(index, config)),
+        Err(Ending::Fault(fault)) => Err(Ending::Faulty(fault, texts)),
+        Err(Ending::Question(fault, place)) => Err(Ending::Asked(fault, place, texts.config)),
+        Err(Ending::Name(index)) => Err(Ending::Unnamed(index, texts.config)),
         Err(ending) => Err(ending),
     }
 }

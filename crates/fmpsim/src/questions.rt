@@ -3,7 +3,7 @@ use crate::beside::Telling;
 use crate::layer::folder_made;
 use crate::output::{Ending, settled_search};
 use crate::progress::ProgressLine;
-use crate::texts::{STANDARD_INPUT, both_opened, text_read, trace_read};
+use crate::texts::{Kept, STANDARD_INPUT, both_opened, copy_of, text_read, trace_read};
 use crate::{beside, lines, unmade, unshown};
 use fmp_cli::Paths;
 use fmp_cli_explore::{ExploreRequest, FEW_TICKS};
@@ -78,7 +78,7 @@ fn texts_of<R: Files + Input + AllocGlobal>(rt: &R, asking: &Asking<'_>) -> Resu
             scripts,
             questions,
         }),
-        Err(fault) => Err(Ending::Faulty(fault, config)),
+        Err(fault) => Err(Ending::Faulty(fault, Kept { config, text: None })),
     }
 }
 
@@ -88,7 +88,13 @@ fn config_of(alloc: Global, texts: &Texts) -> Result<Config, Ending> {
     let mut scripts = MemSource::new(texts.scripts.as_slice());
     match texts_from(alloc, &ScriptReader, &mut config, &mut scripts) {
         Ok((config, _)) => Ok(config),
-        Err(fault) => Err(Ending::Faulty(fault, Vec::from_slice(alloc, texts.config.as_slice())?)),
+        Err(fault) => {
+            let kept = Kept {
+                config: Vec::from_slice(alloc, texts.config.as_slice())?,
+                text: copy_of(alloc, texts.scripts.as_slice()),
+            };
+            Err(Ending::Faulty(fault, kept))
+        }
     }
 }
 

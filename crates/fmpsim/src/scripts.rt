@@ -237,13 +237,13 @@ where
     R: Files + Input + Print + Eprint + AllocGlobal + Threads + Wait + Sync,
     P: SeedProgress,
 {
-    let (config, mut scripts) = both_read(rt, paths)?;
-    let config_text = config.as_slice();
-    match written(rt, config_text, &mut scripts, request, coloured, progress) {
+    let (texts, mut scripts) = both_read(rt, paths)?;
+    let config = texts.config.as_slice();
+    match written(rt, config, &mut scripts, request, coloured, progress) {
         Ok(run) => {
-            run.tell(rt, paths, form, config.as_slice());
+            run.tell(rt, paths, form, texts.config.as_slice());
             Ok(run.status)
         }
-        Err(ending) => kept(Err(ending), config),
+        Err(ending) => kept(Err(ending), texts),
     }
 }

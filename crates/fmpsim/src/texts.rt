@@ -8,12 +8,24 @@ use fmp_config::{MOST_BYTES as MOST_CONFIG_BYTES, read_config};
 use fmp_run_devices::{ReadFault, TextOr, TextSource};
 use fmp_run_events::{ReadSource, RunFault, read_up_to};
 use fmp_text::MOST_BYTES;
+use std::alloc::Global;
 use std::io::{ErrorKind, Input, Read};
 use std::rt::Files;
 use std::{fs, io};
 
 /// The path in whose place a text is read from standard input.
 pub const STANDARD_INPUT: &str = "-";
+
+/// How many bytes of a text that cannot be read twice are kept at most for what stands beside a fault.
+const MOST_KEPT: usize = 1 << 24;
+
+/// What is kept of the texts of a run, for what stands beside a fault.
+#[derive(Drop)]
+pub struct Kept {
+    pub config: Vec<u8>,
+    /// The other text, or the lines of it that were read last. There is none where that can be read once more, or is too long.
+    pub text: Option<Vec<u8>>,
+}
 
 /// A text that is read as it comes: from a file, or from standard input.
 #[derive(Drop)]
@@ -34,6 +46,61 @@ impl<F: Read, I: Read> Read for Text<F, I> {
             Text::Input(input) => input.read(buffer),
             Text::Unreadable => Err(io::Error::from(ErrorKind::Other)),
         }
+    }
+}
+
+/// A reader of lines that are judged as they come, each before more is read. It keeps those of which one may be at fault: what was read last, from the
+/// beginning of its first line on.
+#[derive(Drop)]
+pub struct LineKeeper<T> {
+    text: T,
+    /// There is none where a line is too long, or memory was wanting.
+    last: Option<Vec<u8>>,
+}
+
+impl<T: Read + Drop> LineKeeper<T> {
+    /// A reader that has read nothing.
+    pub fn new(alloc: Global, text: T) -> LineKeeper<T> {
+        LineKeeper {
+            text,
+            last: Some(Vec::new(alloc)),
+        }
+    }
+
+    /// What it keeps.
+    pub fn into_last(self) -> Option<Vec<u8>> {
+        self.last
+    }
+}
+
+/// Where the line begins that is not at its end yet.
+fn last_line(text: &[u8]) -> usize {
+    match text.iter().rev().position(|byte| *byte == b'\n') {
+        Some(after) => text.len().saturating_sub(after),
+        None => 0,
+    }
+}
+
+/// The line that is not at its end yet, and what was read after it.
+fn with_piece(mut last: Vec<u8>, piece: &[u8]) -> Option<Vec<u8>> {
+    let begun = last_line(last.as_slice());
+    let rest = last.len().saturating_sub(begun);
+    last.copy_within(begun.., 0);
+    last.truncate(rest);
+    if last.len().saturating_add(piece.len()) > MOST_KEPT {
+        return None;
+    }
+    last.extend_from_slice(piece).ok()?;
+    Some(last)
+}
+
+impl<T: Read> Read for LineKeeper<T> {
+    fn read(&mut self, buffer: &mut [u8]) -> io::Result<usize> {
+        let count = self.text.read(buffer)?;
+        if let Some(last) = self.last.take() {
+            self.last = with_piece(last, &buffer[..count]);
+        }
+        Ok(count)
     }
 }
 
@@ -75,9 +142,12 @@ pub fn text_read<R: AllocGlobal, T: Read + Drop>(rt: &R, text: T) -> Result<Vec<
 pub fn config_alone<R: Files + Input + AllocGlobal>(
     rt: &R,
     paths: &Paths<'_>,
-) -> Result<Vec<u8>, Ending> {
+) -> Result<Kept, Ending> {
     match opened(rt, paths.config) {
-        Ok(text) => config_read(rt, text),
+        Ok(text) => Ok(Kept {
+            config: config_read(rt, text)?,
+            text: None,
+        }),
         Err(error) => Err(Ending::NoConfig(error)),
     }
 }
@@ -117,25 +187,40 @@ fn is_refused<R: AllocGlobal>(rt: &R, config: &[u8]) -> bool {
     read_config(rt.alloc(), config).is_err()
 }
 
+/// A copy of a text, unless it is too long, or memory is wanting.
+pub fn copy_of(alloc: Global, text: &[u8]) -> Option<Vec<u8>> {
+    if text.len() > MOST_KEPT {
+        return None;
+    }
+    Vec::from_slice(alloc, text).ok()
+}
+
 /// The configuration, read, and the other text for a run that reads it whole. That is read now: then its bytes are known, and what the run promises of such
 /// a text it promises of this one. Where it cannot be read, the run says so when it comes to it, behind a fault of the configuration. Standard input and a
-/// pipe may be long in coming: they are read only where the configuration has no fault, which is told at once.
+/// pipe may be long in coming: they are read only where the configuration has no fault, which is told at once, and kept, since they cannot be read twice.
 pub fn both_read<R: Files + Input + AllocGlobal>(
     rt: &R,
     paths: &Paths<'_>,
-) -> Result<(Vec<u8>, WholeText<R::File, R::Reader>), Ending>
+) -> Result<(Kept, WholeText<R::File, R::Reader>), Ending>
     ensures { IfOk result (λ both. of_either (λ _. 0) (λ source. source.failures) both.1 ≡ 0) }
 {
     let alloc = rt.alloc();
     let (config, text) = both_opened(rt, paths)?;
-    if !is_file(rt, paths.text) && is_refused(rt, config.as_slice()) {
-        return Ok((config, TextOr::Other(ReadSource::new(text))));
+    let is_file = is_file(rt, paths.text);
+    if !is_file && is_refused(rt, config.as_slice()) {
+        return Ok((Kept { config, text: None }, TextOr::Other(ReadSource::new(text))));
     }
     match read_up_to(alloc, &mut ReadSource::new(text), MOST_BYTES) {
-        Ok(text) => Ok((config, TextOr::Text(TextSource::new(alloc, text)))),
+        Ok(text) => {
+            let kept = Kept {
+                config,
+                text: if is_file { None } else { copy_of(alloc, text.as_slice()) },
+            };
+            Ok((kept, TextOr::Text(TextSource::new(alloc, text))))
+        }
         Err(ReadFault::Failed) => {
             let unreadable = ReadSource::new(Text::Unreadable);
-            Ok((config, TextOr::Other(unreadable)))
+            Ok((Kept { config, text: None }, TextOr::Other(unreadable)))
         }
         Err(ReadFault::Memory) => Err(Ending::Fault(RunFault::Memory)),
     }
