@@ -1,3 +1,3 @@
-pub mod Framed  -- How a record frames a change that keeps all cells but those that it lets change.
-pub mod Covers  -- What a record lets change covers its call, or its tick.
+pub mod Framed  -- How a record frames what its event did.
+pub mod Does  -- What calls and ticks do to tasks, by what they answer.
 pub mod Steps  -- What each event leaves.

@@ -23,8 +23,8 @@ use Rattle.fmp_rules.specs.Step.{before_event, changed_run, dispatched, is_same,
 use Rattle.fmp_law_safety.proofs.Ending.{same_true}
 use Rattle.fmp_law_safety.proofs.Settling.{settle_is}
 use Rattle.fmp_law_frames.specs.Frames.{Frame, moves_tasks, running_of}
-use Rattle.fmp_law_frames.proofs.Framed.{DidFrom, did_nothing, framed, mapped_item, report}
-use Rattle.fmp_law_frames.proofs.Covers.{did_call, did_tick}
+use Rattle.fmp_law_frames.proofs.Framed.{DidFrom, did_nothing, mapped_item, report}
+use Rattle.fmp_law_frames.proofs.Does.{did_call, did_tick}
 
 -- no change is told of what runs
 report_same : (a b : Option Task) → changed_run a b ≡ None → a ≡ b
@@ -74,12 +74,12 @@ module _ {Q : Type 0} (k : Ordering Q) (w : World Q) where
       let run : Option Task → Option (Option Task) = λ o. changed_run o (processor (dispatched k u q) q).running in
       let is = settle_is k (tops k w) did.0 q in
       subst (λ v. Frame w (settled k (before_event k w e q) did).1 v) (sym is)
-      (framed w (report e (runner_of w q) did.1) did.0 h.0 _ _ _
+      (h.0 _ _ _
       (λ m n. ap (λ (x : World Q). running_of x) (sym is) ∙ runs_dispatched u q (ap run (runs_at u w q (same m)) ∙ n) ∙ same m))
 
   framed_unchanged : (e : Event) (q : Proc) (a : Answer) → Framed (unchanged w e q a)
   unfolding unchanged
-  framed_unchanged e q a = framed w (report e (runner_of w q) (plain a)) w (did_nothing w e (runner_of w q) (plain a)).0 w.processors None [] (λ _ _. refl)
+  framed_unchanged e q a = (did_nothing w e (runner_of w q) (plain a)).0 w.processors None [] (λ _ _. refl)
 
   pub framed_step : (e : Event) → Framed (step k w e)
   framed_step (event.Call p c) =

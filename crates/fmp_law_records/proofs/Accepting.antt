@@ -29,6 +29,7 @@ use Rattle.fmp_law_balance.specs.Accepted.{is_accepted}
 use Rattle.fmp_law_balance.proofs.Steps.{report}
 use Rattle.fmp_law_waits.proofs.Events.{by_event}
 use Rattle.fmp_law_waits.proofs.Named.{task_known}
+use Rattle.fmp_law_records.proofs.Rows.{task_rows}
 use Rattle.fmp_law_records.proofs.counts.Tasks.{named_or_caller_is}
 use Rattle.fmp_law_records.specs.Suspensions.{is_overflow}
 use Rattle.fmp_law_records.specs.Lives.{queued_count}
@@ -266,7 +267,7 @@ module _ {Q : Type 0} (k : Ordering Q) (w : World Q) (p : Proc) (t : Task) (few 
       (λ _. cond_both (is_zero timeout) _ _ IsFine (λ _. record { unsuited = refl; full = refl }) (λ _. record { unsuited = refl; full = refl }))
 
   task_refuses : (c : TaskCall) → Refuses c (called w p (task_row k w p c)).1.answer
-  unfolding act mact can_act mig_tsk ext_tsk ter_tsk chg_pri tslp_tsk wup can_wup rel_wai sus_tsk rsm_tsk dly_tsk
+  unfolding task_rows
   task_refuses (tasks.ActTsk id) =
       refuses_act (tasks.ActTsk id) (act k w (task_or_caller w p id)) (task_or_caller w p id) refl (λ rule known. named_or_caller_is w p t id few (from_task w p false false rule) known) refl refl refl
   task_refuses (tasks.IactTsk id) = refuses_act (tasks.IactTsk id) (in_handler (act k w (task_named w id))) (task_named w id) refl (λ rule known. task_known w id few known t) refl refl refl

@@ -22,13 +22,14 @@ use Rattle.fmp_rules.specs.Ordering.{Ordering}
 use Rattle.fmp_rules.specs.Rows.{called, refused, in_handler}
 use Rattle.fmp_rules.specs.Arguments.{object_named, processor_named, processor_or_initial, ticks_of}
 use Rattle.fmp_rules.specs.Tick.{tick, ticked, counted_down, released, tasks_expired, with_handlers_due, alarms_due, expired}
-use Rattle.fmp_rules.specs.TimeCalls.{with_alarm_at, with_alarm_left, sta_cyc, msta_cyc, stp_cyc, sta_alm, msta_alm, stp_alm, time_row}
+use Rattle.fmp_rules.specs.TimeCalls.{with_alarm_at, with_alarm_left, msta_alm, time_row}
 use Rattle.fmp_rules.specs.Step.{row_of}
 use Rattle.fmp_law_safety.proofs.Items.{item_same, item_other}
 use Rattle.fmp_law_safety.proofs.KeepsDue.{alarms_keep, cyclics_keep, released_keep}
 use Rattle.fmp_law_balance.specs.Accepted.{is_accepted, names}
 use Rattle.fmp_law_balance.proofs.Called.{refuses, by_called, either_way, not_accepted}
 use Rattle.fmp_law_balance.proofs.Objects.{IsNamed, object_known, by_object}
+use Rattle.fmp_law_records.proofs.Rows.{time_rows}
 use Rattle.fmp_law_records.proofs.counts.SparesCalls.{clock_call}
 use Rattle.fmp_law_records.proofs.counts.Sparing.{Clock}
 use Rattle.fmp_law_records.specs.Handlers.{takes_alarm, taken_to}
@@ -88,7 +89,7 @@ module _ {Q : Type 0} (k : Ordering Q) (w : World Q) (p : Proc) (a : Object) (fe
   not_moved c x e = left_reported c (w, refused x) refl (cond-false (is_accepted (refused x).answer) _ _ (not_accepted x e))
 
   time_reported : (c : TimeCall) → AlarmReported (call.Time c) (called w p (time_row w c))
-  unfolding sta_cyc msta_cyc stp_cyc sta_alm msta_alm stp_alm
+  unfolding time_rows
   time_reported (time.MstaAlm id after q) = by_called w p (AlarmReported (call.Time (time.MstaAlm id after q))) (msta_alm w id after q) tt (not_moved (call.Time (time.MstaAlm id after q)))
       (λ x. let known = and_parts (is_some (object_named w.alarms id)) _ x.known in record { here = moved (call.Time (time.MstaAlm id after q)) id q (ticks_of after) refl known.0 known.1 })
   time_reported (time.ImstaAlm id after q) = by_called w p (AlarmReported (call.Time (time.ImstaAlm id after q))) (in_handler (msta_alm w id after q)) tt (not_moved (call.Time (time.ImstaAlm id after q)))

@@ -20,13 +20,14 @@ use Rattle.fmp_rules.specs.Ordering.{Ordering}
 use Rattle.fmp_rules.specs.Rows.{called, refused}
 use Rattle.fmp_rules.specs.Arguments.{object_named, processor_or_initial}
 use Rattle.fmp_rules.specs.Tick.{tick, ticked, counted_down, released, tasks_expired, with_handlers_due, alarms_due, expired}
-use Rattle.fmp_rules.specs.TimeCalls.{with_cyclic_at, begun, sta_cyc, msta_cyc, stp_cyc, sta_alm, msta_alm, stp_alm, time_row}
+use Rattle.fmp_rules.specs.TimeCalls.{with_cyclic_at, begun, msta_cyc, time_row}
 use Rattle.fmp_rules.specs.Step.{row_of}
 use Rattle.fmp_law_safety.proofs.Items.{item_same, item_other}
 use Rattle.fmp_law_safety.proofs.KeepsDue.{alarms_keep, cyclics_keep, released_keep}
 use Rattle.fmp_law_balance.specs.Accepted.{is_accepted, names}
 use Rattle.fmp_law_balance.proofs.Called.{refuses, by_called, either_way, not_accepted}
 use Rattle.fmp_law_balance.proofs.Objects.{IsNamed, object_known, by_object}
+use Rattle.fmp_law_records.proofs.Rows.{time_rows}
 use Rattle.fmp_law_records.proofs.counts.SparesCalls.{clock_call}
 use Rattle.fmp_law_records.proofs.counts.Sparing.{Clock}
 use Rattle.fmp_law_records.proofs.Alarms.{taken_is, at_with, untaken}
@@ -71,7 +72,7 @@ module _ {Q : Type 0} (k : Ordering Q) (w : World Q) (p : Proc) (a : Object) (fe
   not_moved c x e = left_reported c (w, refused x) refl (cond-false (is_accepted (refused x).answer) _ _ (not_accepted x e))
 
   time_reported : (c : TimeCall) → CyclicReported (call.Time c) (called w p (time_row w c))
-  unfolding sta_cyc msta_cyc stp_cyc sta_alm msta_alm stp_alm
+  unfolding time_rows
   time_reported (time.MstaCyc id q) =
       by_called w p (CyclicReported (call.Time (time.MstaCyc id q))) (msta_cyc w id q) tt (not_moved (call.Time (time.MstaCyc id q)))
       (λ x. let known = and_parts (is_some (object_named w.cyclics id)) _ x.known in record { here = moved (call.Time (time.MstaCyc id q)) id q refl known.0 known.1 })

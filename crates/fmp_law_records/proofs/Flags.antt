@@ -23,7 +23,7 @@ use Rattle.fmp_rules.specs.Rows.{called, refused, in_handler}
 use Rattle.fmp_rules.specs.Arguments.{object_named}
 use Rattle.fmp_rules.specs.Processors.{with_lock, with_dispatching_disabled, unlocked}
 use Rattle.fmp_rules.specs.TaskCalls.{ext_tsk}
-use Rattle.fmp_rules.specs.SystemCalls.{loc_cpu, unl_cpu, dis_dsp, ena_dsp, rotation, rotation_in_handler, system_row}
+use Rattle.fmp_rules.specs.SystemCalls.{loc_cpu, unl_cpu, dis_dsp, ena_dsp, system_row}
 use Rattle.fmp_rules.specs.SpinCalls.{taken, loc_spn, try_spn, unl_spn, spin_row, ret_hdr}
 use Rattle.fmp_rules.specs.Step.{row_of}
 use Rattle.fmp_law_safety.proofs.Items.{item_same}
@@ -31,6 +31,7 @@ use Rattle.fmp_law_safety.proofs.KeepsProcessors.{opened_here}
 use Rattle.fmp_law_balance.specs.Accepted.{is_accepted}
 use Rattle.fmp_law_balance.proofs.Called.{refuses, by_called, not_accepted}
 use Rattle.fmp_law_records.specs.Flags.{locks, unlocks, disables, enables, leaves, locked_with, disabled_with}
+use Rattle.fmp_law_records.proofs.Rows.{system_rows, spin_rows}
 use Rattle.fmp_law_records.proofs.Leaving.{Still, call_still}
 
 pub record Flags : Type 0 where
@@ -79,7 +80,7 @@ module _ {Q : Type 0} (k : Ordering Q) (w : World Q) (p : Proc) (n : p.number �
   still_here v h = ap (λ cs. marks (item no_processor cs p.number)) h.processors
 
   flags_system : (c : SystemCall) → FlagsReported (call.System c) (called w p (system_row k w p c))
-  unfolding rotation rotation_in_handler
+  unfolding system_rows
   flags_system (system.RotRdq x) = record { here = still_here _ (call_still k w p (call.System (system.RotRdq x)) refl) }
   flags_system (system.IrotRdq x) = record { here = still_here _ (call_still k w p (call.System (system.IrotRdq x)) refl) }
   flags_system (system.MrotRdq x q) = record { here = still_here _ (call_still k w p (call.System (system.MrotRdq x q)) refl) }
@@ -93,7 +94,7 @@ module _ {Q : Type 0} (k : Ordering Q) (w : World Q) (p : Proc) (n : p.number �
   flags_system c = by_called w p (FlagsReported (call.System c)) (system_row k w p c) tt (refused_reported (call.System c)) (λ a. record { here = refl })
 
   flags_spin : (c : SpinCall) → FlagsReported (call.Spin c) (called w p (spin_row w p c))
-  unfolding loc_spn try_spn unl_spn
+  unfolding spin_rows
   flags_spin (spin.LocSpn id) = by_called w p (FlagsReported (call.Spin (spin.LocSpn id))) (loc_spn w p id) tt (refused_reported (call.Spin (spin.LocSpn id))) (λ a. cond_both (is_some (holder w (unwrap_or (object_named w.holders id) (as_object 1)))) _ _ (FlagsReported (call.Spin (spin.LocSpn id))) (λ _. record { here = refl }) (λ _. record { here = ap marks (put_here (taken w p (unwrap_or (object_named w.holders id) (as_object 1))) (record (processor w p) { locked = true }) refl) }))
   flags_spin (spin.IlocSpn id) = by_called w p (FlagsReported (call.Spin (spin.IlocSpn id))) (in_handler (loc_spn w p id)) tt (refused_reported (call.Spin (spin.IlocSpn id))) (λ a. cond_both (is_some (holder w (unwrap_or (object_named w.holders id) (as_object 1)))) _ _ (FlagsReported (call.Spin (spin.IlocSpn id))) (λ _. record { here = refl }) (λ _. record { here = ap marks (put_here (taken w p (unwrap_or (object_named w.holders id) (as_object 1))) (record (processor w p) { locked = true }) refl) }))
   flags_spin (spin.TrySpn id) = by_called w p (FlagsReported (call.Spin (spin.TrySpn id))) (try_spn w p id) (refl, tt) (refused_reported (call.Spin (spin.TrySpn id))) (λ a. record { here = ap marks (put_here (taken w p (unwrap_or (object_named w.holders id) (as_object 1))) (record (processor w p) { locked = true }) refl) })

@@ -48,8 +48,8 @@ use Rattle.fmp_rules.specs.Tasks.{make_ready, activate, started, migrate, finish
 use Rattle.fmp_rules.specs.TaskCalls.{is_sleep, act, mact, can_act, mig_tsk, ext_tsk, ter_tsk, tslp_tsk, wup, can_wup, rel_wai, sus_tsk, rsm_tsk, dly_tsk, task_row}
 use Rattle.fmp_rules.specs.SyncCalls.{with_count, with_pattern, sig_sem, twai_sem, pol_sem, signal, counted, set_flg, clr_flg, twai_flg, pol_flg, is_met, cleared, served, accepted_with, answered, sync_row}
 use Rattle.fmp_rules.specs.BufferCalls.{with_handed, tsnd_dtq, psnd_dtq, fsnd_dtq, trcv_dtq, prcv_dtq, tget_mpf, pget_mpf, rel_mpf, sent, can_send, forced, receiver, can_receive, received, sender, given, returned, block_of, buffer_row}
-use Rattle.fmp_rules.specs.TimeCalls.{sta_cyc, msta_cyc, stp_cyc, sta_alm, msta_alm, stp_alm, time_row}
-use Rattle.fmp_rules.specs.SystemCalls.{rotation, rotation_in_handler, system_row}
+use Rattle.fmp_rules.specs.TimeCalls.{time_row}
+use Rattle.fmp_rules.specs.SystemCalls.{system_row}
 use Rattle.fmp_rules.specs.SpinCalls.{loc_spn, try_spn, unl_spn, spin_row, ret_hdr}
 use Rattle.fmp_rules.specs.Step.{row_of}
 use Rattle.fmp_law_safety.proofs.Calls.{FromTask, from_task}
@@ -60,6 +60,7 @@ use Rattle.fmp_law_balance.proofs.Called.{refuses, by_called, either_way}
 use Rattle.fmp_law_waits.specs.Waits.{is_waiting, is_number_of}
 use Rattle.fmp_law_waits.specs.Releases.{breaks_off}
 use Rattle.fmp_law_waits.proofs.Named.{task_known}
+use Rattle.fmp_law_records.proofs.Rows.{time_rows, system_rows}
 
 -- from m to v no wait begins: the numbers stay, and the next one may be greater. The orders of all queues stay
 pub record Quiet (m v : State) : Type 0 where
@@ -346,12 +347,12 @@ module _ (m : State) (p : Proc) where
     buffer_did (buffer.RelMpf id b) = stands (rel_mpf numbered m id b) (in_returned (pool_of id) (block_of b) _ refl)
 
     time_did : (c : TimeCall) → Did (called m p (time_row m c))
-    unfolding sta_cyc msta_cyc stp_cyc sta_alm msta_alm stp_alm
+    unfolding time_rows
     time_did (time.StaCyc id) = stands (time_row m (time.StaCyc id)) (stays_same _ done refl refl refl (λ x o. refl))
     time_did c = stands (time_row m c) (stays_same _ done refl refl refl (λ x o. refl))
 
     system_did : (c : SystemCall) → Did (called m p (system_row numbered m p c))
-    unfolding rotation rotation_in_handler
+    unfolding system_rows
     system_did (system.RotRdq n) = stands (system_row numbered m p (system.RotRdq n)) (in_rotate _)
     system_did (system.IrotRdq n) = stands (system_row numbered m p (system.IrotRdq n)) (in_rotate _)
     system_did (system.MrotRdq n q) = stands (system_row numbered m p (system.MrotRdq n q)) (in_rotate _)

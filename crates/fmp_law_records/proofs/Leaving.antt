@@ -164,7 +164,7 @@ module _ {Q : Type 0} (k : Ordering Q) (w : World Q) (p : Proc) where
   abbrev after : Call → World Q
   after c = (called w p (row_of k w p c)).0
 
-  same_shape : (c : Call) → value (after c) Shape ≡ value w Shape
+  pub same_shape : (c : Call) → value (after c) Shape ≡ value w Shape
   same_shape c = footprint.call_leaves k w p c Shape (shape_stays (group c))
 
   pub call_still : (c : Call) → is_elsewhere c ≡ true → Still w (after c)

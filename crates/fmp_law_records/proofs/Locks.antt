@@ -30,7 +30,7 @@ use Rattle.fmp_rules.specs.Rows.{called, refused, plain, done, in_handler}
 use Rattle.fmp_rules.specs.Arguments.{object_named}
 use Rattle.fmp_rules.specs.Processors.{is_at, opened, unlocked}
 use Rattle.fmp_rules.specs.TaskCalls.{ext_tsk}
-use Rattle.fmp_rules.specs.SystemCalls.{rotation, rotation_in_handler, system_row}
+use Rattle.fmp_rules.specs.SystemCalls.{system_row}
 use Rattle.fmp_rules.specs.SpinCalls.{taken, loc_spn, try_spn, unl_spn, spin_row, ret_hdr}
 use Rattle.fmp_rules.specs.Step.{row_of}
 use Rattle.fmp_law_safety.specs.Safe.{Safe}
@@ -41,6 +41,7 @@ use Rattle.fmp_law_balance.proofs.Called.{refuses, by_called, either_way, not_ac
 use Rattle.fmp_law_balance.proofs.Objects.{IsNamed, object_known, by_object}
 use Rattle.fmp_law_balance.proofs.Steps.{report}
 use Rattle.fmp_law_records.specs.Locks.{asks_for, gives_back, ends_there, is_holder, holder_after, LocksFit}
+use Rattle.fmp_law_records.proofs.Rows.{system_rows, spin_rows}
 use Rattle.fmp_law_records.proofs.Leaving.{Still, call_still}
 
 -- what is not accepted and ends nobody leaves it
@@ -72,7 +73,7 @@ module _ {Q : Type 0} (k : Ordering Q) (w : World Q) (s : Safe k w) (p : Proc) (
   still_reported c did h same = record { here = ap (λ hs. item None hs l.number) h.holders ∙ same; count = ap length h.holders }
 
   held_system : (c : SystemCall) → HolderReported (call.System c) (called w p (system_row k w p c))
-  unfolding rotation rotation_in_handler
+  unfolding system_rows
   held_system (system.RotRdq x) = still_reported (call.System (system.RotRdq x)) _ (call_still k w p (call.System (system.RotRdq x)) refl) refl
   held_system (system.IrotRdq x) = still_reported (call.System (system.IrotRdq x)) _ (call_still k w p (call.System (system.IrotRdq x)) refl) refl
   held_system (system.MrotRdq x q) = still_reported (call.System (system.MrotRdq x q)) _ (call_still k w p (call.System (system.MrotRdq x q)) refl) refl
@@ -119,7 +120,7 @@ module _ {Q : Type 0} (k : Ordering Q) (w : World Q) (s : Safe k w) (p : Proc) (
           (λ _. refl)
 
   held_spin : (c : SpinCall) → HolderReported (call.Spin c) (called w p (spin_row w p c))
-  unfolding loc_spn try_spn unl_spn
+  unfolding spin_rows
   held_spin (spin.LocSpn id) = by_called w p (HolderReported (call.Spin (spin.LocSpn id))) (loc_spn w p id) tt (refused_reported (call.Spin (spin.LocSpn id)))
       (λ a. cond_both (is_some (holder w (the id))) _ _ (HolderReported (call.Spin (spin.LocSpn id))) (λ _. record { here = sym (unchanged_holder l (report (event.Call p (call.Spin (spin.LocSpn id))) (runner_of w p) (plain answer.Spin)) (holder w l) refl refl); count = refl })
       (λ _. record { here = taken_holder id a.known; count = length-set w.holders _ _ }))
@@ -187,7 +188,7 @@ module _ {Q : Type 0} (w : World Q) (p : Proc) (l : Object) (few : length w.hold
   FitsWith c a = LocksFit l (holder w l) (report (event.Call p c) (runner_of w p) (plain a))
 
   fits_spin : (c : SpinCall) → FitsWith (call.Spin c) (called w p (spin_row w p c)).1.answer
-  unfolding loc_spn try_spn unl_spn
+  unfolding spin_rows
   fits_spin (spin.LocSpn id) = record { taken = by_called w p (TakesFree id) (loc_spn w p id) tt (refused_takes id) (λ a. loc_takes id a.known); given_back = λ h. absurd (false≢true h) }
   fits_spin (spin.IlocSpn id) = record { taken = by_called w p (TakesFree id) (in_handler (loc_spn w p id)) tt (refused_takes id) (λ a. loc_takes id a.known); given_back = λ h. absurd (false≢true h) }
   fits_spin (spin.TrySpn id) = record { taken = by_called w p (TakesFree id) (try_spn w p id) (refl, tt) (refused_takes id) (λ a. try_takes id a.known a.errors.0); given_back = λ h. absurd (false≢true h) }

@@ -26,10 +26,10 @@ use Rattle.fmp_rules.specs.Ordering.{queue}
 use Rattle.fmp_rules.specs.Tasks.{make_ready}
 use Rattle.fmp_rules.specs.Rows.{done, plain, Row, called}
 use Rattle.fmp_rules.specs.Arguments.{caller, object_named, forever, ticks_of, is_zero}
-use Rattle.fmp_rules.specs.SyncCalls.{sig_sem, twai_sem, pol_sem, signal, counted, set_flg, clr_flg, twai_flg, pol_flg, is_met, cleared, served, answered, sync_row}
-use Rattle.fmp_rules.specs.BufferCalls.{tsnd_dtq, psnd_dtq, fsnd_dtq, trcv_dtq, prcv_dtq, tget_mpf, pget_mpf, rel_mpf, sent, can_send, forced, receiver, can_receive, received, sender, given, returned, block_of, buffer_row}
-use Rattle.fmp_rules.specs.TimeCalls.{sta_cyc, msta_cyc, stp_cyc, sta_alm, msta_alm, stp_alm, time_row}
-use Rattle.fmp_rules.specs.SpinCalls.{taken, loc_spn, try_spn, unl_spn, spin_row, ret_hdr}
+use Rattle.fmp_rules.specs.SyncCalls.{signal, counted, is_met, cleared, served, answered, sync_row}
+use Rattle.fmp_rules.specs.BufferCalls.{sent, can_send, forced, receiver, can_receive, received, sender, given, returned, block_of, buffer_row}
+use Rattle.fmp_rules.specs.TimeCalls.{time_row}
+use Rattle.fmp_rules.specs.SpinCalls.{taken, spin_row, ret_hdr}
 use Rattle.fmp_law_balance.proofs.Called.{either_way}
 use Rattle.fmp_codes.specs.declared.calls.Call.{Call}
 use Rattle.fmp_codes.specs.declared.calls.Call.TheVariants as call
@@ -41,6 +41,7 @@ use Rattle.fmp_rules.specs.Arrivals.{Arrivals, State, numbered}
 use Rattle.fmp_rules.specs.Tick.{alarms_due, with_handlers_due, expired}
 use Rattle.fmp_law_safety.proofs.KeepsDue.{alarms_keep, cyclics_keep}
 use Rattle.fmp_law_records.specs.Line.{Line, put_last, put_released}
+use Rattle.fmp_law_records.proofs.Rows.{sync_rows, buffer_rows, time_rows, spin_rows}
 use Rattle.fmp_law_records.proofs.Lines.{OrderedIn, ordered_ready, ordered_begin}
 
 -- from m on, those that are released are put last
@@ -76,7 +77,7 @@ module _ (m : State) (p : Proc) where
   flag_of id = unwrap_or (object_named m.eventflags id) (as_object 1)
 
   serves_in_sync : (c : SyncCall) → Serves m (sync_row numbered m p c).effect
-  unfolding sig_sem twai_sem pol_sem set_flg clr_flg twai_flg pol_flg
+  unfolding sync_rows
   serves_in_sync (sync.SigSem id) = serves_in_signal (semaphore_of id) (first (queue numbered m kind.Semaphore (semaphore_of id)))
   serves_in_sync (sync.IsigSem id) = serves_in_signal (semaphore_of id) (first (queue numbered m kind.Semaphore (semaphore_of id)))
   serves_in_sync (sync.WaiSem id) =
@@ -117,7 +118,7 @@ module _ (m : State) (p : Proc) where
   pool_of id = unwrap_or (object_named m.pools id) (as_object 1)
 
   serves_in_buffer : (c : BufferCall) → Serves m (buffer_row numbered m p c).effect
-  unfolding tsnd_dtq psnd_dtq fsnd_dtq trcv_dtq prcv_dtq tget_mpf pget_mpf rel_mpf
+  unfolding buffer_rows
   serves_in_buffer (buffer.SndDtq id x) =
       done_or_waits m p (can_send numbered m (queue_of id)) (sent numbered m (queue_of id) x (receiver numbered m (queue_of id))) (wait.Send (queue_of id) x) forever (serves_in_sent (queue_of id) x (receiver numbered m (queue_of id)))
   serves_in_buffer (buffer.TsndDtq id x timeout) =
@@ -141,7 +142,7 @@ module _ (m : State) (p : Proc) where
   -- handlers, the processors, spin locks
 
   serves_in_time : (c : TimeCall) → Serves m (time_row m c).effect
-  unfolding sta_cyc msta_cyc stp_cyc sta_alm msta_alm stp_alm
+  unfolding time_rows
   serves_in_time (time.StaCyc id) = record { line = λ l h. h }
   serves_in_time _ = record { line = λ l h. h }
 
@@ -149,7 +150,7 @@ module _ (m : State) (p : Proc) where
   serves_in_taken l = cond_both (is_some (holder m l)) (m, plain answer.Spin) (taken m p l, done) (Serves m) (λ _. record { line = λ l h. h }) (λ _. record { line = λ l h. h })
 
   serves_in_spin : (c : SpinCall) → Serves m (spin_row m p c).effect
-  unfolding loc_spn try_spn unl_spn
+  unfolding spin_rows
   serves_in_spin (spin.LocSpn id) = serves_in_taken (unwrap_or (object_named m.holders id) (as_object 1))
   serves_in_spin (spin.IlocSpn id) = serves_in_taken (unwrap_or (object_named m.holders id) (as_object 1))
   serves_in_spin _ = record { line = λ l h. h }

@@ -46,6 +46,7 @@ use Rattle.fmp_law_waits.specs.Waits.{setup_of}
 use Rattle.fmp_law_waits.proofs.Events.{by_event}
 use Rattle.fmp_law_waits.proofs.Follows.{running_within, running_may}
 use Rattle.fmp_law_waits.proofs.Named.{caller_runs, task_known}
+use Rattle.fmp_law_records.proofs.Rows.{system_rows}
 use Rattle.fmp_law_records.proofs.counts.Tasks.{is_caller_of, named_or_caller_is}
 use Rattle.fmp_law_records.specs.Priorities.{given_by}
 use Rattle.fmp_law_records.specs.Handlers.{taken_to}
@@ -313,7 +314,7 @@ module _ (c : Setup) (s : Standing) (m : State) (h : Stands c s m) (safe : Safe 
       ((either_way m p (Serves m) (system_row numbered m p x) (λ y. record { line = λ l g. g }) accepted).line s.line h.line)
 
   system_line : (x : SystemCall) → LinedAt x (called m p (system_row numbered m p x))
-  unfolding rotation rotation_in_handler
+  unfolding system_rows
   system_line (system.RotRdq n) =
       by_called m p (LinedAt (system.RotRdq n)) (rotation numbered m p (Some p) n) tt (refused_at (system.RotRdq n))
       (λ a. rotated (system.RotRdq n) _ (first_reported p p _ _ refl (own_of_task (from_task m p false false a.rule) n)))

@@ -38,6 +38,7 @@ use Rattle.fmp_rules.specs.declared.machine.Cyclic.{Cyclic}
 use Rattle.fmp_law_records.specs.Counts.Cyclics.{starts_cyclic, stops_cyclic, cyclic_left_after}
 use Rattle.fmp_setup.specs.declared.setup.Timer.{Timer}
 use Rattle.fmp_law_waits.proofs.Events.{untaken}
+use Rattle.fmp_law_records.proofs.Rows.{time_rows}
 use Rattle.fmp_law_records.proofs.counts.Sparing.{Clock, clock}
 use Rattle.fmp_law_records.proofs.counts.SparesCalls.{clock_call}
 
@@ -83,7 +84,7 @@ module _ {Q : Type 0} (k : Ordering Q) (w : World Q) (p : Proc) (a : Object) (fe
   as_told id time did put = put ∙ ap (λ left. if names a id && is_accepted did.1.answer then left else item None w.alarms_left a.number) (sym (ticks_same time))
 
   times_time : (c : TimeCall) → CallTimes (call.Time c) (called w p (time_row w c))
-  unfolding sta_cyc msta_cyc stp_cyc sta_alm msta_alm stp_alm
+  unfolding time_rows
   times_time (time.StaAlm id after) =
       as_told id after (called w p (sta_alm w id after))
       (by_called w p (Put id (ticks_of after)) (sta_alm w id after) tt (not_put id (ticks_of after)) (λ x. put_named w.alarms w.alarms_left a few same id (λ o. ticks_of after) x.known))
@@ -126,7 +127,7 @@ module _ {Q : Type 0} (k : Ordering Q) (w : World Q) (p : Proc) (c : Object) (fe
   cyclic_not_put id left = refused_time (names c id) (item None w.cyclics_left c.number) left
 
   cyclic_times_time : (x : TimeCall) → CyclicTimes (call.Time x) (called w p (time_row w x))
-  unfolding sta_cyc msta_cyc stp_cyc sta_alm msta_alm stp_alm
+  unfolding time_rows
   cyclic_times_time (time.StaCyc id) = by_called w p (PutCyclic id (phase_and_one c)) (sta_cyc w id) tt (cyclic_not_put id (phase_and_one c)) (λ a. put_named w.cyclics w.cyclics_left c few same id phase_and_one a.known)
   cyclic_times_time (time.MstaCyc id q) =
       let o : Object = unwrap_or (object_named w.cyclics id) (as_object 1) in
@@ -168,7 +169,7 @@ module _ {Q : Type 0} (w : World Q) where
     ClocksIn did = Clocks did.0
 
     clocks_time : (c : TimeCall) → ClocksIn (called w p (time_row w c))
-    unfolding sta_cyc msta_cyc stp_cyc sta_alm msta_alm stp_alm
+    unfolding time_rows
     clocks_time (time.StaCyc id) =
         either_way w p ClocksIn (time_row w (time.StaCyc id)) (λ c. clocks_all) (record { alarms = refl; alarms_left = refl; cyclics = refl; cyclics_left = length-set w.cyclics_left _ _; due = refl })
     clocks_time (time.MstaCyc id q) =

@@ -39,6 +39,7 @@ use Rattle.fmp_law_balance.proofs.Steps.{report, by_step}
 use Rattle.fmp_law_records.specs.Counts.Lives.{activates, activated, ends, ended, takes_back, amount, taken_back}
 use Rattle.fmp_law_waits.proofs.Follows.{running_may}
 use Rattle.fmp_law_waits.proofs.Named.{by_task, task_known}
+use Rattle.fmp_law_records.proofs.Rows.{task_rows}
 use Rattle.fmp_law_records.proofs.counts.Tasks.{is_caller_of, named_or_caller_is, after_change, changed_here, changed_there}
 use Rattle.fmp_law_records.proofs.counts.Sparing.{Tally, tally, Spares, spares_all, spares_ready, spares_begin, spares_tick}
 use Rattle.fmp_law_records.proofs.counts.SparesCalls.{spares_mig, spares_chg, spares_rel, spares_sus, spares_rsm, spares_dly, tally_call}
@@ -203,7 +204,7 @@ module _ {Q : Type 0} (k : Ordering Q) (w : World Q) (p : Proc) (t : Task) (s : 
   -- The calls on tasks.
 
   lives_task : (c : TaskCall) → CallLives (call.Task c) (called w p (task_row k w p c))
-  unfolding act mact can_act mig_tsk ext_tsk ter_tsk chg_pri tslp_tsk wup can_wup rel_wai sus_tsk rsm_tsk dly_tsk words.finish opened
+  unfolding task_rows words.finish opened
   lives_task (tasks.ActTsk id) =
       let o : Option Task = task_or_caller w p id in
       by_called w p (CallLives (call.Task (tasks.ActTsk id))) (act k w o) (refl, tt) (refused_lives (call.Task (tasks.ActTsk id)))

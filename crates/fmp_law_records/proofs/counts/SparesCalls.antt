@@ -28,11 +28,11 @@ use Rattle.fmp_rules.specs.Tasks.{make_ready, rotate, activate, finish}
 use Rattle.fmp_rules.specs.Rows.{done, plain, Row, called}
 use Rattle.fmp_rules.specs.Arguments.{caller, object_named, forever, ticks_of, priority_or, is_zero, task_named, task_or_caller}
 use Rattle.fmp_rules.specs.TaskCalls.{mig_tsk, chg_pri, rel_wai, sus_tsk, rsm_tsk, dly_tsk, is_sleep, act, mact, can_act, ext_tsk, ter_tsk, tslp_tsk, wup, can_wup, task_row}
-use Rattle.fmp_rules.specs.SyncCalls.{sig_sem, twai_sem, pol_sem, signal, counted, set_flg, clr_flg, twai_flg, pol_flg, is_met, cleared, served, answered, sync_row}
-use Rattle.fmp_rules.specs.BufferCalls.{tsnd_dtq, psnd_dtq, fsnd_dtq, trcv_dtq, prcv_dtq, tget_mpf, pget_mpf, rel_mpf, sent, can_send, forced, receiver, can_receive, received, sender, given, returned, block_of, buffer_row}
-use Rattle.fmp_rules.specs.TimeCalls.{sta_cyc, msta_cyc, stp_cyc, sta_alm, msta_alm, stp_alm, time_row}
-use Rattle.fmp_rules.specs.SystemCalls.{rotation, rotation_in_handler, system_row}
-use Rattle.fmp_rules.specs.SpinCalls.{taken, loc_spn, try_spn, unl_spn, spin_row, ret_hdr}
+use Rattle.fmp_rules.specs.SyncCalls.{signal, counted, is_met, cleared, served, answered, sync_row}
+use Rattle.fmp_rules.specs.BufferCalls.{sent, can_send, forced, receiver, can_receive, received, sender, given, returned, block_of, buffer_row}
+use Rattle.fmp_rules.specs.TimeCalls.{time_row}
+use Rattle.fmp_rules.specs.SystemCalls.{system_row}
+use Rattle.fmp_rules.specs.SpinCalls.{taken, spin_row, ret_hdr}
 use Rattle.std.proofs.lemmas.List.{length-set}
 use Rattle.fmp_codes.specs.declared.calls.TaskCall.{TaskCall}
 use Rattle.fmp_codes.specs.declared.calls.TaskCall.TheVariants as tasks
@@ -41,6 +41,7 @@ use Rattle.fmp_law_balance.proofs.Called.{either_way}
 use Rattle.fmp_codes.specs.declared.calls.Call.{Call}
 use Rattle.fmp_codes.specs.declared.calls.Call.TheVariants as call
 use Rattle.fmp_rules.specs.Step.{row_of}
+use Rattle.fmp_law_records.proofs.Rows.{sync_rows, buffer_rows, time_rows, system_rows, spin_rows}
 use Rattle.fmp_law_records.proofs.counts.Sparing.{tally, clock, Spares, spares_all, spares_then, spares_beside, spares_task, spares_ready, spares_begin, spares_migrate, spares_done_or_wait}
 
 module _ {Q : Type 0} (k : Ordering Q) (w : World Q) (p : Proc) (t : Task) where
@@ -94,7 +95,7 @@ module _ {Q : Type 0} (k : Ordering Q) (w : World Q) (p : Proc) (t : Task) where
   flag_of id = unwrap_or (object_named w.eventflags id) (as_object 1)
 
   spares_sync : (c : SyncCall) → SparesIn (sync_row k w p c).effect
-  unfolding sig_sem twai_sem pol_sem set_flg clr_flg twai_flg pol_flg
+  unfolding sync_rows
   spares_sync (sync.SigSem id) = spares_signal (semaphore_of id) (first (queue k w kind.Semaphore (semaphore_of id)))
   spares_sync (sync.IsigSem id) = spares_signal (semaphore_of id) (first (queue k w kind.Semaphore (semaphore_of id)))
   spares_sync (sync.WaiSem id) =
@@ -135,7 +136,7 @@ module _ {Q : Type 0} (k : Ordering Q) (w : World Q) (p : Proc) (t : Task) where
   pool_of id = unwrap_or (object_named w.pools id) (as_object 1)
 
   spares_buffer : (c : BufferCall) → SparesIn (buffer_row k w p c).effect
-  unfolding tsnd_dtq psnd_dtq fsnd_dtq trcv_dtq prcv_dtq tget_mpf pget_mpf rel_mpf
+  unfolding buffer_rows
   spares_buffer (buffer.SndDtq id x) =
       spares_done_or_wait t w k p (can_send k w (queue_of id)) (sent k w (queue_of id) x (receiver k w (queue_of id))) (wait.Send (queue_of id) x) forever (spares_sent (queue_of id) x (receiver k w (queue_of id)))
   spares_buffer (buffer.TsndDtq id x timeout) =
@@ -159,7 +160,7 @@ module _ {Q : Type 0} (k : Ordering Q) (w : World Q) (p : Proc) (t : Task) where
   -- handlers, the processors, spin locks
 
   spares_time : (c : TimeCall) → tally (task (time_row w c).effect.0 t) ≡ tally (task w t)
-  unfolding sta_cyc msta_cyc stp_cyc sta_alm msta_alm stp_alm
+  unfolding time_rows
   spares_time (time.StaCyc id) = refl
   spares_time _ = refl
 
@@ -168,7 +169,7 @@ module _ {Q : Type 0} (k : Ordering Q) (w : World Q) (p : Proc) (t : Task) where
   spares_rotate (Some u) = spares_task t w (rotate k w (Some u)) u (task w u) refl refl refl
 
   spares_system : (c : SystemCall) → SparesIn (system_row k w p c).effect
-  unfolding rotation rotation_in_handler
+  unfolding system_rows
   spares_system (system.RotRdq n) = spares_rotate _
   spares_system (system.IrotRdq n) = spares_rotate _
   spares_system (system.MrotRdq n q) = spares_rotate _
@@ -179,7 +180,7 @@ module _ {Q : Type 0} (k : Ordering Q) (w : World Q) (p : Proc) (t : Task) where
   spares_taken l = cond_both (is_some (holder w l)) (w, plain answer.Spin) (taken w p l, done) SparesIn (λ _. spares_all t w) (λ _. spares_beside t w _ refl refl)
 
   spares_spin : (c : SpinCall) → SparesIn (spin_row w p c).effect
-  unfolding loc_spn try_spn unl_spn
+  unfolding spin_rows
   spares_spin (spin.LocSpn id) = spares_taken (unwrap_or (object_named w.holders id) (as_object 1))
   spares_spin (spin.IlocSpn id) = spares_taken (unwrap_or (object_named w.holders id) (as_object 1))
   spares_spin _ = spares_beside t w _ refl refl

@@ -39,14 +39,13 @@ use Rattle.fmp_rules.specs.Ordering.{Ordering, queue}
 use Rattle.fmp_rules.specs.Arrivals.{State, numbered}
 use Rattle.fmp_rules.specs.Arguments.{forever, is_zero, object_named, task_named, task_or_caller}
 use Rattle.fmp_rules.specs.Rows.{Row, called, refused, done_or_wait}
-use Rattle.fmp_rules.specs.TaskCalls.{act, mact, can_act, mig_tsk, ext_tsk, ter_tsk, chg_pri, tslp_tsk}
-use Rattle.fmp_rules.specs.TaskCalls.{wup, can_wup, rel_wai, sus_tsk, rsm_tsk, dly_tsk, is_sleep, task_row}
-use Rattle.fmp_rules.specs.SyncCalls.{signal, sig_sem, twai_sem, pol_sem, set_flg, clr_flg, twai_flg, pol_flg, sync_row}
-use Rattle.fmp_rules.specs.BufferCalls.{receiver, sender, can_send, sent, forced, received, returned, block_of, tsnd_dtq, psnd_dtq, fsnd_dtq}
-use Rattle.fmp_rules.specs.BufferCalls.{trcv_dtq, prcv_dtq, tget_mpf, pget_mpf, rel_mpf, buffer_row}
-use Rattle.fmp_rules.specs.TimeCalls.{sta_cyc, msta_cyc, stp_cyc, sta_alm, msta_alm, stp_alm, time_row}
-use Rattle.fmp_rules.specs.SystemCalls.{rotation, rotation_in_handler, system_row}
-use Rattle.fmp_rules.specs.SpinCalls.{loc_spn, try_spn, unl_spn, spin_row, ret_hdr}
+use Rattle.fmp_rules.specs.TaskCalls.{is_sleep, task_row}
+use Rattle.fmp_rules.specs.SyncCalls.{signal, sync_row}
+use Rattle.fmp_rules.specs.BufferCalls.{receiver, sender, can_send, sent, forced, received, returned, block_of}
+use Rattle.fmp_rules.specs.BufferCalls.{buffer_row}
+use Rattle.fmp_rules.specs.TimeCalls.{time_row}
+use Rattle.fmp_rules.specs.SystemCalls.{system_row}
+use Rattle.fmp_rules.specs.SpinCalls.{spin_row, ret_hdr}
 use Rattle.fmp_rules.specs.Tick.{ticked}
 use Rattle.fmp_rules.specs.Step.{row_of, step, replay, answers}
 use Rattle.fmp_rules.specs.Boot.{booted}
@@ -60,6 +59,7 @@ use Rattle.fmp_law_balance.proofs.Called.{refuses, not_accepted, by_called, eith
 use Rattle.fmp_law_waits.proofs.Events.{by_event}
 use Rattle.fmp_law_records.specs.Refusals.Meanings.{object_of}
 use Rattle.fmp_law_records.specs.Refusals.Found.{found_reported, takes_value}
+use Rattle.fmp_law_records.proofs.Rows.{task_rows, sync_rows, buffer_rows, time_rows, system_rows, spin_rows}
 use Rattle.fmp_law_records.proofs.refusals.Answers.{found_after_all}
 use Rattle.fmp_law_records.proofs.refusals.Configured.{Configured, object_is}
 use Rattle.fmp_law_records.proofs.refusals.Found.{Finds, takes_same}
@@ -76,7 +76,7 @@ module _ {Q : Type 0} (k : Ordering Q) (w : World Q) (p : Proc) where
   kept_waits can did z timeout kept = cond_both can did _ Kept (λ _. kept) (λ _. cond_both (is_zero timeout) _ _ Kept (λ _. refl) (λ _. refl))
 
   kept_task : (y : TaskCall) → Kept (task_row k w p y).effect
-  unfolding act mact can_act mig_tsk ext_tsk ter_tsk chg_pri tslp_tsk wup can_wup rel_wai sus_tsk rsm_tsk dly_tsk
+  unfolding task_rows
   kept_task tasks.SlpTsk = kept_waits _ _ wait.Sleep forever refl
   kept_task (tasks.TslpTsk timeout) = kept_waits _ _ wait.Sleep timeout refl
   kept_task (tasks.WupTsk id) = cond_both (is_sleep (task w (unwrap_or (task_or_caller w p id) (as_task 1))).wait) _ _ Kept (λ _. refl) (λ _. refl)
@@ -91,7 +91,7 @@ module _ {Q : Type 0} (k : Ordering Q) (w : World Q) (p : Proc) where
   of_list xs id = unwrap_or (object_named xs id) (as_object 1)
 
   kept_sync : (y : SyncCall) → Kept (sync_row k w p y).effect
-  unfolding sig_sem twai_sem pol_sem set_flg clr_flg twai_flg pol_flg
+  unfolding sync_rows
   kept_sync (sync.SigSem id) = kept_signal (of_list w.semaphores id) (first (queue k w kind.Semaphore (of_list w.semaphores id)))
   kept_sync (sync.IsigSem id) = kept_signal (of_list w.semaphores id) (first (queue k w kind.Semaphore (of_list w.semaphores id)))
   kept_sync (sync.WaiSem id) = kept_waits _ _ (wait.Semaphore (of_list w.semaphores id)) forever refl
@@ -113,17 +113,17 @@ module _ {Q : Type 0} (k : Ordering Q) (w : World Q) (p : Proc) where
   kept_returned m b (Some t) = refl
 
   kept_time : (y : TimeCall) → Kept (time_row w y).effect
-  unfolding sta_cyc msta_cyc stp_cyc sta_alm msta_alm stp_alm
+  unfolding time_rows
   kept_time (time.StaCyc id) = refl
   kept_time y = refl
 
   kept_system : (y : SystemCall) → Kept (system_row k w p y).effect
-  unfolding rotation rotation_in_handler
+  unfolding system_rows
   kept_system system.GetTid = refl
   kept_system y = refl
 
   kept_spin : (y : SpinCall) → Kept (spin_row w p y).effect
-  unfolding loc_spn try_spn unl_spn
+  unfolding spin_rows
   kept_spin (spin.LocSpn id) = cond_both (is_some (holder w (of_list w.holders id))) _ _ Kept (λ _. refl) (λ _. refl)
   kept_spin (spin.IlocSpn id) = cond_both (is_some (holder w (of_list w.holders id))) _ _ Kept (λ _. refl) (λ _. refl)
   kept_spin y = refl
@@ -177,7 +177,7 @@ module _ {Q : Type 0} (k : Ordering Q) (c : Setup) (records : List Record) (w : 
   Loses y = (called w p (row_of k w p y)).1.lost ≡ lost_reported c records (called w p (row_of k w p y)).1.answer (event.Call p y)
 
   loses_buffer : (y : BufferCall) → Loses (call.Buffer y)
-  unfolding tsnd_dtq psnd_dtq fsnd_dtq trcv_dtq prcv_dtq tget_mpf pget_mpf rel_mpf
+  unfolding buffer_rows
   loses_buffer (buffer.SndDtq id v) = kept_called k w p (buffer_row k w p (buffer.SndDtq id v))
       (kept_waits k w p _ _ (wait.Send (d_of id) v) forever (kept_sent k w p (d_of id) v (receiver k w (d_of id))))
   loses_buffer (buffer.TsndDtq id v timeout) =

@@ -39,14 +39,13 @@ use Rattle.fmp_rules.specs.Tasks.{make_ready}
 use Rattle.fmp_rules.specs.Arrivals.{State, numbered}
 use Rattle.fmp_rules.specs.Arguments.{forever, is_zero, object_named, task_named, task_or_caller}
 use Rattle.fmp_rules.specs.Rows.{Row, called, refused, done, done_or_wait, release}
-use Rattle.fmp_rules.specs.TaskCalls.{act, mact, can_act, mig_tsk, ext_tsk, ter_tsk, chg_pri, tslp_tsk}
-use Rattle.fmp_rules.specs.TaskCalls.{wup, can_wup, rel_wai, sus_tsk, rsm_tsk, dly_tsk, is_sleep, task_row}
-use Rattle.fmp_rules.specs.SyncCalls.{signal, is_met, cleared, served, sig_sem, twai_sem, pol_sem, set_flg, clr_flg, twai_flg, pol_flg, sync_row}
-use Rattle.fmp_rules.specs.BufferCalls.{receiver, sender, can_send, sent, forced, received, returned, tsnd_dtq, psnd_dtq, fsnd_dtq}
-use Rattle.fmp_rules.specs.BufferCalls.{trcv_dtq, prcv_dtq, tget_mpf, pget_mpf, rel_mpf, buffer_row}
-use Rattle.fmp_rules.specs.TimeCalls.{sta_cyc, msta_cyc, stp_cyc, sta_alm, msta_alm, stp_alm, time_row}
-use Rattle.fmp_rules.specs.SystemCalls.{rotation, rotation_in_handler, system_row}
-use Rattle.fmp_rules.specs.SpinCalls.{loc_spn, try_spn, unl_spn, spin_row, ret_hdr}
+use Rattle.fmp_rules.specs.TaskCalls.{is_sleep, task_row}
+use Rattle.fmp_rules.specs.SyncCalls.{signal, is_met, cleared, served, sync_row}
+use Rattle.fmp_rules.specs.BufferCalls.{receiver, sender, can_send, sent, forced, received, returned}
+use Rattle.fmp_rules.specs.BufferCalls.{buffer_row}
+use Rattle.fmp_rules.specs.TimeCalls.{time_row}
+use Rattle.fmp_rules.specs.SystemCalls.{system_row}
+use Rattle.fmp_rules.specs.SpinCalls.{spin_row, ret_hdr}
 use Rattle.fmp_rules.specs.Step.{row_of}
 use Rattle.fmp_law_safety.proofs.Calls.{Accepts, from_task}
 use Rattle.fmp_law_safety.proofs.Items.{item_other}
@@ -58,6 +57,7 @@ use Rattle.fmp_law_waits.proofs.Words.{IsKept}
 use Rattle.fmp_law_records.specs.Patterns.{handed_on, clears_of, report_pattern}
 use Rattle.fmp_law_words.proofs.Words.{head_same}
 use Rattle.fmp_law_records.specs.Served.{Places, is_priority}
+use Rattle.fmp_law_records.proofs.Rows.{task_rows, sync_rows, buffer_rows, time_rows, system_rows, spin_rows}
 use Rattle.fmp_law_records.proofs.Places.{ordered_as, ArePlaced}
 use Rattle.fmp_law_records.specs.Refusals.Meanings.{task_of, task_meant, object_of}
 use Rattle.fmp_law_records.specs.Refusals.Found.{for_wakeup, for_unit, for_bits, to_send, to_receive, waits_so}
@@ -145,7 +145,7 @@ module _ (m : State) (p : Proc) where
   of_list xs id = unwrap_or (object_named xs id) (as_object 1)
 
   tells_time : (y : TimeCall) → Tells [] (called m p (time_row m y))
-  unfolding sta_cyc msta_cyc stp_cyc sta_alm msta_alm stp_alm
+  unfolding time_rows
   tells_time y = quiet_called (time_row m y) (go y)
     where
       go : (y : TimeCall) → Quiet (time_row m y).effect
@@ -153,7 +153,7 @@ module _ (m : State) (p : Proc) where
       go y = refl
 
   tells_system : (y : SystemCall) → Tells [] (called m p (system_row numbered m p y))
-  unfolding rotation rotation_in_handler
+  unfolding system_rows
   tells_system y = quiet_called (system_row numbered m p y) (go y)
     where
       go : (y : SystemCall) → Quiet (system_row numbered m p y).effect
@@ -161,7 +161,7 @@ module _ (m : State) (p : Proc) where
       go y = refl
 
   tells_spin : (y : SpinCall) → Tells [] (called m p (spin_row m p y))
-  unfolding loc_spn try_spn unl_spn
+  unfolding spin_rows
   tells_spin y = quiet_called (spin_row m p y) (go y)
     where
       go : (y : SpinCall) → Quiet (spin_row m p y).effect
@@ -270,7 +270,7 @@ module _ (c : Setup) (records : List Record) (m : State) (x : Places) (placed : 
         (λ no_. sym (cond-false (waits_so for_wakeup (x.waits u)) this [] (sym same ∙ no_)))
 
     tells_task : (y : TaskCall) → IsReported (call.Task y)
-    unfolding act mact can_act mig_tsk ext_tsk ter_tsk chg_pri tslp_tsk wup can_wup rel_wai sus_tsk rsm_tsk dly_tsk
+    unfolding task_rows
     tells_task (tasks.WupTsk id) =
         by_row m p (woken c x (task_meant (runner_of m p) id)) (task_row numbered m p (tasks.WupTsk id)) (refl, (refl, tt))
         (λ a.
@@ -302,7 +302,7 @@ module _ (c : Setup) (records : List Record) (m : State) (x : Places) (placed : 
     set_reported f o bits is = flag_same f bits ∙ ap (λ (u : Object). flag_releases c x u (bit_or (report_pattern c u records) bits)) is
 
     tells_sync : (y : SyncCall) → IsReported (call.Sync y)
-    unfolding sig_sem twai_sem pol_sem set_flg clr_flg twai_flg pol_flg
+    unfolding sync_rows
     tells_sync (sync.SigSem id) =
         by_row m p (given_to (next_for_unit c x (object_of id)) None) (sync_row numbered m p (sync.SigSem id)) (refl, tt)
         (λ a. signal_reported (of_list m p m.semaphores id) (object_of id) (object_is m.semaphores id a.known))
@@ -355,7 +355,7 @@ module _ (c : Setup) (records : List Record) (m : State) (x : Places) (placed : 
     effect_of y = (buffer_row numbered m p y).effect
 
     tells_buffer : (y : BufferCall) → IsReported (call.Buffer y)
-    unfolding tsnd_dtq psnd_dtq fsnd_dtq trcv_dtq prcv_dtq tget_mpf pget_mpf rel_mpf
+    unfolding buffer_rows
     tells_buffer (buffer.SndDtq id v) =
         let d : Object = of_list m p m.data_queues id in
         by_row m p (given_to (next_receiver c x (object_of id)) (Some v)) (buffer_row numbered m p (buffer.SndDtq id v)) tt

@@ -1,8 +1,9 @@
--- What a call answers once its place and its arguments are right is what is told: of objects and of the processor.
-use Rattle.std.proofs.Common.{◌≡◌, ◌≤◌, ◌==◌, ℕ, ℤ, pos, Bool, true, false, not, ◌&&◌, List, [], ◌∷◌, length, refl, sym, ap, ◌∙◌, Option, Some, None}
-use Rattle.std.specs.Prelude.{if◌then◌else◌, is_some, is_none, nat_le, nat_lt, unwrap_or, option_map}
-use Rattle.std.proofs.lemmas.Bool.{cond_both, cond-true, cond-false}
-use Rattle.fmp_codes.specs.Numbers.{as_object, task_number}
+-- What a call on objects and on the processor answers is what is told.
+use Rattle.std.proofs.Common.{◌≡◌, ◌≤◌, ◌<◌, ◌==◌, ℕ, ℤ, pos, negsuc, Bool, true, false, not, ◌&&◌, List, [], ◌∷◌, length, arith, refl, sym, ap, ◌∙◌, Option, Some, None, ⊎_elim}
+use Rattle.std.specs.Prelude.{if◌then◌else◌, is_some, is_none, nat_le, nat_lt, unwrap_or, option_map, take}
+use Rattle.std.proofs.lemmas.Bool.{cond_both, cond-true, cases_lt, lt-ltb, le-ltb}
+use Rattle.std.proofs.lemmas.List.{get_or-take, get_or_past, length-take}
+use Rattle.fmp_codes.specs.Numbers.{as_object, as_proc, task_number}
 use Rattle.fmp_codes.specs.declared.numbers.Proc.{Proc}
 use Rattle.fmp_codes.specs.declared.numbers.Task.{Task}
 use Rattle.fmp_codes.specs.declared.numbers.Object.{Object}
@@ -19,48 +20,51 @@ use Rattle.fmp_codes.specs.declared.calls.SystemCall.{SystemCall}
 use Rattle.fmp_codes.specs.declared.calls.SystemCall.TheVariants as system
 use Rattle.fmp_codes.specs.declared.calls.SpinCall.{SpinCall}
 use Rattle.fmp_codes.specs.declared.calls.SpinCall.TheVariants as spin
-use Rattle.fmp_codes.specs.declared.codes.Code.{Code}
 use Rattle.fmp_codes.specs.declared.codes.Code.TheVariants as code
 use Rattle.fmp_codes.specs.declared.records.Answer.{Answer}
 use Rattle.fmp_codes.specs.declared.records.Answer.TheVariants as answer
+use Rattle.fmp_codes.specs.declared.records.Record.{Record}
 use Rattle.fmp_setup.specs.declared.setup.SemaphoreSetup.{SemaphoreSetup}
+use Rattle.fmp_setup.specs.declared.setup.PoolSetup.{PoolSetup}
+use Rattle.fmp_setup.specs.declared.setup.CyclicSetup.{CyclicSetup}
+use Rattle.fmp_setup.specs.declared.setup.AlarmSetup.{AlarmSetup}
 use Rattle.fmp_setup.specs.Setup.{Setup}
 use Rattle.fmp_rules.specs.Effects.{Effect}
 use Rattle.fmp_rules.specs.declared.machine.Wait.{Wait}
 use Rattle.fmp_rules.specs.declared.machine.Wait.TheVariants as wait
 use Rattle.fmp_rules.specs.declared.machine.QueueKind.TheVariants as kind
-use Rattle.fmp_rules.specs.World.{World, task, processor, handler, runner_of, is_held, first}
-use Rattle.fmp_rules.specs.Objects.{semaphore, eventflag, data_queue, holds, free_block, holder}
+use Rattle.fmp_rules.specs.World.{World, processor, handler, runner_of, first}
+use Rattle.fmp_rules.specs.Objects.{semaphore, eventflag, data_queue, holds, pool, free_block, holder, cyclic, alarm}
 use Rattle.fmp_rules.specs.Ordering.{Ordering, queue}
-use Rattle.fmp_rules.specs.Rows.{Row, first_error, done, done_or_wait, plain}
+use Rattle.fmp_rules.specs.Rows.{Row, done_or_wait}
 use Rattle.fmp_rules.specs.Arguments.{forever, object_named}
-use Rattle.fmp_rules.specs.Processors.{is_at}
-use Rattle.fmp_rules.specs.SyncCalls.{is_taken, signal, counted, answered, sig_sem, twai_sem, pol_sem, set_flg, clr_flg, twai_flg, pol_flg, sync_row}
-use Rattle.fmp_rules.specs.BufferCalls.{receiver, sender, can_send, sent, forced, can_receive, received, given, returned, block_of, tsnd_dtq, psnd_dtq, fsnd_dtq}
-use Rattle.fmp_rules.specs.BufferCalls.{trcv_dtq, prcv_dtq, tget_mpf, pget_mpf, rel_mpf, buffer_row}
-use Rattle.fmp_rules.specs.TimeCalls.{sta_cyc, msta_cyc, stp_cyc, sta_alm, msta_alm, stp_alm, time_row}
-use Rattle.fmp_rules.specs.SystemCalls.{truth, rotation, rotation_in_handler, system_row}
-use Rattle.fmp_rules.specs.SpinCalls.{taken, loc_spn, try_spn, unl_spn, spin_row, ret_hdr}
+use Rattle.fmp_rules.specs.Processors.{is_at, holds_lock as machine_holds}
+use Rattle.fmp_rules.specs.SyncCalls.{is_taken, signal, counted, answered, sig_sem, twai_sem, twai_flg, sync_row}
+use Rattle.fmp_rules.specs.BufferCalls.{receiver, sender, can_send, sent, can_receive, received, given, returned, block_of, is_handed, tsnd_dtq, psnd_dtq, fsnd_dtq}
+use Rattle.fmp_rules.specs.BufferCalls.{trcv_dtq, tget_mpf, buffer_row}
+use Rattle.fmp_rules.specs.TimeCalls.{time_row}
+use Rattle.fmp_rules.specs.SystemCalls.{truth, system_row}
+use Rattle.fmp_rules.specs.SpinCalls.{loc_spn, spin_row}
 use Rattle.fmp_rules.specs.Step.{row_of}
 use Rattle.fmp_law_safety.proofs.Calls.{FromTask}
-use Rattle.fmp_law_safety.proofs.Queues.{Lists}
 use Rattle.fmp_law_balance.specs.Accepted.{accepted_value}
+use Rattle.fmp_law_records.proofs.Rows.{rows, sync_rows, buffer_rows, time_rows, system_rows, spin_rows}
 use Rattle.fmp_law_records.specs.Flags.{number_if}
 use Rattle.fmp_law_records.specs.Requests.{ProcessorReported}
 use Rattle.fmp_law_records.specs.Locks.{is_holder}
 use Rattle.fmp_law_records.specs.Refusals.Misplaced.{is_for_handlers, is_for_all}
 use Rattle.fmp_law_records.specs.Refusals.Meanings.{is_one_of, is_polling, object_of}
-use Rattle.fmp_law_records.specs.Refusals.Known.{are_known}
-use Rattle.fmp_law_records.specs.Refusals.Arguments.{pool_setup}
-use Rattle.fmp_law_records.specs.Refusals.Found.{FoundReported, semaphore_setup, data_queue_setup, for_unit, somebody_waits, is_used, has_bits, takes_value, gives_value, has_block}
+use Rattle.fmp_law_records.specs.Refusals.Arguments.{is_out, pool_setup, is_block_out, cyclic_class, alarm_class}
+use Rattle.fmp_law_records.specs.Refusals.Found.{FoundReported, semaphore_setup, data_queue_setup, for_unit, somebody_waits, is_used, has_bits, takes_value, gives_value, has_block, holds_lock}
 use Rattle.fmp_law_records.specs.Refusals.Errors.{signal_errors}
-use Rattle.fmp_law_records.proofs.refusals.FirstErrors.{first_in}
 use Rattle.fmp_law_records.specs.Refusals.Outcomes.{accepted, gives, or_waits, least_block, refused_or}
-use Rattle.fmp_law_records.proofs.refusals.Placed.{Sees}
-use Rattle.fmp_law_records.proofs.refusals.Configured.{Configured, number_known, object_is, semaphores_same, eventflags_same, data_queues_same, pools_same, holders_same}
+use Rattle.fmp_law_records.proofs.refusals.Configured.{Configured, number_known, object_is, semaphores_same, eventflags_same, data_queues_same, pools_same, cyclics_same}
+use Rattle.fmp_law_records.proofs.refusals.Configured.{alarms_same, holders_same, priority_is, positive_is, time_same, timeout_same, pool_setup_same, cyclic_setup, alarm_setup}
 use Rattle.fmp_law_records.proofs.refusals.Configured.{semaphore_setup as setup_of_semaphore}
-use Rattle.fmp_law_records.proofs.refusals.Answered.{answer_by, AnswersAs, Answers, not_less, none_is, one_error, two_errors, wait_found, answers_task}
-use Rattle.fmp_law_records.proofs.refusals.Found.{Finds, for_units, taken_same, bits_same, capacity_is, takes_same, gives_same, least_is, block_free, holder_same, lock_held}
+use Rattle.fmp_law_records.proofs.refusals.FirstErrors.{Agree, past, next, never, unless}
+use Rattle.fmp_law_records.proofs.refusals.Argued.{of_list, of_object, moved}
+use Rattle.fmp_law_records.proofs.refusals.Answered.{IsTold, Agrees, not_less, none_is, wait_found, answers_task}
+use Rattle.fmp_law_records.proofs.refusals.Found.{for_units, taken_same, bits_same, capacity_is, takes_same, gives_same, least_is, block_free, holder_same, lock_held}
 
 -- What a receive answers is a value, and what a processor is asked is a truth.
 
@@ -69,300 +73,300 @@ value_of : {Q : Type 0} (k : Ordering Q) (w : World Q) (d : Object) (o : Option 
 value_of k w d None = refl
 value_of k w d (Some t) = refl
 
-truth_is : (b : Bool) → gives (truth b) ≡ gives (number_if b)
-truth_is true = refl
-truth_is false = refl
+truth_is : {b d : Bool} → b ≡ d → gives (truth b) ≡ gives (number_if d)
+truth_is {b = b} same = go b ∙ ap (λ y. gives (number_if y)) same
+  where
+    go : (b : Bool) → gives (truth b) ≡ gives (number_if b)
+    go true = refl
+    go false = refl
 
 number_is : (o : Option Task) → gives (pos (unwrap_or (option_map (λ t. t.number) o) 0)) ≡ gives (pos (task_number o))
 number_is None = refl
 number_is (Some t) = refl
 
-module _ {Q : Type 0} (k : Ordering Q) (c : Setup) (x : FoundReported) (w : World Q) (p : Proc) (seen : ProcessorReported) (sees : Sees w p seen)
-    (there : is_some (runner_of w p) ≡ true) (l : Lists k w) (h : Configured c w) (found : Finds c x w)
-    (active : (t : Task) → (processor w p).running ≡ Some t → (task w t).active ≡ true) (blocks : (m : Object) → (pool_setup c m).blocks ≤ 64)
-    (locks : c.spin_locks ≤ 32) (running : Option Task) (runs : (processor w p).running ≡ running) where
-  abbrev Says : Option ℤ → Call → Row Q → Type 0
-  Says v y row = Answers k c x w p seen sees there l h found active blocks locks running runs v y row
+module _ {Q : Type 0} (k : Ordering Q) (c : Setup) (records : List Record) (x : FoundReported) (w : World Q) (p : Proc) (seen : ProcessorReported)
+    (running : Option Task) (h : Configured c w) (here : IsTold k c records x w p seen running) where
+  abbrev Says : Call → Row Q → Type 0
+  Says y row = Agrees k c records x w p seen running h here y row
 
   abbrev waits : (can can_reported cannot : Bool) (did : World Q × Effect) (z : Wait) (timeout : ℤ) (a : Answer) → can ≡ can_reported → not can ≡ cannot →
       (can ≡ true → did.1.answer ≡ a) →
       (done_or_wait k w p can did z timeout).1.answer ≡ refused_or (if is_polling timeout && cannot then Some code.TimedOut else None) (or_waits can_reported a)
-  waits = wait_found k c x w p seen sees there l h found active blocks locks running runs
+  waits = wait_found k c records x w p seen running h here
 
-  abbrev of_list : {X : Type 0} → List X → ℤ → Object
-  of_list xs id = unwrap_or (object_named xs id) (as_object 1)
-
-  -- the object that an argument names
-  is_object : {X : Type 0} (xs : List X) (last : ℕ) → length xs ≡ last → (id : ℤ) → is_one_of last id ≡ true → of_list xs id ≡ object_of id
-  is_object xs last count id known = object_is xs id (number_known as_object (length xs) last id count ∙ known)
-
-  -- Semaphores.
-
-  accepts_signal : (s : Object) (o : Option Task) → (signal k w s o).1.answer ≡ accepted
-  accepts_signal s None = refl
-  accepts_signal s (Some t) = refl
-
-  is_semaphore : (id : ℤ) → is_one_of (length c.semaphores) id ≡ true → of_list w.semaphores id ≡ object_of id
-  is_semaphore = is_object w.semaphores (length c.semaphores) (semaphores_same c w h)
-
-  full_same : (s : Object) → (is_none (first (queue k w kind.Semaphore s)) && nat_le (semaphore w s).setup.most (semaphore w s).count)
-      ≡ (not (somebody_waits c x (for_unit s)) && nat_le (semaphore_setup c s).most (x.units s))
-  full_same s =
-      ap (λ b. b && nat_le (semaphore w s).setup.most (semaphore w s).count) (none_is (first (queue k w kind.Semaphore s)) ∙ ap not (for_units k c x w l h found s))
-      ∙ ap (λ (y : SemaphoreSetup). not (somebody_waits c x (for_unit s)) && nat_le y.most (semaphore w s).count) (setup_of_semaphore c w h s)
-      ∙ ap (λ n. not (somebody_waits c x (for_unit s)) && nat_le (semaphore_setup c s).most n) (found.units s)
-
-  answers_signal : (row : Row Q) (id : ℤ) → is_one_of (length c.semaphores) id ≡ true → row.effect.1.answer ≡ accepted →
-      row.errors ≡ (
-        is_none (first (queue k w kind.Semaphore (of_list w.semaphores id))) && nat_le (semaphore w (of_list w.semaphores id)).setup.most
-            (semaphore w (of_list w.semaphores id)).count,
-        code.QueueOverflow,
-      ) ∷ [] →
-      AnswersAs w row (first_in (signal_errors c x p (runner_of w p) id)) accepted
-  answers_signal row id known done_ errors =
-      one_error w row _ _ code.QueueOverflow accepted errors
-      (ap (λ s. is_none (first (queue k w kind.Semaphore s)) && nat_le (semaphore w s).setup.most (semaphore w s).count) (is_semaphore id known)
-      ∙ full_same (object_of id)) (λ _. done_)
-
-  units_same : (id : ℤ) → is_one_of (length c.semaphores) id ≡ true → (semaphore w (of_list w.semaphores id)).count ≡ x.units (object_of id)
-  units_same id known = ap (λ s. (semaphore w s).count) (is_semaphore id known) ∙ found.units (object_of id)
-
-  waits_unit : (id timeout : ℤ) → is_one_of (length c.semaphores) id ≡ true →
-      (done_or_wait k w p (nat_lt 0 (semaphore w (of_list w.semaphores id)).count) (counted w (of_list w.semaphores id))
-      (wait.Semaphore (of_list w.semaphores id)) timeout).1.answer
-      ≡ refused_or (if is_polling timeout && x.units (object_of id) == 0 then Some code.TimedOut else None) (or_waits (nat_lt 0 (x.units (object_of id))) accepted)
-  waits_unit id timeout known =
-      let s : Object = of_list w.semaphores id in
-      waits (nat_lt 0 (semaphore w s).count) _ _ (counted w s) (wait.Semaphore s) timeout accepted (ap (nat_lt 0) (units_same id known))
-      (not_less (semaphore w s).count ∙ ap (λ n. n == 0) (units_same id known)) (λ _. refl)
-
-  -- Eventflags.
-
-  is_flag : (id : ℤ) → is_one_of (length c.eventflags) id ≡ true → of_list w.eventflags id ≡ object_of id
-  is_flag = is_object w.eventflags (length c.eventflags) (eventflags_same c w h)
-
-  used_same : (id : ℤ) → is_one_of (length c.eventflags) id ≡ true → is_taken k w (of_list w.eventflags id) ≡ is_used c x (object_of id)
-  used_same id known = ap (is_taken k w) (is_flag id known) ∙ taken_same k c x w l h found (object_of id)
-
-  has_same : (id : ℤ) (bits : ℕ) (m : Mode) → is_one_of (length c.eventflags) id ≡ true →
-      holds (eventflag w (of_list w.eventflags id)).pattern bits m ≡ has_bits c x (object_of id) bits m
-  has_same id bits m known = ap (λ f. holds (eventflag w f).pattern bits m) (is_flag id known) ∙ bits_same k c x w l h found (object_of id) bits m
-
-  pattern_same : (id : ℤ) → is_one_of (length c.eventflags) id ≡ true →
-      gives (pos (eventflag w (of_list w.eventflags id)).pattern) ≡ gives (pos (x.pattern (object_of id)))
-  pattern_same id known = ap (λ f. gives (pos (eventflag w f).pattern)) (is_flag id known) ∙ ap (λ n. gives (pos n)) (found.pattern (object_of id))
-
-  waits_bits : (id : ℤ) (bits : ℕ) (m : Mode) (timeout : ℤ) → is_one_of (length c.eventflags) id ≡ true →
-      answer_by w (done_or_wait k w p (holds (eventflag w (of_list w.eventflags id)).pattern bits m) (answered w (of_list w.eventflags id))
-      (wait.Eventflag (of_list w.eventflags id) bits m) timeout)
-      (if is_taken k w (of_list w.eventflags id) then Some code.IllegalUse else None)
-      ≡ refused_or (if is_used c x (object_of id) then Some code.IllegalUse else if is_polling timeout && not
-      (has_bits c x (object_of id) bits m) then Some code.TimedOut else None)
-      (or_waits (has_bits c x (object_of id) bits m) (gives (pos (x.pattern (object_of id)))))
-  waits_bits id bits m timeout known =
-      let f : Object = of_list w.eventflags id in
-      let did : World Q × Effect = done_or_wait k w p (holds (eventflag w f).pattern bits m) (answered w f) (wait.Eventflag f bits m) timeout in
-      let a : Answer = or_waits (has_bits c x (object_of id) bits m) (gives (pos (x.pattern (object_of id)))) in
-      let late : Option Code = if is_polling timeout && not (has_bits c x (object_of id) bits m) then Some code.TimedOut else None in
-      ap (λ b. answer_by w did (if b then Some code.IllegalUse else None)) (used_same id known)
-      ∙ cond_both (is_used c x (object_of id)) (Some code.IllegalUse) None
-      (λ o. answer_by w did o ≡ refused_or (if is_used c x (object_of id) then Some code.IllegalUse else late) a)
-      (λ yes_. sym (ap (λ o. refused_or o a) (cond-true (is_used c x (object_of id)) (Some code.IllegalUse) late yes_)))
-      (λ no_.
-      waits (holds (eventflag w f).pattern bits m) _ _ (answered w f) (wait.Eventflag f bits m) timeout _ (has_same id bits m known) (ap not (has_same id bits m known))
-      (λ _. pattern_same id known)
-      ∙ sym (ap (λ o. refused_or o a) (cond-false (is_used c x (object_of id)) (Some code.IllegalUse) late no_)))
-
-  answers_sync : (v : Option ℤ) (y : SyncCall) → are_known c (call.Sync y) ≡ true → Says v (call.Sync y) (sync_row k w p y)
-  unfolding sig_sem twai_sem pol_sem set_flg clr_flg twai_flg pol_flg
-  answers_sync v (sync.SigSem id) known =
-      answers_signal (sync_row k w p (sync.SigSem id)) id known
-      (accepts_signal (of_list w.semaphores id) (first (queue k w kind.Semaphore (of_list w.semaphores id)))) refl
-  answers_sync v (sync.IsigSem id) known =
-      answers_signal (sync_row k w p (sync.IsigSem id)) id known
-      (accepts_signal (of_list w.semaphores id) (first (queue k w kind.Semaphore (of_list w.semaphores id)))) refl
-  answers_sync v (sync.WaiSem id) known = waits_unit id forever known
-  answers_sync v (sync.TwaiSem id timeout) known = waits_unit id timeout known
-  answers_sync v (sync.PolSem id) known =
-      one_error w (sync_row k w p (sync.PolSem id)) _ _ code.TimedOut accepted refl (ap (λ n. n == 0) (units_same id known)) (λ _. refl)
-  answers_sync v (sync.WaiFlg id bits m) known = waits_bits id bits m forever known
-  answers_sync v (sync.TwaiFlg id bits m timeout) known = waits_bits id bits m timeout known
-  answers_sync v (sync.PolFlg id bits m) known =
-      two_errors w (sync_row k w p (sync.PolFlg id bits m)) _ _ _ _ code.IllegalUse code.TimedOut _ refl (used_same id known) (λ _. ap not (has_same id bits m known))
-      (λ _ _. pattern_same id known)
-  answers_sync v y known = refl
-
-  -- Data queues.
-
-  is_queue : (id : ℤ) → is_one_of (length c.data_queues) id ≡ true → of_list w.data_queues id ≡ object_of id
-  is_queue = is_object w.data_queues (length c.data_queues) (data_queues_same c w h)
-
-  accepts_sent : (d : Object) (v : ℤ) (o : Option Task) → (sent k w d v o).1.answer ≡ accepted
-  accepts_sent d v None = refl
-  accepts_sent d v (Some t) = refl
+  abbrev Names : {X : Type 0} → List X → ℤ → Type 0
+  Names xs id = of_list xs id ≡ object_of id
 
   abbrev IsAccepted : World Q × Effect → Type 0
   IsAccepted did = did.1.answer ≡ accepted
 
-  accepts_forced : (d : Object) (v : ℤ) → IsAccepted (if can_send k w d then sent k w d v (receiver k w d) else forced w d v)
-  accepts_forced d v = cond_both (can_send k w d) _ _ IsAccepted (λ _. accepts_sent d v (receiver k w d)) (λ _. refl)
+  -- a call that has neither arguments nor errors on the state
+  plain_row : {does told : Answer} → does ≡ told →
+      Agree does told ((false, code.Identifier) ∷ (false, code.Parameter) ∷ []) ((false, code.Identifier) ∷ (false, code.Parameter) ∷ [])
+  plain_row same = never (never (past same))
 
-  sends_same : (id : ℤ) → is_one_of (length c.data_queues) id ≡ true → can_send k w (of_list w.data_queues id) ≡ takes_value c x (object_of id)
-  sends_same id known = ap (can_send k w) (is_queue id known) ∙ takes_same k c x w l h found (object_of id)
+  and_true : (b : Bool) → (b && true) ≡ b
+  and_true true = refl
+  and_true false = refl
 
-  receives_same : (id : ℤ) → is_one_of (length c.data_queues) id ≡ true → can_receive k w (of_list w.data_queues id) ≡ gives_value c x (object_of id)
-  receives_same id known = ap (can_receive k w) (is_queue id known) ∙ gives_same k c x w l h found (object_of id)
+  -- Semaphores.
 
-  no_places : (id : ℤ) → is_one_of (length c.data_queues) id ≡ true →
-      (data_queue w (of_list w.data_queues id)).capacity == 0 ≡ ((data_queue_setup c (object_of id)).capacity == 0)
-  no_places id known = ap (λ d. (data_queue w d).capacity == 0) (is_queue id known) ∙ ap (λ n. n == 0) (capacity_is k c x w l h found (object_of id))
+  signals : (id : ℤ) → Names w.semaphores id → Agree (sig_sem k w id).effect.1.answer accepted (sig_sem k w id).errors (signal_errors c x p (runner_of w p) id)
+  unfolding sync_rows
+  signals id is =
+      next
+      (ap (λ s. is_none (first (queue k w kind.Semaphore s)) && nat_le (semaphore w s).setup.most (semaphore w s).count) is ∙ full_same (object_of id))
+      (λ _. past (accepts (of_list w.semaphores id) (first (queue k w kind.Semaphore (of_list w.semaphores id)))))
+    where
+      accepts : (s : Object) (o : Option Task) → IsAccepted (signal k w s o)
+      accepts s None = refl
+      accepts s (Some t) = refl
 
-  waits_place : (id v timeout : ℤ) → is_one_of (length c.data_queues) id ≡ true →
-      (done_or_wait k w p (can_send k w (of_list w.data_queues id)) (sent k w (of_list w.data_queues id) v (receiver k w (of_list w.data_queues id)))
-      (wait.Send (of_list w.data_queues id) v) timeout).1.answer
+      full_same : (s : Object) → (is_none (first (queue k w kind.Semaphore s)) && nat_le (semaphore w s).setup.most (semaphore w s).count)
+          ≡ (not (somebody_waits c x (for_unit s)) && nat_le (semaphore_setup c s).most (x.units s))
+      full_same s =
+          ap (λ b. b && nat_le (semaphore w s).setup.most (semaphore w s).count)
+          (none_is (first (queue k w kind.Semaphore s)) ∙ ap not (for_units k c x w here.lists h here.found s))
+          ∙ ap (λ (y : SemaphoreSetup). not (somebody_waits c x (for_unit s)) && nat_le y.most (semaphore w s).count) (setup_of_semaphore c w h s)
+          ∙ ap (λ n. not (somebody_waits c x (for_unit s)) && nat_le (semaphore_setup c s).most n) (here.found.units s)
+
+  units_same : (id : ℤ) → Names w.semaphores id → (semaphore w (of_list w.semaphores id)).count ≡ x.units (object_of id)
+  units_same id is = ap (λ s. (semaphore w s).count) is ∙ here.found.units (object_of id)
+
+  waits_unit : (id timeout : ℤ) → Names w.semaphores id → (twai_sem k w p id timeout).effect.1.answer
+      ≡ refused_or (if is_polling timeout && x.units (object_of id) == 0 then Some code.TimedOut else None)
+      (or_waits (nat_lt 0 (x.units (object_of id))) accepted)
+  unfolding sync_rows
+  waits_unit id timeout is =
+      let s : Object = of_list w.semaphores id in
+      waits (nat_lt 0 (semaphore w s).count) _ _ (counted w s) (wait.Semaphore s) timeout accepted (ap (nat_lt 0) (units_same id is))
+      (not_less (semaphore w s).count ∙ ap (λ n. n == 0) (units_same id is)) (λ _. refl)
+
+  -- Eventflags.
+
+  used_same : (id : ℤ) → Names w.eventflags id → is_taken k w (of_list w.eventflags id) ≡ is_used c x (object_of id)
+  used_same id is = ap (is_taken k w) is ∙ taken_same k c x w here.lists h here.found (object_of id)
+
+  has_same : (id : ℤ) (bits : ℕ) (m : Mode) → Names w.eventflags id →
+      holds (eventflag w (of_list w.eventflags id)).pattern bits m ≡ has_bits c x (object_of id) bits m
+  has_same id bits m is = ap (λ f. holds (eventflag w f).pattern bits m) is ∙ bits_same k c x w here.lists h here.found (object_of id) bits m
+
+  pattern_same : (id : ℤ) → Names w.eventflags id → gives (pos (eventflag w (of_list w.eventflags id)).pattern) ≡ gives (pos (x.pattern (object_of id)))
+  pattern_same id is = ap (λ f. gives (pos (eventflag w f).pattern)) is ∙ ap (λ n. gives (pos n)) (here.found.pattern (object_of id))
+
+  waits_bits : (id : ℤ) (bits : ℕ) (m : Mode) (timeout : ℤ) → Names w.eventflags id → (twai_flg k w p id bits m timeout).effect.1.answer
+      ≡ refused_or (if is_polling timeout && not (has_bits c x (object_of id) bits m) then Some code.TimedOut else None)
+      (or_waits (has_bits c x (object_of id) bits m) (gives (pos (x.pattern (object_of id)))))
+  unfolding sync_rows
+  waits_bits id bits m timeout is =
+      let f : Object = of_list w.eventflags id in
+      waits (holds (eventflag w f).pattern bits m) _ _ (answered w f) (wait.Eventflag f bits m) timeout _ (has_same id bits m is)
+      (ap not (has_same id bits m is)) (λ _. pattern_same id is)
+
+  answers_sync : (y : SyncCall) → Says (call.Sync y) (sync_row k w p y)
+  unfolding sync_rows
+  answers_sync (sync.SigSem id) = of_object w.semaphores (semaphores_same c w h) id (λ is. never (signals id is))
+  answers_sync (sync.IsigSem id) = of_object w.semaphores (semaphores_same c w h) id (λ is. never (signals id is))
+  answers_sync (sync.WaiSem id) = of_object w.semaphores (semaphores_same c w h) id (λ is. never (past (waits_unit id forever is)))
+  answers_sync (sync.TwaiSem id timeout) =
+      of_object w.semaphores (semaphores_same c w h) id (λ is. unless (timeout_same timeout) (λ _. past (waits_unit id timeout is)))
+  answers_sync (sync.PolSem id) = of_object w.semaphores (semaphores_same c w h) id (λ is. never (next (ap (λ n. n == 0) (units_same id is)) (λ _. past refl)))
+  answers_sync (sync.SetFlg id bits) = of_object w.eventflags (eventflags_same c w h) id (λ is. never (past refl))
+  answers_sync (sync.IsetFlg id bits) = of_object w.eventflags (eventflags_same c w h) id (λ is. never (past refl))
+  answers_sync (sync.ClrFlg id bits) = of_object w.eventflags (eventflags_same c w h) id (λ is. never (past refl))
+  answers_sync (sync.WaiFlg id bits m) = of_object w.eventflags (eventflags_same c w h) id (λ is.
+      unless (and_true (nat_lt 0 bits)) (λ _. next (used_same id is) (λ _. past (waits_bits id bits m forever is))))
+  answers_sync (sync.TwaiFlg id bits m timeout) = of_object w.eventflags (eventflags_same c w h) id (λ is.
+      unless (ap (λ b. nat_lt 0 bits && b) (timeout_same timeout)) (λ _. next (used_same id is) (λ _. past (waits_bits id bits m timeout is))))
+  answers_sync (sync.PolFlg id bits m) = of_object w.eventflags (eventflags_same c w h) id (λ is.
+      next refl (λ _. next (used_same id is) (λ _. unless (has_same id bits m is) (λ _. past (pattern_same id is)))))
+
+  -- Data queues.
+
+  accepts_sent : (d : Object) (v : ℤ) (o : Option Task) → IsAccepted (sent k w d v o)
+  accepts_sent d v None = refl
+  accepts_sent d v (Some t) = refl
+
+  sends_same : (id : ℤ) → Names w.data_queues id → can_send k w (of_list w.data_queues id) ≡ takes_value c x (object_of id)
+  sends_same id is = ap (can_send k w) is ∙ takes_same k c x w here.lists h here.found (object_of id)
+
+  receives_same : (id : ℤ) → Names w.data_queues id → can_receive k w (of_list w.data_queues id) ≡ gives_value c x (object_of id)
+  receives_same id is = ap (can_receive k w) is ∙ gives_same k c x w here.lists h here.found (object_of id)
+
+  waits_place : (id v timeout : ℤ) → Names w.data_queues id → (tsnd_dtq k w p id v timeout).effect.1.answer
       ≡ refused_or (if is_polling timeout && not (takes_value c x (object_of id)) then Some code.TimedOut else None)
       (or_waits (takes_value c x (object_of id)) accepted)
-  waits_place id v timeout known =
+  unfolding buffer_rows
+  waits_place id v timeout is =
       let d : Object = of_list w.data_queues id in
-      waits (can_send k w d) _ _ (sent k w d v (receiver k w d)) (wait.Send d v) timeout accepted (sends_same id known) (ap not (sends_same id known))
+      waits (can_send k w d) _ _ (sent k w d v (receiver k w d)) (wait.Send d v) timeout accepted (sends_same id is) (ap not (sends_same id is))
       (λ _. accepts_sent d v (receiver k w d))
 
-  abbrev receiving : ℤ → ℤ → World Q × Effect
-  receiving id timeout =
-      let d : Object = of_list w.data_queues id in done_or_wait k w p (can_receive k w d) (received k w d (sender k w d)) (wait.Receive d) timeout
+  polls_place : (id v : ℤ) → Names w.data_queues id →
+      Agree (psnd_dtq k w id v).effect.1.answer accepted (psnd_dtq k w id v).errors ((not (takes_value c x (object_of id)), code.TimedOut) ∷ [])
+  unfolding buffer_rows
+  polls_place id v is = unless (sends_same id is) (λ _. let d : Object = of_list w.data_queues id in past (accepts_sent d v (receiver k w d)))
 
-  waits_value : (v : Option ℤ) (id timeout : ℤ) → is_one_of (length c.data_queues) id ≡ true → v ≡ accepted_value (receiving id timeout).1.answer →
-      (receiving id timeout).1.answer
+  forces_place : (id v : ℤ) → Names w.data_queues id →
+      Agree (fsnd_dtq k w id v).effect.1.answer accepted (fsnd_dtq k w id v).errors (((data_queue_setup c (object_of id)).capacity == 0, code.IllegalUse) ∷ [])
+  unfolding buffer_rows
+  forces_place id v is =
+      let d : Object = of_list w.data_queues id in
+      next (ap (λ y. (data_queue w y).capacity == 0) is ∙ ap (λ n. n == 0) (capacity_is k c x w here.lists h here.found (object_of id)))
+      (λ _. past (cond_both (can_send k w d) _ _ IsAccepted (λ _. accepts_sent d v (receiver k w d)) (λ _. refl)))
+
+  waits_value : (id timeout : ℤ) → Names w.data_queues id → (trcv_dtq k w p id timeout).effect.1.answer
       ≡ refused_or (if is_polling timeout && not (gives_value c x (object_of id)) then Some code.TimedOut else None)
-      (or_waits (gives_value c x (object_of id)) (answer.Done code.Accepted v))
-  waits_value v id timeout known is =
+      (or_waits (gives_value c x (object_of id)) (answer.Done code.Accepted (accepted_value (trcv_dtq k w p id timeout).effect.1.answer)))
+  unfolding buffer_rows
+  waits_value id timeout is =
       let d : Object = of_list w.data_queues id in
       let did : World Q × Effect = received k w d (sender k w d) in
-      waits (can_receive k w d) _ _ did (wait.Receive d) timeout (answer.Done code.Accepted v) (receives_same id known) (ap not (receives_same id known))
+      waits (can_receive k w d) _ _ did (wait.Receive d) timeout _ (receives_same id is) (ap not (receives_same id is))
       (λ can. value_of k w d (sender k w d)
-      ∙ ap (λ y. answer.Done code.Accepted y) (sym (is ∙ ap (λ (y : World Q × Effect). accepted_value y.1.answer) (cond-true (can_receive k w d) did _ can))))
+      ∙ ap (λ y. answer.Done code.Accepted y) (sym (ap (λ (y : World Q × Effect). accepted_value y.1.answer) (cond-true (can_receive k w d) did _ can))))
 
   -- Pools.
 
-  is_pool : (id : ℤ) → is_one_of (length c.pools) id ≡ true → of_list w.pools id ≡ object_of id
-  is_pool = is_object w.pools (length c.pools) (pools_same c w h)
-
-  free_same : (id : ℤ) → is_one_of (length c.pools) id ≡ true → is_some (free_block w (of_list w.pools id)) ≡ has_block c x (object_of id)
-  free_same id known = ap (λ m. is_some (free_block w m)) (is_pool id known) ∙ block_free k c x w l h found blocks (object_of id)
+  free_same : (id : ℤ) → Names w.pools id → is_some (free_block w (of_list w.pools id)) ≡ has_block c x (object_of id)
+  free_same id is = ap (λ m. is_some (free_block w m)) is ∙ block_free k c x w here.lists h here.found here.blocks (object_of id)
 
   abbrev block_reported : ℤ → Answer
   block_reported id = gives (least_block c x seen running p (runner_of w p) None (object_of id))
 
-  block_same : (id : ℤ) → is_one_of (length c.pools) id ≡ true → gives (pos (unwrap_or (free_block w (of_list w.pools id)) 0)) ≡ block_reported id
-  block_same id known = ap (λ m. gives (pos (unwrap_or (free_block w m) 0))) (is_pool id known)
-      ∙ ap (λ o. gives (pos (unwrap_or o 0))) (least_is k c x w l h found blocks (object_of id))
+  block_same : (id : ℤ) → Names w.pools id → gives (pos (unwrap_or (free_block w (of_list w.pools id)) 0)) ≡ block_reported id
+  block_same id is = ap (λ m. gives (pos (unwrap_or (free_block w m) 0))) is
+      ∙ ap (λ o. gives (pos (unwrap_or o 0))) (least_is k c x w here.lists h here.found here.blocks (object_of id))
 
-  waits_block : (id timeout : ℤ) → is_one_of (length c.pools) id ≡ true →
-      (done_or_wait k w p (is_some (free_block w (of_list w.pools id))) (given w (of_list w.pools id) (unwrap_or (free_block w (of_list w.pools id)) 0))
-      (wait.Pool (of_list w.pools id)) timeout).1.answer
+  waits_block : (id timeout : ℤ) → Names w.pools id → (tget_mpf k w p id timeout).effect.1.answer
       ≡ refused_or (if is_polling timeout && not (has_block c x (object_of id)) then Some code.TimedOut else None)
       (or_waits (has_block c x (object_of id)) (block_reported id))
-  waits_block id timeout known =
+  unfolding buffer_rows
+  waits_block id timeout is =
       let m : Object = of_list w.pools id in
-      waits (is_some (free_block w m)) _ _ (given w m (unwrap_or (free_block w m) 0)) (wait.Pool m) timeout _ (free_same id known) (ap not (free_same id known))
-      (λ _. block_same id known)
+      waits (is_some (free_block w m)) _ _ (given w m (unwrap_or (free_block w m) 0)) (wait.Pool m) timeout _ (free_same id is) (ap not (free_same id is))
+      (λ _. block_same id is)
 
-  accepts_returned : (m : Object) (b : ℕ) (o : Option Task) → (returned k w m b o).1.answer ≡ accepted
+  -- a block of a pool that is out
+  handed_same : (m : Object) (b : ℤ) → is_handed w m b ≡ is_block_out c records m b
+  handed_same m (negsuc b) = refl
+  handed_same m (pos b) =
+      let blocks : ℕ = (pool w m).setup.blocks in
+      let same : nat_lt b blocks ≡ nat_lt b (pool_setup c m).blocks = ap (λ (y : PoolSetup). nat_lt b y.blocks) (pool_setup_same c w h m) in
+      ⊎_elim
+      (λ (less : b < blocks). get_or-take blocks (pool w m).handed b false less ∙ here.found.out m b ∙ here.outs m b
+      ∙ sym (ap (λ y. y && is_out records m b) (sym same ∙ lt-ltb b blocks less)))
+      (λ (more : blocks ≤ b).
+      get_or_past (take blocks (pool w m).handed) b false (omega (arith, length-take blocks (pool w m).handed, more))
+      ∙ sym (ap (λ y. y && is_out records m b) (sym same ∙ le-ltb b blocks more))) (cases_lt b blocks)
+
+  accepts_returned : (m : Object) (b : ℕ) (o : Option Task) → IsAccepted (returned k w m b o)
   accepts_returned m b None = refl
   accepts_returned m b (Some t) = refl
 
-  abbrev queue_of : ℤ → Object
-  queue_of id = of_list w.data_queues id
+  answers_buffer : (y : BufferCall) → Says (call.Buffer y) (buffer_row k w p y)
+  unfolding buffer_rows
+  answers_buffer (buffer.SndDtq id n) = of_object w.data_queues (data_queues_same c w h) id (λ is. never (past (waits_place id n forever is)))
+  answers_buffer (buffer.TsndDtq id n timeout) =
+      of_object w.data_queues (data_queues_same c w h) id (λ is. unless (timeout_same timeout) (λ _. past (waits_place id n timeout is)))
+  answers_buffer (buffer.PsndDtq id n) = of_object w.data_queues (data_queues_same c w h) id (λ is. never (polls_place id n is))
+  answers_buffer (buffer.IpsndDtq id n) = of_object w.data_queues (data_queues_same c w h) id (λ is. never (polls_place id n is))
+  answers_buffer (buffer.FsndDtq id n) = of_object w.data_queues (data_queues_same c w h) id (λ is. never (forces_place id n is))
+  answers_buffer (buffer.IfsndDtq id n) = of_object w.data_queues (data_queues_same c w h) id (λ is. never (forces_place id n is))
+  answers_buffer (buffer.RcvDtq id) = of_object w.data_queues (data_queues_same c w h) id (λ is. never (past (waits_value id forever is)))
+  answers_buffer (buffer.TrcvDtq id timeout) =
+      of_object w.data_queues (data_queues_same c w h) id (λ is. unless (timeout_same timeout) (λ _. past (waits_value id timeout is)))
+  answers_buffer (buffer.PrcvDtq id) = of_object w.data_queues (data_queues_same c w h) id (λ is.
+      never (unless (receives_same id is) (λ _. let d : Object = of_list w.data_queues id in past (value_of k w d (sender k w d)))))
+  answers_buffer (buffer.GetMpf id) = of_object w.pools (pools_same c w h) id (λ is. never (past (waits_block id forever is)))
+  answers_buffer (buffer.TgetMpf id timeout) =
+      of_object w.pools (pools_same c w h) id (λ is. unless (timeout_same timeout) (λ _. past (waits_block id timeout is)))
+  answers_buffer (buffer.PgetMpf id) = of_object w.pools (pools_same c w h) id (λ is.
+      never (next (none_is (free_block w (of_list w.pools id)) ∙ ap not (free_same id is)) (λ _. past (block_same id is))))
+  answers_buffer (buffer.RelMpf id b) = of_object w.pools (pools_same c w h) id (λ is.
+      let m : Object = of_list w.pools id in
+      unless (ap (λ y. is_handed w y b) is ∙ handed_same (object_of id) b) (λ _. past (accepts_returned m (block_of b) (first (queue k w kind.Pool m)))))
 
-  -- the value that a call receives is that of its own answer
-  abbrev IsValueOf : Option ℤ → Row Q → Type 0
-  IsValueOf v row = v ≡ accepted_value (answer_by w row.effect (first_error row.errors))
+  -- Time event handlers.
 
-  answers_buffer : (v : Option ℤ) (y : BufferCall) → are_known c (call.Buffer y) ≡ true → IsValueOf v (buffer_row k w p y) → Says v (call.Buffer y) (buffer_row k w p y)
-  unfolding tsnd_dtq psnd_dtq fsnd_dtq trcv_dtq prcv_dtq tget_mpf pget_mpf rel_mpf
-  answers_buffer v (buffer.SndDtq id n) known is = waits_place id n forever known
-  answers_buffer v (buffer.TsndDtq id n timeout) known is = waits_place id n timeout known
-  answers_buffer v (buffer.PsndDtq id n) known is =
-      one_error w (buffer_row k w p (buffer.PsndDtq id n)) _ _ code.TimedOut accepted refl (ap not (sends_same id known))
-      (λ _. accepts_sent (queue_of id) n (receiver k w (queue_of id)))
-  answers_buffer v (buffer.IpsndDtq id n) known is =
-      one_error w (buffer_row k w p (buffer.IpsndDtq id n)) _ _ code.TimedOut accepted refl (ap not (sends_same id known))
-      (λ _. accepts_sent (queue_of id) n (receiver k w (queue_of id)))
-  answers_buffer v (buffer.FsndDtq id n) known is =
-      one_error w (buffer_row k w p (buffer.FsndDtq id n)) _ _ code.IllegalUse accepted refl (no_places id known) (λ _. accepts_forced (queue_of id) n)
-  answers_buffer v (buffer.IfsndDtq id n) known is =
-      one_error w (buffer_row k w p (buffer.IfsndDtq id n)) _ _ code.IllegalUse accepted refl (no_places id known) (λ _. accepts_forced (queue_of id) n)
-  answers_buffer v (buffer.RcvDtq id) known is = waits_value v id forever known is
-  answers_buffer v (buffer.TrcvDtq id timeout) known is = waits_value v id timeout known is
-  answers_buffer v (buffer.PrcvDtq id) known is =
-      let d : Object = queue_of id in
-      let did : World Q × Effect = received k w d (sender k w d) in
-      one_error w (buffer_row k w p (buffer.PrcvDtq id)) _ _ code.TimedOut (answer.Done code.Accepted v) refl (ap not (receives_same id known))
-      (λ can.
-      value_of k w d (sender k w d)
-      ∙ ap (λ y. answer.Done code.Accepted y)
-      (sym (is ∙ ap (λ o. accepted_value (answer_by w did o)) (cond-false (not (can_receive k w d)) (Some code.TimedOut) None can))))
-  answers_buffer v (buffer.GetMpf id) known is = waits_block id forever known
-  answers_buffer v (buffer.TgetMpf id timeout) known is = waits_block id timeout known
-  answers_buffer v (buffer.PgetMpf id) known is =
-      one_error w (buffer_row k w p (buffer.PgetMpf id)) _ _ code.TimedOut _ refl (none_is (free_block w (of_list w.pools id)) ∙ ap not (free_same id known))
-      (λ _. block_same id known)
-  answers_buffer v (buffer.RelMpf id b) known is = accepts_returned (of_list w.pools id) (block_of b) (first (queue k w kind.Pool (of_list w.pools id)))
+  cyclic_at : (id : ℤ) → is_some (object_named w.cyclics id) ≡ true → (cyclic w (of_list w.cyclics id)).setup.class ≡ cyclic_class c id
+  cyclic_at id there = ap (λ o. (cyclic w o).setup.class) (object_is w.cyclics id there) ∙ ap (λ (y : CyclicSetup). y.class) (cyclic_setup c w h (object_of id))
 
-  -- Handlers have no such errors.
+  alarm_at : (id : ℤ) → is_some (object_named w.alarms id) ≡ true → (alarm w (of_list w.alarms id)).setup.class ≡ alarm_class c id
+  alarm_at id there = ap (λ o. (alarm w o).setup.class) (object_is w.alarms id there) ∙ ap (λ (y : AlarmSetup). y.class) (alarm_setup c w h (object_of id))
 
-  answers_time : (v : Option ℤ) (y : TimeCall) → Says v (call.Time y) (time_row w y)
-  unfolding sta_cyc msta_cyc stp_cyc sta_alm msta_alm stp_alm
-  answers_time v (time.StaCyc id) = refl
-  answers_time v y = refl
+  alarm_known : (id : ℤ) → is_some (object_named w.alarms id) ≡ is_one_of (length c.alarms) id
+  alarm_known id = number_known as_object (length w.alarms) (length c.alarms) id (alarms_same c w h)
+
+  answers_time : (y : TimeCall) → Says (call.Time y) (time_row w y)
+  unfolding time_rows
+  answers_time (time.StaCyc id) = of_object w.cyclics (cyclics_same c w h) id (λ is. never (past refl))
+  answers_time (time.MstaCyc id to) =
+      moved h {first = true} {first_told = true} to (number_known as_object (length w.cyclics) (length c.cyclics) id (cyclics_same c w h)) (cyclic_at id) refl
+      (λ there. past refl)
+  answers_time (time.StpCyc id) = of_object w.cyclics (cyclics_same c w h) id (λ is. never (past refl))
+  answers_time (time.StaAlm id after) = of_object w.alarms (alarms_same c w h) id (λ is. unless (time_same after) (λ _. past refl))
+  answers_time (time.IstaAlm id after) = of_object w.alarms (alarms_same c w h) id (λ is. unless (time_same after) (λ _. past refl))
+  answers_time (time.MstaAlm id after to) = moved h to (alarm_known id) (alarm_at id) (time_same after) (λ there. past refl)
+  answers_time (time.ImstaAlm id after to) = moved h to (alarm_known id) (alarm_at id) (time_same after) (λ there. past refl)
+  answers_time (time.StpAlm id) = of_object w.alarms (alarms_same c w h) id (λ is. never (past refl))
+  answers_time (time.IstpAlm id) = of_object w.alarms (alarms_same c w h) id (λ is. never (past refl))
 
   -- The processor and its spin locks.
 
-  answers_system : (v : Option ℤ) (y : SystemCall) → Says v (call.System y) (system_row k w p y)
-  unfolding rotation rotation_in_handler
-  answers_system v system.GetTid = number_is (processor w p).running ∙ ap (λ o. gives (pos (task_number o))) runs
-  answers_system v system.IgetTid = number_is (processor w p).running ∙ ap (λ o. gives (pos (task_number o))) runs
-  answers_system v system.UnlCpu = one_error w (system_row k w p system.UnlCpu) _ _ code.IllegalUse accepted refl (lock_held k c x w l h found locks p) (λ _. refl)
-  answers_system v system.IunlCpu = one_error w (system_row k w p system.IunlCpu) _ _ code.IllegalUse accepted refl (lock_held k c x w l h found locks p) (λ _. refl)
-  answers_system v system.SnsCtx = truth_is (is_some (handler w p)) ∙ ap (λ b. gives (number_if b)) (sym sees.handler)
-  answers_system v system.SnsLoc = truth_is (processor w p).locked ∙ ap (λ b. gives (number_if b)) sees.locked
-  answers_system v system.SnsDsp = truth_is (processor w p).disabled ∙ ap (λ b. gives (number_if b)) sees.disabled
-  answers_system v system.SnsDpn = truth_is (is_held w p) ∙ ap (λ b. gives (number_if b)) sees.held
-  answers_system v y = refl
+  caller_number : gives (pos (unwrap_or (option_map (λ t. t.number) (processor w p).running) 0)) ≡ gives (pos (task_number running))
+  caller_number = number_is (processor w p).running ∙ ap (λ o. gives (pos (task_number o))) here.runs
 
-  is_lock : (id : ℤ) → is_one_of c.spin_locks id ≡ true → of_list w.holders id ≡ object_of id
-  is_lock = is_object w.holders c.spin_locks (holders_same c w h)
+  lock_same : machine_holds w p ≡ holds_lock c x p
+  lock_same = lock_held k c x w here.lists h here.found here.locks p
 
-  held_same : (id : ℤ) → is_one_of c.spin_locks id ≡ true → is_some (holder w (of_list w.holders id)) ≡ is_some (x.holder (object_of id))
-  held_same id known = ap (λ o. is_some (holder w o)) (is_lock id known) ∙ ap is_some (found.holder (object_of id))
+  answers_system : (y : SystemCall) → Says (call.System y) (system_row k w p y)
+  unfolding system_rows
+  answers_system (system.RotRdq n) = never (unless (priority_is c w h n) (λ _. past refl))
+  answers_system (system.IrotRdq n) = never (unless (positive_is c w h n) (λ _. past refl))
+  answers_system (system.MrotRdq n q) =
+      unless (number_known as_proc (length w.processors) c.processors q h.processors) (λ _. unless (priority_is c w h n) (λ _. past refl))
+  answers_system (system.ImrotRdq n q) =
+      unless (number_known as_proc (length w.processors) c.processors q h.processors) (λ _. unless (positive_is c w h n) (λ _. past refl))
+  answers_system system.GetTid = plain_row caller_number
+  answers_system system.IgetTid = plain_row caller_number
+  answers_system system.UnlCpu = never (never (next lock_same (λ _. past refl)))
+  answers_system system.IunlCpu = never (never (next lock_same (λ _. past refl)))
+  answers_system system.SnsCtx = plain_row (truth_is (sym here.sees.handler))
+  answers_system system.SnsLoc = plain_row (truth_is here.sees.locked)
+  answers_system system.SnsDsp = plain_row (truth_is here.sees.disabled)
+  answers_system system.SnsDpn = plain_row (truth_is here.sees.held)
+  answers_system y = plain_row refl
 
-  abbrev Locks : Object → Bool → World Q × Effect → Type 0
-  Locks o b did = did.1.answer ≡ (if b then answer.Spin else accepted)
+  held_same : (id : ℤ) → Names w.holders id → is_some (holder w (of_list w.holders id)) ≡ is_some (x.holder (object_of id))
+  held_same id is = ap (λ o. is_some (holder w o)) is ∙ ap is_some (here.found.holder (object_of id))
 
-  asks_lock : (o : Object) (b : Bool) → is_some (holder w o) ≡ b → Locks o b (if is_some (holder w o) then (w, plain answer.Spin) else (taken w p o, done))
-  asks_lock o b is =
-      cond_both (is_some (holder w o)) _ _ (Locks o b) (λ yes_. sym (cond-true b answer.Spin accepted (sym is ∙ yes_)))
-      (λ no_. sym (cond-false b answer.Spin accepted (sym is ∙ no_)))
+  asks_lock : (id : ℤ) → Names w.holders id → (loc_spn w p id).effect.1.answer ≡ (if is_some (x.holder (object_of id)) then answer.Spin else accepted)
+  unfolding spin_rows
+  asks_lock id is =
+      cond_both (is_some (holder w (of_list w.holders id))) _ _
+      (λ (did : World Q × Effect). did.1.answer ≡ (if is_some (holder w (of_list w.holders id)) then answer.Spin else accepted))
+      (λ yes_. rw yes_ refl) (λ no_. rw no_ refl)
+      ∙ ap (λ b. if b then answer.Spin else accepted) (held_same id is)
 
-  own_same : (id : ℤ) → is_one_of c.spin_locks id ≡ true → not (is_at p (holder w (of_list w.holders id))) ≡ not (is_holder p (x.holder (object_of id)))
-  own_same id known = ap (λ o. not (is_at p (holder w o))) (is_lock id known) ∙ ap not (holder_same k c x w l h found p (object_of id))
+  own_same : (id : ℤ) → Names w.holders id → is_at p (holder w (of_list w.holders id)) ≡ is_holder p (x.holder (object_of id))
+  own_same id is = ap (λ o. is_at p (holder w o)) is ∙ holder_same k c x w here.lists h here.found p (object_of id)
 
-  answers_spin : (v : Option ℤ) (y : SpinCall) → are_known c (call.Spin y) ≡ true → Says v (call.Spin y) (spin_row w p y)
-  unfolding loc_spn try_spn unl_spn
-  answers_spin v (spin.LocSpn id) known = asks_lock (of_list w.holders id) _ (held_same id known)
-  answers_spin v (spin.IlocSpn id) known = asks_lock (of_list w.holders id) _ (held_same id known)
-  answers_spin v (spin.TrySpn id) known = one_error w (spin_row w p (spin.TrySpn id)) _ _ code.ObjectState accepted refl (held_same id known) (λ _. refl)
-  answers_spin v (spin.ItrySpn id) known = one_error w (spin_row w p (spin.ItrySpn id)) _ _ code.ObjectState accepted refl (held_same id known) (λ _. refl)
-  answers_spin v (spin.UnlSpn id) known = one_error w (spin_row w p (spin.UnlSpn id)) _ _ code.IllegalUse accepted refl (own_same id known) (λ _. refl)
-  answers_spin v (spin.IunlSpn id) known = one_error w (spin_row w p (spin.IunlSpn id)) _ _ code.IllegalUse accepted refl (own_same id known) (λ _. refl)
+  answers_spin : (y : SpinCall) → Says (call.Spin y) (spin_row w p y)
+  unfolding spin_rows
+  answers_spin (spin.LocSpn id) = of_object w.holders (holders_same c w h) id (λ is. never (past (asks_lock id is)))
+  answers_spin (spin.IlocSpn id) = of_object w.holders (holders_same c w h) id (λ is. never (past (asks_lock id is)))
+  answers_spin (spin.TrySpn id) = of_object w.holders (holders_same c w h) id (λ is. never (next (held_same id is) (λ _. past refl)))
+  answers_spin (spin.ItrySpn id) = of_object w.holders (holders_same c w h) id (λ is. never (next (held_same id is) (λ _. past refl)))
+  answers_spin (spin.UnlSpn id) = of_object w.holders (holders_same c w h) id (λ is. never (unless (own_same id is) (λ _. past refl)))
+  answers_spin (spin.IunlSpn id) = of_object w.holders (holders_same c w h) id (λ is. never (unless (own_same id is) (λ _. past refl)))
 
-  pub answers_call : (v : Option ℤ) (y : Call) → (is_for_all y ≡ false → is_for_handlers y ≡ false → FromTask w p) → are_known c y ≡ true →
-      IsValueOf v (row_of k w p y) → Says v y (row_of k w p y)
-  unfolding ret_hdr
-  answers_call v (call.Task y) from known is = answers_task k c x w p seen sees there l h found active blocks locks running runs v y from known
-  answers_call v (call.Sync y) from known is = answers_sync v y known
-  answers_call v (call.Buffer y) from known is = answers_buffer v y known is
-  answers_call v (call.Time y) from known is = answers_time v y
-  answers_call v (call.System y) from known is = answers_system v y
-  answers_call v (call.Spin y) from known is = answers_spin v y known
-  answers_call v call.RetHdr from known is = refl
+  pub answers_call : (y : Call) → (is_for_all y ≡ false → is_for_handlers y ≡ false → FromTask w p) → Says y (row_of k w p y)
+  unfolding rows
+  answers_call (call.Task y) from = answers_task k c records x w p seen running h here y from
+  answers_call (call.Sync y) from = answers_sync y
+  answers_call (call.Buffer y) from = answers_buffer y
+  answers_call (call.Time y) from = answers_time y
+  answers_call (call.System y) from = answers_system y
+  answers_call (call.Spin y) from = answers_spin y
+  answers_call call.RetHdr from = plain_row refl

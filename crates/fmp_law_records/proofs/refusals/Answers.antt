@@ -1,5 +1,5 @@
 -- Each event answers what the records before it tell, and so each call is refused with the code of the first error of its row.
-use Rattle.std.proofs.Common.{◌≡◌, ◌≤◌, ◌-◌, ◌++◌, ℤ, Bool, true, false, not, ◌||◌, List, [], length, flat_map, lit≤, refl, sym, ap, ◌∙◌, arith, Option, Some}
+use Rattle.std.proofs.Common.{◌≡◌, ◌≤◌, ◌-◌, ◌++◌, ℤ, true, ◌||◌, List, [], length, flat_map, lit≤, refl, sym, ap, ◌∙◌, arith, Option, Some}
 use Rattle.std.specs.Prelude.{if◌then◌else◌, is_some}
 use Rattle.std.proofs.lemmas.Bool.{cond_both, cond-true, cond-false}
 use Rattle.std.proofs.lemmas.List.{length-append}
@@ -9,13 +9,11 @@ use Rattle.fmp_codes.specs.declared.numbers.Task.{Task}
 use Rattle.fmp_codes.specs.declared.numbers.Object.{Object}
 use Rattle.fmp_codes.specs.declared.calls.Call.{Call}
 use Rattle.fmp_codes.specs.declared.codes.Code.{Code}
-use Rattle.fmp_codes.specs.declared.codes.Code.TheVariants as code
 use Rattle.fmp_codes.specs.declared.records.Answer.{Answer}
 use Rattle.fmp_codes.specs.declared.records.Answer.TheVariants as answer
 use Rattle.fmp_codes.specs.declared.records.Event.{Event}
 use Rattle.fmp_codes.specs.declared.records.Event.TheVariants as event
 use Rattle.fmp_codes.specs.declared.records.Record.{Record}
-use Rattle.fmp_codes.specs.declared.records.Runner.{Runner}
 use Rattle.fmp_setup.specs.declared.setup.Timer.{Timer}
 use Rattle.fmp_setup.specs.declared.setup.SemaphoreSetup.{SemaphoreSetup}
 use Rattle.fmp_setup.specs.declared.setup.PoolSetup.{PoolSetup}
@@ -23,12 +21,11 @@ use Rattle.fmp_setup.specs.Setup.{Setup, no_semaphore, no_pool, has_time}
 use Rattle.fmp_law_words.specs.Words.{is_clock}
 use Rattle.fmp_law_words.proofs.Words.{clock_has_time}
 use Rattle.fmp_setup.specs.Valid.{IsValid}
-use Rattle.fmp_rules.specs.Effects.{Effect}
 use Rattle.fmp_rules.specs.World.{World, task, processor, handler, runner_of, is_held}
 use Rattle.fmp_rules.specs.Objects.{values}
 use Rattle.fmp_rules.specs.Ordering.{Ordering}
 use Rattle.fmp_rules.specs.Arrivals.{State, numbered}
-use Rattle.fmp_rules.specs.Rows.{Row, is_refused_context, first_error, called}
+use Rattle.fmp_rules.specs.Rows.{Row, is_refused_context, called}
 use Rattle.fmp_rules.specs.Tick.{ticked}
 use Rattle.fmp_rules.specs.Step.{row_of, step, settled, before_event, unchanged, replay, answers}
 use Rattle.fmp_rules.specs.Boot.{booted}
@@ -52,37 +49,20 @@ use Rattle.fmp_law_records.proofs.LocksRuns.{holders_reported}
 use Rattle.fmp_law_records.proofs.RequestsRuns.{HoldsReported, holds_after_all, requests_reported}
 use Rattle.fmp_law_records.proofs.AcceptingRuns.{agrees_from_boot}
 use Rattle.fmp_law_records.specs.Refusals.Misplaced.{is_misplaced}
-use Rattle.fmp_law_records.specs.Refusals.Known.{are_known}
-use Rattle.fmp_law_records.specs.Refusals.Arguments.{pool_setup, are_proper}
+use Rattle.fmp_law_records.specs.Refusals.Arguments.{pool_setup}
 use Rattle.fmp_law_records.specs.Refusals.Found.{found_reported}
-use Rattle.fmp_law_records.specs.Refusals.Errors.{state_errors}
 use Rattle.fmp_law_records.specs.Refusals.Refusals.{first_of, row_reported}
-use Rattle.fmp_law_records.proofs.refusals.FirstErrors.{first_in, first_same}
+use Rattle.fmp_law_records.proofs.refusals.FirstErrors.{first_in, first_same, next, answered as answered_as}
 use Rattle.fmp_law_records.specs.Refusals.Outcomes.{refused_or, outcome_reported, answer_reported, IsAnswerReported}
 use Rattle.fmp_law_records.specs.Refusals.Callers.{report_running}
 use Rattle.fmp_law_records.proofs.refusals.Rules.{rule_is}
-use Rattle.fmp_law_records.proofs.refusals.Placed.{Sees, misplaced_same}
+use Rattle.fmp_law_records.proofs.refusals.Placed.{Sees, misplaced_same, from_there}
 use Rattle.fmp_law_records.proofs.refusals.PlacedRuns.{seen_after_all}
 use Rattle.fmp_law_records.proofs.refusals.Configured.{Configured}
-use Rattle.fmp_law_records.proofs.refusals.Judged.{from_there, argues, at_end, balance_after_all, configured_after_all, blocks_after_all}
+use Rattle.fmp_law_records.proofs.refusals.Judged.{at_end, balance_after_all, configured_after_all, blocks_after_all}
 use Rattle.fmp_law_records.proofs.refusals.Found.{Finds}
 use Rattle.fmp_law_records.proofs.refusals.Callers.{running_after_all}
-use Rattle.fmp_law_records.proofs.refusals.Answered.{answer_by}
 use Rattle.fmp_law_records.proofs.refusals.AnsweredObjects.{answers_call}
-
--- The tests in their order, where each is told if none before it applies.
-module _ {Q : Type 0} (w : World Q) (did : World Q × Effect) where
-  abbrev by_tests : Bool → Bool → Bool → Option Code → Answer
-  by_tests m k b o = answer_by w did (if m then Some code.Context else if not k then Some code.Identifier else if not b then Some code.Parameter else o)
-
-  in_order : (m k b known proper : Bool) (o report : Option Code) (a : Answer) → (m ≡ false → k ≡ known) → (m ≡ false → known ≡ true → b ≡ proper) →
-      (m ≡ false → known ≡ true → proper ≡ true → answer_by w did o ≡ refused_or report a) →
-      by_tests m k b o ≡ refused_or (if m then Some code.Context else if not known then Some code.Identifier else if not proper then Some code.Parameter else report) a
-  in_order true k b known proper o report a ids ranges later = refl
-  in_order false k b false proper o report a ids ranges later = ap (λ y. by_tests false y b o) (ids refl)
-  in_order false k b true false o report a ids ranges later = ap (λ y. by_tests false y b o) (ids refl) ∙ ap (λ y. by_tests false true y o) (ranges refl refl)
-  in_order false k b true true o report a ids ranges later = ap (λ y. by_tests false y b o) (ids refl) ∙ ap (λ y. by_tests false true y o) (ranges refl refl)
-      ∙ later refl refl refl
 
 module _ {Q : Type 0} (k : Ordering Q) (c : Setup) (records : List Record) (w : World Q) (l : Lists k w) (h : Configured c w) (found : Finds c (found_reported c records) w)
     (active : (p : Proc) (t : Task) → (processor w p).running ≡ Some t → (task w t).active ≡ true) (blocks : (m : Object) → (pool_setup c m).blocks ≤ 64)
@@ -107,21 +87,23 @@ module _ {Q : Type 0} (k : Ordering Q) (c : Setup) (records : List Record) (w : 
     call_answered : answered ≡ refused_or (first_in (row_reported c records p (runner_of w p) y))
         (outcome_reported c (found_reported c records) x (report_running c p records) p (runner_of w p) (accepted_value answered) y)
     call_answered =
-        let r : Option Runner = runner_of w p in
-        let m : Bool = is_misplaced x r y in
-        let e : Option Code = first_error row.errors in
-        let args = argues k c records w h found.out p x all.sees there y in
-        let rule : is_refused_context w p row.rule ≡ m = ap (is_refused_context w p) (rule_is k w p y) ∙ misplaced_same w p there x all.sees y in
-        ap (λ b. by_tests w row.effect b row.known row.proper e) rule
-        ∙ in_order w row.effect m row.known row.proper (are_known c y) (are_proper c records r y) e (first_in (state_errors c (found_reported c records) p r y)) _
-        (λ placed. (args placed).known)
-        (λ placed. (args placed).proper)
-        (λ placed known proper.
-        let plain_ : answered ≡ answer_by w row.effect e =
-        ap (λ b. by_tests w row.effect b row.known row.proper e) (rule ∙ placed) ∙ ap (λ b. by_tests w row.effect false b row.proper e) ((args placed).known ∙ known)
-        ∙ ap (λ b. by_tests w row.effect false true b e) ((args placed).proper known ∙ proper) in
-        answers_call k c (found_reported c records) w p x all.sees there l h found (active p) blocks locks (report_running c p records) all.runs (accepted_value answered) y
-        (from_there k c records w h found.out p x all.sees there y placed) known (ap accepted_value plain_))
+        let rule : is_refused_context w p row.rule ≡ is_misplaced x (runner_of w p) y = ap (is_refused_context w p) (rule_is k w p y)
+        ∙ misplaced_same w p there x all.sees y in
+        answered_as w row.effect (λ v. outcome_reported c (found_reported c records) x (report_running c p records) p (runner_of w p) v y)
+        (next rule (λ placed.
+        answers_call k c records (found_reported c records) w p x (report_running c p records) h
+        (record {
+          there = there;
+          sees = all.sees;
+          runs = all.runs;
+          lists = l;
+          found = found;
+          outs = λ m b. refl;
+          active = active p;
+          blocks = blocks;
+          locks = locks;
+        }) y
+        (from_there w p x all.sees there y (sym rule ∙ placed))))
 
   abbrev Report : World Q × Record → Type 0
   Report after = IsAnswerReported c records after.1

@@ -78,11 +78,11 @@ pub timeout_same : (n : ℤ) → is_timeout n ≡ says_timeout n
 timeout_same (pos n) = refl
 timeout_same (negsuc n) = refl
 
-pub priority_same : (limits : Limits) (n : ℤ) → is_priority_or_zero limits n ≡ is_zero_or_of limits.priorities n
+priority_same : (limits : Limits) (n : ℤ) → is_priority_or_zero limits n ≡ is_zero_or_of limits.priorities n
 priority_same limits (pos n) = refl
 priority_same limits (negsuc n) = refl
 
-pub positive_same : (limits : Limits) (n : ℤ) → (is_priority_or_zero limits n && not (is_zero n)) ≡ is_one_of limits.priorities n
+positive_same : (limits : Limits) (n : ℤ) → (is_priority_or_zero limits n && not (is_zero n)) ≡ is_one_of limits.priorities n
 positive_same limits (pos n) = not_zero limits.priorities n
 positive_same limits (negsuc n) = refl
 
@@ -98,6 +98,12 @@ object_is xs (pos n) known =
 module _ {Q : Type 0} (c : Setup) (w : World Q) (h : Configured c w) where
   pub limits_same : w.limits ≡ c.limits
   limits_same = ap (λ (f : Frame). f.limits) h.frame
+
+  pub priority_is : (n : ℤ) → is_priority_or_zero w.limits n ≡ is_zero_or_of c.limits.priorities n
+  priority_is n = priority_same w.limits n ∙ ap (λ (l : Limits). is_zero_or_of l.priorities n) limits_same
+
+  pub positive_is : (n : ℤ) → (is_priority_or_zero w.limits n && not (is_zero n)) ≡ is_one_of c.limits.priorities n
+  positive_is n = positive_same w.limits n ∙ ap (λ (l : Limits). is_one_of l.priorities n) limits_same
 
   pub semaphores_same : length w.semaphores ≡ length c.semaphores
   semaphores_same = sym (length-map w.semaphores (λ (x : Semaphore). x.setup)) ∙ ap (λ (f : Frame). length f.semaphores) h.frame

@@ -1,8 +1,8 @@
 -- What no event changes: the limits, how many objects there are of each kind, and how each is configured.
-use Rattle.std.proofs.Common.{◌≡◌, ℕ, ◌+◌, ◌-◌, ◌∙◌, ◌==◌, ℤ, Bool, true, false, List, [], ◌∷◌, length, map, refl, ap, Option, Some, None}
+use Rattle.std.proofs.Common.{◌≡◌, ℕ, ◌+◌, ◌-◌, ◌∙◌, ℤ, Bool, true, false, List, [], ◌∷◌, length, map, refl, ap, Option, Some, None}
 use Rattle.std.specs.Prelude.{if◌then◌else◌, is_some, nat_lt, replicate, slice_set, unwrap_or}
 use Rattle.std.proofs.lemmas.Bool.{cond_both}
-use Rattle.std.proofs.lemmas.List.{length-map, length-set, length-replicate}
+use Rattle.std.proofs.lemmas.List.{ext_get_or, length-set, length-replicate}
 use Rattle.std.proofs.Math.Seq.{map-set_same}
 use Rattle.fmp_codes.specs.Numbers.{as_task, as_proc, as_object}
 use Rattle.fmp_codes.specs.declared.numbers.Proc.{Proc}
@@ -10,19 +10,13 @@ use Rattle.fmp_codes.specs.declared.numbers.Task.{Task}
 use Rattle.fmp_codes.specs.declared.numbers.Object.{Object}
 use Rattle.fmp_codes.specs.declared.calls.Call.{Call}
 use Rattle.fmp_codes.specs.declared.calls.Call.TheVariants as call
-use Rattle.fmp_codes.specs.declared.calls.TaskCall.{TaskCall}
 use Rattle.fmp_codes.specs.declared.calls.TaskCall.TheVariants as tasks
 use Rattle.fmp_codes.specs.declared.calls.SyncCall.{SyncCall}
 use Rattle.fmp_codes.specs.declared.calls.SyncCall.TheVariants as sync
-use Rattle.fmp_codes.specs.declared.calls.BufferCall.{BufferCall}
 use Rattle.fmp_codes.specs.declared.calls.BufferCall.TheVariants as buffer
 use Rattle.fmp_codes.specs.declared.calls.TimeCall.{TimeCall}
 use Rattle.fmp_codes.specs.declared.calls.TimeCall.TheVariants as time
-use Rattle.fmp_codes.specs.declared.calls.SystemCall.{SystemCall}
 use Rattle.fmp_codes.specs.declared.calls.SystemCall.TheVariants as system
-use Rattle.fmp_codes.specs.declared.calls.SpinCall.{SpinCall}
-use Rattle.fmp_codes.specs.declared.calls.SpinCall.TheVariants as spin
-use Rattle.fmp_codes.specs.declared.records.Answer.TheVariants as answer
 use Rattle.fmp_codes.specs.declared.records.Event.{Event}
 use Rattle.fmp_codes.specs.declared.records.Release.{Release}
 use Rattle.fmp_setup.specs.declared.setup.Limits.{Limits}
@@ -44,28 +38,27 @@ use Rattle.fmp_rules.specs.declared.machine.Wait.{Wait}
 use Rattle.fmp_rules.specs.declared.machine.Wait.TheVariants as wait
 use Rattle.fmp_rules.specs.declared.machine.QueueKind.TheVariants as kind
 use Rattle.fmp_rules.specs.World.{World, with_item, task, first, processors_to}
-use Rattle.fmp_rules.specs.Objects.{blank_semaphore, blank_eventflag, blank_pool, semaphore, eventflag, holds, pool, free_block, holder, cyclic, alarm}
+use Rattle.fmp_rules.specs.Objects.{blank_semaphore, blank_eventflag, blank_pool, semaphore, eventflag, holds, pool, free_block, cyclic, alarm}
 use Rattle.fmp_rules.specs.Ordering.{Ordering, queue}
 use Rattle.fmp_rules.specs.Arrivals.{State, numbered}
-use Rattle.fmp_rules.specs.Tasks.{start, make_ready, activate, finish, migrate, rotate}
-use Rattle.fmp_rules.specs.Rows.{called, done, done_or_wait, plain}
-use Rattle.fmp_rules.specs.Arguments.{caller, is_zero, forever, object_named, task_named, task_or_caller}
-use Rattle.fmp_rules.specs.Processors.{opened, unlocked}
-use Rattle.fmp_rules.specs.TaskCalls.{is_sleep, act, mact, can_act, mig_tsk, ext_tsk, ter_tsk, chg_pri, tslp_tsk, wup, can_wup, rel_wai, sus_tsk, rsm_tsk, dly_tsk}
-use Rattle.fmp_rules.specs.TaskCalls.{task_row}
-use Rattle.fmp_rules.specs.SyncCalls.{is_met, cleared, served, signal, counted, answered, sig_sem, twai_sem, pol_sem, set_flg, clr_flg, twai_flg, pol_flg, sync_row}
-use Rattle.fmp_rules.specs.BufferCalls.{receiver, sender, can_send, sent, forced, can_receive, received, given, returned, block_of, tsnd_dtq, psnd_dtq, fsnd_dtq}
-use Rattle.fmp_rules.specs.BufferCalls.{trcv_dtq, prcv_dtq, tget_mpf, pget_mpf, rel_mpf, buffer_row}
-use Rattle.fmp_rules.specs.TimeCalls.{sta_cyc, msta_cyc, stp_cyc, sta_alm, msta_alm, stp_alm, time_row}
-use Rattle.fmp_rules.specs.SystemCalls.{rotation, rotation_in_handler, system_row}
-use Rattle.fmp_rules.specs.SpinCalls.{taken, loc_spn, try_spn, unl_spn, spin_row, ret_hdr}
+use Rattle.fmp_rules.specs.Tasks.{start, make_ready}
+use Rattle.fmp_rules.specs.Rows.{called, done_or_wait}
+use Rattle.fmp_rules.specs.Arguments.{is_zero, forever, object_named}
+use Rattle.fmp_rules.specs.SyncCalls.{is_met, cleared, served, signal, counted, answered, sync_row}
+use Rattle.fmp_rules.specs.BufferCalls.{given, returned, block_of}
+use Rattle.fmp_rules.specs.TimeCalls.{time_row}
 use Rattle.fmp_rules.specs.Tick.{tick, ticked, counted_down, released, tasks_expired, with_handlers_due, alarms_due, expired}
 use Rattle.fmp_rules.specs.Step.{row_of, step, replay}
 use Rattle.fmp_rules.specs.Boot.{blank, all_started, with_top_running, with_tops_running, booted, unnumbered}
 use Rattle.fmp_law_safety.proofs.KeepsDue.{alarms_keep, cyclics_keep, released_keep}
-use Rattle.fmp_law_safety.proofs.KeepsProcessors.{freed}
+use Rattle.fmp_law_footprint.specs.Cells.{OfSemaphore, OfEventflag, OfPool, OfCyclic, OfAlarm, blank_cyclic, blank_alarm}
+use Rattle.fmp_law_footprint.specs.Shapes as shapes
+use Rattle.fmp_law_footprint.specs.Kinds.{may_change}
+use Rattle.fmp_law_footprint.proofs.OtherKinds.{call_leaves}
 use Rattle.fmp_law_balance.proofs.Called.{either_way}
 use Rattle.fmp_law_waits.proofs.Events.{by_event}
+use Rattle.fmp_law_records.proofs.Rows.{sync_rows, buffer_rows, time_rows}
+use Rattle.fmp_law_records.proofs.Leaving.{same_shape}
 
 pub record Frame : Type 0 where
   pub limits : Limits
@@ -137,9 +130,6 @@ module _ {Q : Type 0} (w : World Q) where
       ap (λ (xs : List AlarmSetup). record (frame w) { alarms = xs })
       (map-set_same (λ (x : Alarm). x.setup) w.alarms (a.number - 1) y (record { setup = no_alarm; assigned = as_proc 1 }) e)
 
-  put_holders : (hs : List (Option Proc)) → length hs ≡ length w.holders → Frames w (record w { holders = hs })
-  put_holders hs e = ap (λ (n : ℕ). record (frame w) { spin_locks = n }) e
-
 module _ {Q : Type 0} (k : Ordering Q) (w : World Q) (p : Proc) where
   abbrev Framed : World Q × Effect → Type 0
   Framed did = frame did.0 ≡ frame w
@@ -149,45 +139,6 @@ module _ {Q : Type 0} (k : Ordering Q) (w : World Q) (p : Proc) where
 
   framed_wait : (can : Bool) (did : World Q × Effect) (x : Wait) (timeout : ℤ) → Framed did → Framed (done_or_wait k w p can did x timeout)
   framed_wait can did x timeout h = cond_both can _ _ Framed (λ _. h) (λ _. cond_both (is_zero timeout) _ _ Framed (λ _. refl) (λ _. refl))
-
-  abbrev the : Option Task → Task
-  the o = unwrap_or o (as_task 1)
-
-  framed_activate : (t : Task) (to : Proc) (kept : Option Proc) → Framed (activate k w t to kept, done)
-  framed_activate t to kept = cond_both (task w t).active _ _ (λ (v : World Q). frame v ≡ frame w) (λ _. refl) (λ _. refl)
-
-  framed_migrate : (t : Task) (to : Proc) → Framed (migrate k w t to, done)
-  framed_migrate t to = cond_both ((task w t).assigned.number == to.number) _ _ (λ (v : World Q). frame v ≡ frame w) (λ _. refl) (λ _. refl)
-
-  framed_act : (o : Option Task) → Framed (act k w o).effect
-  unfolding act
-  framed_act o = framed_activate (the o) (task w (the o)).assigned None
-
-  framed_mact : (o : Option Task) (id : ℤ) → Framed (mact k w o id).effect
-  unfolding mact
-  framed_mact o id = framed_activate (the o) _ _
-
-  framed_sleep : (timeout : ℤ) → Framed (tslp_tsk k w p timeout).effect
-  unfolding tslp_tsk
-  framed_sleep timeout = framed_wait (nat_lt 0 (task w (caller w p)).wakeups) _ wait.Sleep timeout refl
-
-  framed_wup : (o : Option Task) → Framed (wup k w o).effect
-  unfolding wup
-  framed_wup o = cond_both (is_sleep (task w (the o)).wait) _ _ Framed (λ _. refl) (λ _. refl)
-
-  framed_task : (c : TaskCall) → Framed (task_row k w p c).effect
-  unfolding can_act mig_tsk ext_tsk ter_tsk chg_pri can_wup rel_wai sus_tsk rsm_tsk dly_tsk finish opened
-  framed_task (tasks.ActTsk id) = framed_act (task_or_caller w p id)
-  framed_task (tasks.IactTsk id) = framed_act (task_named w id)
-  framed_task (tasks.MactTsk id to) = framed_mact (task_or_caller w p id) to
-  framed_task (tasks.ImactTsk id to) = framed_mact (task_named w id) to
-  framed_task (tasks.MigTsk id to) = framed_migrate (the (task_or_caller w p id)) _
-  framed_task tasks.ExtTsk = ap (λ (n : ℕ). record (frame w) { spin_locks = n }) (length-map w.holders (freed p))
-  framed_task tasks.SlpTsk = framed_sleep forever
-  framed_task (tasks.TslpTsk timeout) = framed_sleep timeout
-  framed_task (tasks.WupTsk id) = framed_wup (task_or_caller w p id)
-  framed_task (tasks.IwupTsk id) = framed_wup (task_named w id)
-  framed_task c = refl
 
   framed_signal : (s : Object) (o : Option Task) → Framed (signal k w s o)
   framed_signal s None = put_semaphore w s _ refl
@@ -200,7 +151,7 @@ module _ {Q : Type 0} (k : Ordering Q) (w : World Q) (p : Proc) where
       (λ _. framed_served (make_ready k v t) f (cleared v f x) ts) (λ _. framed_served v f x ts)
 
   framed_sync : (c : SyncCall) → Framed (sync_row k w p c).effect
-  unfolding sig_sem twai_sem pol_sem set_flg clr_flg twai_flg pol_flg
+  unfolding sync_rows
   framed_sync (sync.SigSem id) = framed_signal (of_list w.semaphores id) (first (queue k w kind.Semaphore (of_list w.semaphores id)))
   framed_sync (sync.IsigSem id) = framed_signal (of_list w.semaphores id) (first (queue k w kind.Semaphore (of_list w.semaphores id)))
   framed_sync (sync.WaiSem id) = let s : Object = of_list w.semaphores id in
@@ -219,17 +170,6 @@ module _ {Q : Type 0} (k : Ordering Q) (w : World Q) (p : Proc) where
       framed_wait (holds (eventflag w f).pattern x m) (answered w f) (wait.Eventflag f x m) timeout (put_eventflag w f _ refl)
   framed_sync (sync.PolFlg id x m) = put_eventflag w (of_list w.eventflags id) _ refl
 
-  framed_sent : (d : Object) (x : ℤ) (o : Option Task) → Framed (sent k w d x o)
-  framed_sent d x None = refl
-  framed_sent d x (Some t) = refl
-
-  framed_forced : (d : Object) (x : ℤ) → Framed (if can_send k w d then sent k w d x (receiver k w d) else forced w d x)
-  framed_forced d x = cond_both (can_send k w d) _ _ Framed (λ _. framed_sent d x (receiver k w d)) (λ _. refl)
-
-  framed_received : (d : Object) (o : Option Task) → Framed (received k w d o)
-  framed_received d None = refl
-  framed_received d (Some t) = refl
-
   framed_given : (m : Object) (b : ℕ) → Framed (given w m b)
   framed_given m b = put_pool w m (record (pool w m) { handed = slice_set (pool w m).handed b true }) refl (length-set (pool w m).handed b true)
 
@@ -237,83 +177,65 @@ module _ {Q : Type 0} (k : Ordering Q) (w : World Q) (p : Proc) where
   framed_returned m b None = put_pool w m (record (pool w m) { handed = slice_set (pool w m).handed b false }) refl (length-set (pool w m).handed b false)
   framed_returned m b (Some t) = refl
 
-  framed_send : (d : Object) (x timeout : ℤ) → Framed (done_or_wait k w p (can_send k w d) (sent k w d x (receiver k w d)) (wait.Send d x) timeout)
-  framed_send d x timeout = framed_wait (can_send k w d) _ (wait.Send d x) timeout (framed_sent d x (receiver k w d))
-
-  framed_receive : (d : Object) (timeout : ℤ) → Framed (done_or_wait k w p (can_receive k w d) (received k w d (sender k w d)) (wait.Receive d) timeout)
-  framed_receive d timeout = framed_wait (can_receive k w d) _ (wait.Receive d) timeout (framed_received d (sender k w d))
-
-  framed_get : (m : Object) (timeout : ℤ) → Framed (done_or_wait k w p (is_some (free_block w m)) (given w m (unwrap_or (free_block w m) 0)) (wait.Pool m) timeout)
+  framed_get : (m : Object) (timeout : ℤ) →
+      Framed (done_or_wait k w p (is_some (free_block w m)) (given w m (unwrap_or (free_block w m) 0)) (wait.Pool m) timeout)
   framed_get m timeout = framed_wait (is_some (free_block w m)) _ (wait.Pool m) timeout (framed_given m (unwrap_or (free_block w m) 0))
 
-  abbrev queue_of : ℤ → Object
-  queue_of id = of_list w.data_queues id
-
-  framed_buffer : (c : BufferCall) → Framed (buffer_row k w p c).effect
-  unfolding tsnd_dtq psnd_dtq fsnd_dtq trcv_dtq prcv_dtq tget_mpf pget_mpf rel_mpf
-  framed_buffer (buffer.SndDtq id x) = framed_send (queue_of id) x forever
-  framed_buffer (buffer.TsndDtq id x timeout) = framed_send (queue_of id) x timeout
-  framed_buffer (buffer.PsndDtq id x) = framed_sent (queue_of id) x (receiver k w (queue_of id))
-  framed_buffer (buffer.IpsndDtq id x) = framed_sent (queue_of id) x (receiver k w (queue_of id))
-  framed_buffer (buffer.FsndDtq id x) = framed_forced (queue_of id) x
-  framed_buffer (buffer.IfsndDtq id x) = framed_forced (queue_of id) x
-  framed_buffer (buffer.RcvDtq id) = framed_receive (queue_of id) forever
-  framed_buffer (buffer.TrcvDtq id timeout) = framed_receive (queue_of id) timeout
-  framed_buffer (buffer.PrcvDtq id) = framed_received (queue_of id) (sender k w (queue_of id))
-  framed_buffer (buffer.GetMpf id) = framed_get (of_list w.pools id) forever
-  framed_buffer (buffer.TgetMpf id timeout) = framed_get (of_list w.pools id) timeout
-  framed_buffer (buffer.PgetMpf id) = framed_given (of_list w.pools id) _
-  framed_buffer (buffer.RelMpf id b) = framed_returned (of_list w.pools id) (block_of b) (first (queue k w kind.Pool (of_list w.pools id)))
-
   framed_time : (c : TimeCall) → Framed (time_row w c).effect
-  unfolding sta_cyc msta_cyc stp_cyc sta_alm msta_alm stp_alm
+  unfolding time_rows
   framed_time (time.MstaCyc id to) = put_cyclic w (of_list w.cyclics id) _ refl
   framed_time (time.MstaAlm id after to) = put_alarm w (of_list w.alarms id) _ refl
   framed_time (time.ImstaAlm id after to) = put_alarm w (of_list w.alarms id) _ refl
   framed_time c = refl
 
-  framed_rotate : (o : Option Task) → frame (rotate k w o) ≡ frame w
-  framed_rotate None = refl
-  framed_rotate (Some t) = refl
+  abbrev after : Call → World Q × Effect
+  after c = called w p (row_of k w p c)
 
-  framed_system : (c : SystemCall) → Framed (system_row k w p c).effect
-  unfolding rotation rotation_in_handler
-  framed_system (system.RotRdq n) = framed_rotate _
-  framed_system (system.IrotRdq n) = framed_rotate _
-  framed_system (system.MrotRdq n q) = framed_rotate _
-  framed_system (system.ImrotRdq n q) = framed_rotate _
-  framed_system c = refl
+  -- a call that changes no such object
+  far : (c : Call) → ((n : ℕ) → (may_change c (OfSemaphore n) ≡ false) × (may_change c (OfEventflag n) ≡ false) × (may_change c (OfPool n) ≡ false)
+      × (may_change c (OfCyclic n) ≡ false) × (may_change c (OfAlarm n) ≡ false)) → Framed (after c)
+  far c off =
+      let v : World Q = (after c).0 in
+      let shape : shapes.frame v ≡ shapes.frame w = same_shape k w p c in
+      let many : (f : shapes.Frame → ℕ) → f (shapes.frame v) ≡ f (shapes.frame w) = λ f. ap f shape in
+      let semaphores = ext_get_or blank_semaphore v.semaphores w.semaphores (many (λ f. f.semaphores)) (λ n _. call_leaves k w p c (OfSemaphore n) (off n).0) in
+      let eventflags = ext_get_or blank_eventflag v.eventflags w.eventflags (many (λ f. f.eventflags)) (λ n _. call_leaves k w p c (OfEventflag n) (off n).1) in
+      let pools = ext_get_or blank_pool v.pools w.pools (many (λ f. f.pools)) (λ n _. call_leaves k w p c (OfPool n) (off n).2) in
+      let cyclics = ext_get_or blank_cyclic v.cyclics w.cyclics (many (λ f. f.cyclics))
+      (λ n _. ap (λ x. x.0) (call_leaves k w p c (OfCyclic n) (off n).3)) in
+      let alarms = ext_get_or blank_alarm v.alarms w.alarms (many (λ f. f.alarms)) (λ n _. ap (λ x. x.0) (call_leaves k w p c (OfAlarm n) (off n).4)) in
+      λ i. record {
+        limits = (shape i).limits;
+        semaphores = map (λ x. x.setup) (semaphores i);
+        eventflags = map (λ x. x.setup) (eventflags i);
+        data_queues = (shape i).data_queues;
+        pools = map (λ x. x.setup) (pools i);
+        marks = map (λ x. length x.handed) (pools i);
+        cyclics = map (λ x. x.setup) (cyclics i);
+        alarms = map (λ x. x.setup) (alarms i);
+        spin_locks = (shape i).holders;
+      }
 
-  framed_taken : (l : Object) → Framed (taken w p l, done)
-  framed_taken l = ap (λ (n : ℕ). record (frame w) { spin_locks = n }) (length-set w.holders (l.number - 1) (Some p))
+  -- a call on such objects, if it is accepted
+  near : (c : Call) → Framed (row_of k w p c).effect → Framed (after c)
+  near c h = either_way w p Framed (row_of k w p c) (λ x. refl) h
 
-  framed_lock : (l : Object) → Framed (if is_some (holder w l) then (w, plain answer.Spin) else (taken w p l, done))
-  framed_lock l = cond_both (is_some (holder w l)) _ _ Framed (λ _. refl) (λ _. framed_taken l)
-
-  framed_unlocked : frame (unlocked w p) ≡ frame w
-  framed_unlocked = ap (λ (n : ℕ). record (frame w) { spin_locks = n }) (length-map w.holders (freed p))
-
-  framed_spin : (c : SpinCall) → Framed (spin_row w p c).effect
-  unfolding loc_spn try_spn unl_spn
-  framed_spin (spin.LocSpn id) = framed_lock (of_list w.holders id)
-  framed_spin (spin.IlocSpn id) = framed_lock (of_list w.holders id)
-  framed_spin (spin.TrySpn id) = framed_taken (of_list w.holders id)
-  framed_spin (spin.ItrySpn id) = framed_taken (of_list w.holders id)
-  framed_spin (spin.UnlSpn id) = framed_unlocked
-  framed_spin (spin.IunlSpn id) = framed_unlocked
-
-  framed_row : (c : Call) → Framed (row_of k w p c).effect
-  unfolding ret_hdr
-  framed_row (call.Task c) = framed_task c
-  framed_row (call.Sync c) = framed_sync c
-  framed_row (call.Buffer c) = framed_buffer c
-  framed_row (call.Time c) = framed_time c
-  framed_row (call.System c) = framed_system c
-  framed_row (call.Spin c) = framed_spin c
-  framed_row call.RetHdr = framed_unlocked
-
-  framed_call : (c : Call) → Framed (called w p (row_of k w p c))
-  framed_call c = either_way w p Framed (row_of k w p c) (λ x. refl) (framed_row c)
+  framed_call : (c : Call) → Framed (after c)
+  unfolding buffer_rows
+  framed_call (call.Task tasks.ExtTsk) = far (call.Task tasks.ExtTsk) (λ n. (refl, refl, refl, refl, refl))
+  framed_call (call.Task c) = far (call.Task c) (λ n. (refl, refl, refl, refl, refl))
+  framed_call (call.Sync c) = near (call.Sync c) (framed_sync c)
+  framed_call (call.Buffer (buffer.GetMpf id)) = near (call.Buffer (buffer.GetMpf id)) (framed_get (of_list w.pools id) forever)
+  framed_call (call.Buffer (buffer.TgetMpf id timeout)) = near (call.Buffer (buffer.TgetMpf id timeout)) (framed_get (of_list w.pools id) timeout)
+  framed_call (call.Buffer (buffer.PgetMpf id)) = near (call.Buffer (buffer.PgetMpf id)) (framed_given (of_list w.pools id) _)
+  framed_call (call.Buffer (buffer.RelMpf id b)) =
+      let m : Object = of_list w.pools id in near (call.Buffer (buffer.RelMpf id b)) (framed_returned m (block_of b) (first (queue k w kind.Pool m)))
+  framed_call (call.Buffer c) = far (call.Buffer c) (λ n. (refl, refl, refl, refl, refl))
+  framed_call (call.Time c) = near (call.Time c) (framed_time c)
+  framed_call (call.System (system.RotRdq n)) = far (call.System (system.RotRdq n)) (λ n. (refl, refl, refl, refl, refl))
+  framed_call (call.System c) = far (call.System c) (λ n. (refl, refl, refl, refl, refl))
+  framed_call (call.Spin c) = far (call.Spin c) (λ n. (refl, refl, refl, refl, refl))
+  framed_call call.RetHdr = far call.RetHdr (λ n. (refl, refl, refl, refl, refl))
 
   framed_tick : Framed (tick k w p)
   unfolding counted_down ticked with_handlers_due

@@ -1,25 +1,20 @@
--- A call answers E_ID and E_PAR just where an argument is unknown or out of its range.
+-- What a state has along a run of what its configuration and the records tell.
 use Rattle.std.proofs.Common.{◌≡◌, ℕ, ◌+◌, Bool, true, false, List, [], ◌∷◌, length, refl, sym, ◌∙◌, subst, arith}
-use Rattle.std.specs.Prelude.{is_some, nat_lt, slice_index_or, take}
-use Rattle.std.proofs.lemmas.Bool.{or_parts, lt-ltb, le-ltb}
+use Rattle.std.specs.Prelude.{nat_lt, slice_index_or, take}
+use Rattle.std.proofs.lemmas.Bool.{lt-ltb, le-ltb}
 use Rattle.std.proofs.lemmas.List.{take_all}
-use Rattle.fmp_codes.specs.declared.numbers.Proc.{Proc}
 use Rattle.fmp_codes.specs.declared.numbers.Object.{Object}
-use Rattle.fmp_codes.specs.declared.calls.Call.{Call}
 use Rattle.fmp_codes.specs.declared.records.Event.{Event}
 use Rattle.fmp_codes.specs.declared.records.Record.{Record}
 use Rattle.fmp_setup.specs.Setup.{Setup}
 use Rattle.fmp_setup.specs.Valid.{IsValid}
-use Rattle.fmp_rules.specs.World.{World, runner_of}
 use Rattle.fmp_rules.specs.Objects.{pool}
-use Rattle.fmp_rules.specs.Ordering.{Ordering}
 use Rattle.fmp_rules.specs.Arrivals.{State, numbered}
-use Rattle.fmp_rules.specs.Step.{row_of, step, replay, answers}
+use Rattle.fmp_rules.specs.Step.{step, replay, answers}
 use Rattle.fmp_rules.specs.Boot.{booted}
 use Rattle.fmp_rules.proofs.Replays.{answers_take}
 use Rattle.fmp_law_safety.specs.Runs.{processor_of, AreOn}
 use Rattle.fmp_law_safety.proofs.Booted.{runs_safe, count_booted}
-use Rattle.fmp_law_safety.proofs.Calls.{FromTask}
 use Rattle.fmp_law_safety.proofs.Listed.{numbered_lists}
 use Rattle.fmp_law_safety.proofs.Stepping.{numbered_tops, safe_step}
 use Rattle.fmp_law_balance.specs.Accepted.{one_if}
@@ -27,29 +22,10 @@ use Rattle.fmp_law_balance.specs.Balance.{Balance}
 use Rattle.fmp_law_balance.proofs.Booted.{balanced_throughout}
 use Rattle.fmp_law_waits.specs.Waits.{OpenWaits, nobody_waits, after_record}
 use Rattle.fmp_law_records.proofs.counts.Ready.{Ready, ready_next, ready_at_boot, ready_after}
-use Rattle.fmp_law_records.specs.Due.{is_handler}
-use Rattle.fmp_law_records.specs.Requests.{ProcessorReported}
 use Rattle.fmp_law_records.proofs.LivesRuns.{life_from_boot}
-use Rattle.fmp_law_records.specs.Refusals.Misplaced.{is_for_handlers, is_for_all, is_not_for, is_misplaced}
-use Rattle.fmp_law_records.specs.Refusals.Known.{are_known}
-use Rattle.fmp_law_records.specs.Refusals.Arguments.{is_out, are_proper}
-use Rattle.fmp_law_records.proofs.refusals.Placed.{Sees, by_task}
+use Rattle.fmp_law_records.specs.Refusals.Arguments.{is_out}
 use Rattle.fmp_law_records.proofs.refusals.Frames.{framed_from_boot}
 use Rattle.fmp_law_records.proofs.refusals.Configured.{Configured}
-use Rattle.fmp_law_records.proofs.refusals.Argued.{Argues, argued}
-
-module _ {Q : Type 0} (k : Ordering Q) (c : Setup) (records : List Record) (w : World Q) (h : Configured c w)
-    (out : (m : Object) (b : ℕ) → slice_index_or (pool w m).handed b false ≡ is_out records m b) where
-  module _ (p : Proc) (x : ProcessorReported) (sees : Sees w p x) (there : is_some (runner_of w p) ≡ true) where
-    -- what is in place, and only a task may make, is made by a task
-    pub from_there : (y : Call) → is_misplaced x (runner_of w p) y ≡ false → is_for_all y ≡ false → is_for_handlers y ≡ false → FromTask w p
-    from_there y placed all handlers =
-        let wrong : is_not_for (runner_of w p) y ≡ false = (or_parts _ _ (or_parts _ _ placed).0).0 in
-        let none : is_handler (runner_of w p) ≡ false = rw (all, handlers) at wrong in
-        by_task w p there (sym sees.handler ∙ none)
-
-    pub argues : (y : Call) → is_misplaced x (runner_of w p) y ≡ false → Argues (row_of k w p y) (are_known c y) (are_proper c records (runner_of w p) y)
-    argues y placed = argued k c records w p h sees.within out y (from_there y placed)
 
 -- Along a run.
 

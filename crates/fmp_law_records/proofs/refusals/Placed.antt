@@ -2,7 +2,7 @@
 use Rattle.std.proofs.Common.{◌≡◌, ◌≤◌, ◌==◌, ℕ, ℤ, pos, negsuc, Bool, true, false, not, ◌&&◌, ◌||◌, length, arith, refl, sym, ap, ◌∙◌, subst, Option, Some, None}
 use Rattle.std.specs.Prelude.{if◌then◌else◌, is_some, nat_le, unwrap_or, option_map}
 use Rattle.std.specs.Option.{option_or}
-use Rattle.std.proofs.lemmas.Bool.{cond_both, and_parts, leb-true, le-leb, false≢true, both_ways, ne_eqb, eq-eqb, and_from}
+use Rattle.std.proofs.lemmas.Bool.{cond_both, and_parts, leb-true, le-leb, false≢true, both_ways, ne_eqb, eq-eqb, and_from, or_parts}
 use Rattle.fmp_codes.specs.Numbers.{as_task, within}
 use Rattle.fmp_codes.specs.declared.numbers.Proc.{Proc}
 use Rattle.fmp_codes.specs.declared.numbers.Task.{Task}
@@ -43,7 +43,7 @@ or_false false = refl
 
 module _ {Q : Type 0} (w : World Q) (p : Proc) (there : is_some (runner_of w p) ≡ true) where
   -- where no handler is due a task makes the call
-  pub by_task : is_some (handler w p) ≡ false → FromTask w p
+  by_task : is_some (handler w p) ≡ false → FromTask w p
   by_task none = record { handler = none; running = some_runs (handler w p) (processor w p).running none there }
 
   module _ (x : ProcessorReported) (h : Sees w p x) where
@@ -128,3 +128,11 @@ module _ {Q : Type 0} (w : World Q) (p : Proc) (there : is_some (runner_of w p) 
     misplaced_same (call.Task (tasks.SusTsk id)) = of_caller (tasks.SusTsk id) (caller_same id) refl refl
     misplaced_same (call.Task (tasks.MigTsk id to)) = of_caller (tasks.MigTsk id to) (caller_same id) refl refl
     misplaced_same c = by_parts c refl
+
+-- what is in place, and only a task may make, is made by a task
+pub from_there : {Q : Type 0} (w : World Q) (p : Proc) (x : ProcessorReported) → Sees w p x → is_some (runner_of w p) ≡ true → (y : Call) →
+    is_misplaced x (runner_of w p) y ≡ false → is_for_all y ≡ false → is_for_handlers y ≡ false → FromTask w p
+from_there w p x sees there y placed all handlers =
+    let wrong : is_not_for (runner_of w p) y ≡ false = (or_parts _ _ (or_parts _ _ placed).0).0 in
+    let none : is_handler (runner_of w p) ≡ false = rw (all, handlers) at wrong in
+    by_task w p there (sym sees.handler ∙ none)
