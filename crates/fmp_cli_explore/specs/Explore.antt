@@ -70,9 +70,9 @@ pub record Asks (rows : List Row) (r : ExploreRequest) : Type 0 where
   pub drift : IsBound (first_of (codes "drift") rows) r.drift
   pub pace : IsBound (first_of (codes "pace") rows) r.pace
   pub spurious : IsFlag (one_of (codes "spurious") rows) r.spurious
-  pub turns : IsTurns (first_of (codes "turns") rows) r.bounds.turns
+  pub turns : IsTurns (first_of (codes "turns") rows) r.bounds.turns.count
   pub says_turns : r.says_turns ≡ is_some (first_of (codes "turns") rows)
-  pub places : IsPlaces (first_of (codes "places") rows) r.bounds.places
+  pub places : IsPlaces (first_of (codes "places") rows) r.bounds.places.count
   pub from : option_map (λ t. t.now) r.from ≡ first_of (codes "from") rows
   pub layer : option_map (λ t. t.now) r.layer ≡ first_of (codes "layer") rows
   pub seconds : IsBound (first_of (codes "seconds") rows) r.seconds

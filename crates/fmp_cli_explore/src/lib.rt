@@ -10,18 +10,17 @@ ghost use Rattle.clap.specs.Words.{app_of, first_of};
 ghost use Rattle.fmp_cli_table.specs.Found.{rows_in, text_of};
 ghost use Rattle.fmp_cli_explore.specs.Explore.{Asks, IsPlaces, IsTurns, explore_line, found_in, has_conflict, has_conflict_of_one};
 
-mod bounds;
 mod numbers;
 mod shrink;
 
 use crate::numbers::{bound_in, places_in, question_in, tick_limit_in, turns_in};
-pub use bounds::Bounds;
 use clap::error::ErrorKind;
 use clap::{ArgMatches, Command, Error};
 use fmp_cli_table::{
     CONFIG_PART, CONTEXT_PART, Form, PROGRESS_PART, Part, SCRIPTS_PART, Title, flag_in, line,
     option_in, text_in,
 };
+use fmp_ranges::{Bounds, Places, Turns};
 use fmp_search_question::is_lasting;
 pub use shrink::{ShrinkRequest, parse_shrink, shrink_command};
 use std::alloc::{AllocError, Global};
@@ -271,12 +270,15 @@ pub fn explore_command<'a>(alloc: Global) -> Result<Command<'a>, AllocError>
 
 /// How far the search goes, if the numbers are within their ranges.
 fn bounds_of<'a>(matches: &ArgMatches<'a>) -> Option<Bounds>
-    ensures turns { IfSome result (λ b. IsTurns (first_of (codes "turns") (rows_in matches.now)) b.turns) }
-    ensures places { IfSome result (λ b. IsPlaces (first_of (codes "places") (rows_in matches.now)) b.places) }
+    ensures turns { IfSome result (λ b. IsTurns (first_of (codes "turns") (rows_in matches.now)) b.turns.count) }
+    ensures places { IfSome result (λ b. IsPlaces (first_of (codes "places") (rows_in matches.now)) b.places.count) }
 {
     let turns = turns_in(option_in(matches, "turns"))?;
     let places = places_in(option_in(matches, "places"))?;
-    Some(Bounds { turns, places })
+    Some(Bounds {
+        turns: Turns { count: turns },
+        places: Places { count: places },
+    })
 }
 
 /// The request that the matches are, if its numbers are within their ranges: each of its parts is what they have under one name.

@@ -9,7 +9,7 @@ use Rattle.clap.specs.declared.builder.command.Command.{Command}
 use Rattle.clap.specs.declared.parser.matches.ArgMatches.{ArgMatches}
 use Rattle.fmp_cli_table.specs.declared.colours.Colour.{Colour}
 use Rattle.fmp_cli_table.specs.declared.colours.Colour.TheVariants.{Auto, Always, Never, Other}
-use Rattle.fmp_cli_table.specs.declared.limits.Limits.{Limits}
+use Rattle.fmp_ranges.specs.declared.Limits.{Limits}
 use Rattle.fmp_cli_table.specs.declared.SmpRequest.{SmpRequest}
 use Rattle.fmp_cli_table.specs.Found.{IsFlag}
 use Rattle.fmp_cli_table.specs.Numbers.{IsNumberIn, number_of}
@@ -92,8 +92,8 @@ pub record GivesAll (m : ArgMatches) : Type 0 where
 
 -- the limits are the numbers of these two ids, each its own
 pub record AsksLimits (rows : List Row) (l : Limits) : Type 0 where
-  pub ticks : option_map number_of (one_of (codes "ticks") rows) ≡ Some l.ticks
-  pub turns : option_map number_of (one_of (codes "turns") rows) ≡ Some l.turns
+  pub ticks : option_map number_of (one_of (codes "ticks") rows) ≡ Some l.ticks.count
+  pub turns : option_map number_of (one_of (codes "turns") rows) ≡ Some l.turns.count
 
 -- the request is what was found: each of its parts is that of one id
 pub record Asks (rows : List Row) (r : SmpRequest) : Type 0 where

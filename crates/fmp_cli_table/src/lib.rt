@@ -13,14 +13,13 @@ ghost use Rattle.fmp_cli_table.specs.Smp.{Asks, AsksLimits, GivesAll, GivesLimit
 
 mod colours;
 mod found;
-mod limits;
 mod parts;
 mod seeds;
 
 use clap::{ArgMatches, Command, Error};
 pub use colours::{Colour, colour_of};
+use fmp_ranges::{Limits, Ticks, Turns};
 pub use found::{flag_in, matched, option_in, text_in};
-pub use limits::Limits;
 pub use parts::{
     COLOUR_PART, CONFIG_PART, CONTEXT_PART, EVENTS_PART, Form, PROGRESS_PART, Part, SCRIPTS_PART,
     SECONDS_PART, Title, line,
@@ -177,7 +176,10 @@ fn limits_of<'a>(matches: &ArgMatches<'a>) -> Limits
 {
     let ticks = matches.get_one::<u32>("ticks").unwrap();
     let turns = matches.get_one::<u32>("turns").unwrap();
-    Limits { ticks, turns }
+    Limits {
+        ticks: Ticks { count: ticks },
+        turns: Turns { count: turns },
+    }
 }
 
 /// The request that the matches are: each of its parts is what they have under one name.

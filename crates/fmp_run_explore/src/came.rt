@@ -1,10 +1,11 @@
 //! How many steps of a question come, where no order shows all of them.
-ghost use Rattle.std.specs.Prelude.{◌-◌, ◌≤◌, IfOk};
+ghost use Rattle.std.specs.Prelude.{◌-◌, IfOk};
 ghost use Rattle.fmp_search_orders.specs.Shown.{NoneShows};
 ghost use Rattle.fmp_run_explore.specs.Came as spec;
 
 use crate::finding::Finding;
 use crate::layer::Layer;
+use fmp_ranges::Bounds;
 use fmp_search::Progress;
 use std::alloc::{AllocError, Global};
 
@@ -15,13 +16,10 @@ impl Layer {
         &self,
         alloc: Global,
         progress: &mut P,
-        turns: u32,
-        places: u32,
+        bounds: Bounds,
     ) -> Result<Option<usize>, AllocError>
         requires none { NoneShows self.now.config self.now.scripts self.now.rules self.now.question }
-        requires turns { turns ≤ 1000000 }
-        requires places { 1 ≤ places }
-        ensures { IfOk result (spec.IsCome self.now turns (places - 1) (P.over progress.new)) }
+        ensures { IfOk result (spec.IsCome self.now bounds.turns.count (bounds.places.count - 1) (P.over progress.new)) }
     {
         let question = self.question();
         let mut come: usize = 0;
@@ -29,7 +27,7 @@ impl Layer {
         while beyond - come > 1 {
             let middle = come + (beyond - come) / 2;
             let first = question.first(alloc, middle)?;
-            let found = self.finding(alloc, &first, progress, turns, places)?;
+            let found = self.finding(alloc, &first, progress, bounds)?;
             match found {
                 Finding::Shown => come = middle,
                 Finding::Never => beyond = middle,

@@ -1,5 +1,5 @@
 //! The orders from which a search is to go on.
-ghost use Rattle.std.specs.Prelude.{◌≡◌, ◌-◌, ◌<◌, ◌≤◌, ℕ, List, length, IfOk};
+ghost use Rattle.std.specs.Prelude.{◌≡◌, ◌-◌, ◌<◌, ℕ, List, length, IfOk};
 ghost use Rattle.fmp_text_scripts.specs.Scripts.{AreInBits};
 ghost use Rattle.fmp_search_orders.specs.Places as places;
 ghost use Rattle.fmp_search_orders.specs.Shown.{NoneShows};
@@ -10,9 +10,11 @@ ghost use Rattle.fmp_run_explore.specs.Views.{layer_of, trace_of, CanBeMade};
 
 use crate::asking::Asked;
 use crate::finding::Finding;
+use crate::orders::Orders;
 use crate::searching::found;
 use crate::telling::trace_along;
 use fmp_names::Names;
+use fmp_ranges::Bounds;
 use fmp_rules::Config;
 use fmp_search::{Extent, Progress, Roots};
 use fmp_search_kernel::is_so_at_boot;
@@ -70,14 +72,12 @@ impl Layer {
     {
         let steps = self.roots.steps(alloc, at)?;
         let asked = &self.asked;
-        trace_along(
-            alloc,
-            &asked.config,
-            &asked.scripts,
-            self.rules,
-            &asked.question,
-            &steps,
-        )
+        let orders = Orders {
+            config: &asked.config,
+            scripts: &asked.scripts,
+            rules: self.rules,
+        };
+        trace_along(alloc, &orders, &asked.question, &steps)
     }
 
     /// The names of the machine.
@@ -114,25 +114,19 @@ impl Layer {
         alloc: Global,
         question: &Question,
         progress: &mut P,
-        turns: u32,
-        places: u32,
+        bounds: Bounds,
     ) -> Result<Finding, AllocError>
-        requires turns { turns ≤ 1000000 }
-        requires places { 1 ≤ places }
-        ensures finds { IfOk result (λ f. (text : List ℕ) × Finds self.now.config self.now.scripts self.now.rules question.now turns (places - 1) text f) }
+        ensures finds { IfOk result (λ f. (text : List ℕ) × Finds self.now.config self.now.scripts self.now.rules question.now bounds.turns.count
+            (bounds.places.count - 1) text f) }
         ensures ended { IfOk result (λ f. IsEndedBy (P.over progress.new) f) }
     {
         let asked = &self.asked;
-        let report = found(
-            alloc,
-            &asked.config,
-            &asked.scripts,
-            self.rules,
-            question,
-            progress,
-            turns,
-            places - 1,
-        )?;
+        let orders = Orders {
+            config: &asked.config,
+            scripts: &asked.scripts,
+            rules: self.rules,
+        };
+        let report = found(alloc, &orders, question, progress, bounds)?;
         Ok(report.finding)
     }
 }

@@ -1,5 +1,5 @@
 //! The search through all orders of one machine, its scripts and a question.
-ghost use Rattle.std.specs.Prelude.{◌≡◌, ◌≤◌, ◌<◌, ◌^◌, IfOk};
+ghost use Rattle.std.specs.Prelude.{◌≡◌, ◌-◌, IfOk};
 ghost use Rattle.fmp_text_scripts.specs.Scripts.{AreInBits};
 ghost use Rattle.fmp_search.specs.Answers.{IsEndedBy as IsAnswerEndedBy, Says};
 ghost use Rattle.fmp_search.specs.Extents.{Went};
@@ -12,13 +12,13 @@ ghost use Rattle.fmp_run_explore.specs.Left.{Leaves};
 ghost use Rattle.fmp_run_explore.specs.Views.{layer_of, CanBeMade};
 
 use crate::finding::Finding;
+use crate::orders::Orders;
 use crate::telling::{never, not_within, trace_along};
-use fmp_rules::Config;
+use fmp_ranges::Bounds;
 use fmp_search::{Answer, Extent, Progress, Roots, Space, explore_measured};
 use fmp_search_kernel::Walker;
-use fmp_search_orders::{Rules, places_answer, roots_answer};
+use fmp_search_orders::{places_answer, roots_answer};
 use fmp_search_pattern::Question;
-use fmp_text_scripts::Scripts;
 use std::alloc::{AllocError, Global};
 
 /// What is known of all orders, the text that tells it, the steps from which the search is to go on, and how far it went.
@@ -32,16 +32,14 @@ pub(crate) struct Report {
 
 /// Two walkers where all runs begin.
 pub fn two_walkers<'a>(
-    config: &'a Config,
-    scripts: &'a Scripts,
-    rules: Rules,
+    orders: &Orders<'a>,
     question: &'a Question,
 ) -> Result<(Walker<'a>, Walker<'a>), AllocError>
-    ensures first { IfOk result (λ r. r.0.place ≡ places.origin config.entry.now scripts.entry.now rules question.entry.now) }
-    ensures second { IfOk result (λ r. r.1.place ≡ places.origin config.entry.now scripts.entry.now rules question.entry.now) }
+    ensures first { IfOk result (λ r. r.0.place ≡ places.origin orders.now.config.now orders.now.scripts.now orders.now.rules question.entry.now) }
+    ensures second { IfOk result (λ r. r.1.place ≡ places.origin orders.now.config.now orders.now.scripts.now orders.now.rules question.entry.now) }
 {
-    let first = Walker::new(config, scripts, rules, question)?;
-    let second = Walker::new(config, scripts, rules, question)?;
+    let first = Walker::new(orders.config, orders.scripts, orders.rules, question)?;
+    let second = Walker::new(orders.config, orders.scripts, orders.rules, question)?;
     Ok((first, second))
 }
 
@@ -52,13 +50,11 @@ fn explored<W: Space + Drop, P: Progress>(
     walkers: (W, W),
     others: (W, W),
     progress: &mut P,
-    turns: u32,
-    more: u32,
+    bounds: Bounds,
 ) -> Result<(Answer, Roots, Option<Extent>), AllocError>
     requires origins { (W.origin walkers.1 ≡ W.origin walkers.0) × (W.origin others.0 ≡ W.origin walkers.0) × (W.origin others.1 ≡ W.origin walkers.0) }
-    requires turns { turns < 2 ^ 31 }
-    ensures says { IfOk result (λ r. Says W.after W.wanted (W.origin walkers.0) turns more r.0) }
-    ensures leaves { IfOk result (λ r. LeavesRoots W.after W.wanted (W.origin walkers.0) turns r.0 r.1) }
+    ensures says { IfOk result (λ r. Says W.after W.wanted (W.origin walkers.0) bounds.turns.count (bounds.places.count - 1) r.0) }
+    ensures leaves { IfOk result (λ r. LeavesRoots W.after W.wanted (W.origin walkers.0) bounds.turns.count r.0 r.1) }
     ensures went { IfOk result (λ r. Went W.after (W.origin walkers.0) r.0 r.2) }
     ensures ended { IfOk result (λ r. IsAnswerEndedBy (P.over progress.new) r.0) }
 {
@@ -71,63 +67,56 @@ fn explored<W: Space + Drop, P: Progress>(
         &mut other,
         &mut trunk,
         progress,
-        turns,
-        more,
+        bounds.turns.count,
+        bounds.places.count - 1,
     )
 }
 
-/// What is known of all runs over places, with room for so many besides the first, the places that were found last, and how far the search went.
+/// What is known of all runs over places, as far as the bounds say, the places that were found last, and how far the search went.
 fn answered<P: Progress>(
     alloc: Global,
-    config: &Config,
-    scripts: &Scripts,
-    rules: Rules,
+    orders: &Orders<'_>,
     question: &Question,
     progress: &mut P,
-    turns: u32,
-    more: u32,
+    bounds: Bounds,
 ) -> Result<(Answer, Roots, Option<Extent>), AllocError>
-    requires { turns < 2 ^ 31 }
-    ensures says { IfOk result (λ r. Says places.after is_seen (places.origin config.now scripts.now rules question.now) turns more r.0) }
-    ensures leaves { IfOk result (λ r. LeavesRoots places.after is_seen (places.origin config.now scripts.now rules question.now) turns r.0 r.1) }
-    ensures went { IfOk result (λ r. Went places.after (places.origin config.now scripts.now rules question.now) r.0 r.2) }
+    ensures says { IfOk result (λ r. Says places.after is_seen
+        (places.origin orders.now.config.now orders.now.scripts.now orders.now.rules question.now) bounds.turns.count (bounds.places.count - 1) r.0) }
+    ensures leaves { IfOk result (λ r. LeavesRoots places.after is_seen
+        (places.origin orders.now.config.now orders.now.scripts.now orders.now.rules question.now) bounds.turns.count r.0 r.1) }
+    ensures went { IfOk result (λ r. Went places.after (places.origin orders.now.config.now orders.now.scripts.now orders.now.rules question.now) r.0 r.2) }
     ensures ended { IfOk result (λ r. IsAnswerEndedBy (P.over progress.new) r.0) }
 {
-    let walkers = two_walkers(config, scripts, rules, question)?;
-    let others = two_walkers(config, scripts, rules, question)?;
-    explored(alloc, walkers, others, progress, turns, more)
+    let walkers = two_walkers(orders, question)?;
+    let others = two_walkers(orders, question)?;
+    explored(alloc, walkers, others, progress, bounds)
 }
 
-/// What is known of all orders, with the text that tells it and what is left to go on from. There is room for so many places besides the
-/// first. The error is want of memory.
+/// What is known of all orders, with the text that tells it and what is left to go on from. The error is want of memory.
 pub(crate) fn found<P: Progress>(
     alloc: Global,
-    config: &Config,
-    scripts: &Scripts,
-    rules: Rules,
+    orders: &Orders<'_>,
     question: &Question,
     progress: &mut P,
-    turns: u32,
-    more: u32,
+    bounds: Bounds,
 ) -> Result<Report, AllocError>
-    requires turns { turns ≤ 1000000 }
-    requires in_bits { AreInBits scripts.now }
-    ensures finds { IfOk result (λ r. Finds config.now scripts.now rules question.now turns more r.text.items r.finding) }
-    ensures leaves { IfOk result (λ r. Leaves turns r.finding (layer_of config.now scripts.now rules question.now r.roots)) }
-    ensures made { IfOk result (λ r. CanBeMade (places.origin config.now scripts.now rules question.now) r.roots) }
-    ensures went { IfOk result (λ r. IsGone (layer_of config.now scripts.now rules question.now r.roots) r.finding r.extent) }
+    requires in_bits { AreInBits orders.now.scripts.now }
+    ensures finds { IfOk result (λ r. Finds orders.now.config.now orders.now.scripts.now orders.now.rules question.now bounds.turns.count
+        (bounds.places.count - 1) r.text.items r.finding) }
+    ensures leaves { IfOk result (λ r. Leaves bounds.turns.count r.finding
+        (layer_of orders.now.config.now orders.now.scripts.now orders.now.rules question.now r.roots)) }
+    ensures made { IfOk result (λ r. CanBeMade (places.origin orders.now.config.now orders.now.scripts.now orders.now.rules question.now) r.roots) }
+    ensures went { IfOk result (λ r. IsGone (layer_of orders.now.config.now orders.now.scripts.now orders.now.rules question.now r.roots) r.finding r.extent) }
     ensures ended { IfOk result (λ r. IsEndedBy (P.over progress.new) r.finding) }
 {
-    let names = config.names();
+    let names = orders.config.names();
     names.validity();
     places_answer();
     roots_answer();
-    let (answer, roots, extent) = answered(
-        alloc, config, scripts, rules, question, progress, turns, more,
-    )?;
+    let (answer, roots, extent) = answered(alloc, orders, question, progress, bounds)?;
     match answer {
         Answer::Found(steps) => {
-            let text = trace_along(alloc, config, scripts, rules, question, &steps)?;
+            let text = trace_along(alloc, orders, question, &steps)?;
             Ok(Report {
                 finding: Finding::Shown,
                 text,

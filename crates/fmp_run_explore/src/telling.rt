@@ -1,15 +1,13 @@
 //! The text that tells what was found.
-ghost use Rattle.std.specs.Prelude.{◌≡◌, ◌≤◌, ◌++◌, length, IfOk, codes, decimal, is_some, true};
+ghost use Rattle.std.specs.Prelude.{◌≡◌, ◌<◌, ◌^◌, ◌++◌, length, IfOk, codes, decimal, is_some, true};
 ghost use Rattle.fmp_search.specs.Runs.{run};
 ghost use Rattle.fmp_search_orders.specs.Places as places;
 ghost use Rattle.fmp_trace.specs.Lines.{lines_from};
 
-use fmp_rules::Config;
+use crate::orders::Orders;
 use fmp_search::Space;
 use fmp_search_kernel::Walker;
-use fmp_search_orders::Rules;
 use fmp_search_pattern::Question;
-use fmp_text_scripts::Scripts;
 use fmp_trace::put_line;
 use itoa::Buffer;
 use std::alloc::{AllocError, Global};
@@ -17,18 +15,17 @@ use std::alloc::{AllocError, Global};
 /// The trace of what happens along these steps, which can be made one after the other.
 pub fn trace_along(
     alloc: Global,
-    config: &Config,
-    scripts: &Scripts,
-    rules: Rules,
+    orders: &Orders<'_>,
     question: &Question,
     steps: &[u8],
 ) -> Result<Vec<u8>, AllocError>
-    requires leads { is_some (run places.after (places.origin config.now scripts.now rules question.now) steps.now) ≡ true }
-    requires few { length steps.now ≤ 1000000 }
-    ensures { IfOk result (λ text. text.items ≡ lines_from config.now.names 1 (places.records (places.origin config.now scripts.now rules question.now) steps.now)) }
+    requires leads { is_some (run places.after (places.origin orders.now.config.now orders.now.scripts.now orders.now.rules question.now) steps.now) ≡ true }
+    requires few { length steps.now < 2 ^ 31 }
+    ensures { IfOk result (λ text. text.items ≡ lines_from orders.now.config.now.names 1 (places.records
+        (places.origin orders.now.config.now orders.now.scripts.now orders.now.rules question.now) steps.now)) }
 {
-    let names = config.names();
-    let mut walker = Walker::new(config, scripts, rules, question)?;
+    let names = orders.config.names();
+    let mut walker = Walker::new(orders.config, orders.scripts, orders.rules, question)?;
     walker.restart()?;
     let mut out = Vec::new(alloc);
     let mut n: u32 = 0;

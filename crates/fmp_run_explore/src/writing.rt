@@ -1,5 +1,5 @@
 //! The search for what was read, and what is written of it.
-ghost use Rattle.std.specs.Prelude.{◌≡◌, ◌≢◌, ◌+◌, ◌-◌, ◌≤◌, ◌<◌, ◌^◌, [], Err, OnOk, IfOk, if◌then◌else◌};
+ghost use Rattle.std.specs.Prelude.{◌≡◌, ◌≢◌, ◌+◌, ◌-◌, ◌<◌, ◌^◌, [], Err, OnOk, IfOk, if◌then◌else◌};
 ghost use Rattle.fmp_run_devices.specs.Devices.{IsKnown, bytes_of};
 ghost use Rattle.fmp_text_scripts.specs.Scripts.{AreInBits};
 ghost use Rattle.fmp_run_explore.specs.Explored.{IsEndedBy, IsPartWritten, IsWritten};
@@ -9,7 +9,9 @@ ghost use Rattle.fmp_run_explore.specs.Faults as faults;
 
 use crate::asking::Asked;
 use crate::layer::{Layer, Outcome};
+use crate::orders::Orders;
 use crate::searching::found;
+use fmp_ranges::Bounds;
 use fmp_run_devices::{Sink, write_out};
 use fmp_search::Progress;
 use fmp_search_orders::Rules;
@@ -25,43 +27,39 @@ pub(crate) enum WriteFault {
     Write,
 }
 
-/// Goes through every order of what was read, and writes what is known of them. There is room for so many places besides the first.
+/// Goes through every order of what was read, and writes what is known of them. It goes as far as the bounds say.
 pub(crate) fn found_written<W: Sink, P: Progress>(
     alloc: Global,
     asked: Asked<Question>,
     rules: Rules,
+    bounds: Bounds,
     output: &mut W,
     progress: &mut P,
-    turns: u32,
-    more: u32,
 ) -> Result<Outcome, WriteFault>
     requires output_calls { W.failures output.old < 2 ^ 64 - 1 }
-    requires turns { turns ≤ 1000000 }
     requires in_bits { AreInBits asked.scripts }
     ensures written { IsKnown (W.written output.old)
-        → IfOk result (λ o. IsWritten asked.config asked.scripts rules asked.question turns more (bytes_of (W.written output.old))
+        → IfOk result (λ o. IsWritten asked.config asked.scripts rules asked.question bounds.turns.count (bounds.places.count - 1)
+        (bytes_of (W.written output.old))
         (bytes_of (W.written output.new)) o.finding) }
-    ensures left { IfOk result (λ o. IsLeft asked.config asked.scripts rules asked.question turns o.finding o.layer) }
+    ensures left { IfOk result (λ o. IsLeft asked.config asked.scripts rules asked.question bounds.turns.count o.finding o.layer) }
     ensures went { IfOk result (λ o. IsGone o.layer o.finding o.extent) }
     ensures ended { IfOk result (λ o. IsEndedBy (P.over progress.new) o.finding) }
     ensures known { IsKnown (W.written output.old) → IsKnown (W.written output.new) }
     ensures passed { OnOk result (W.buffered output.new ≡ []) }
     ensures none_held { W.buffered output.old ≡ [] → result ≢ Err WriteFault.Write → W.buffered output.new ≡ [] }
     ensures part { IsKnown (W.written output.old) → (result ≡ Err WriteFault.Write)
-        → IsPartWritten asked.config asked.scripts rules asked.question turns more (bytes_of (W.written output.old)) (bytes_of (W.written output.new)) }
+        → IsPartWritten asked.config asked.scripts rules asked.question bounds.turns.count (bounds.places.count - 1) (bytes_of (W.written output.old))
+        (bytes_of (W.written output.new)) }
     ensures unwritten { IsKnown (W.written output.old) → (result ≡ Err WriteFault.Memory) → bytes_of (W.written output.new) ≡ bytes_of (W.written output.old) }
     ensures writes { W.failures output.new ≡ W.failures output.old + (if faults.is_unwritten result then 1 else 0) }
 {
-    let report = match found(
-        alloc,
-        &asked.config,
-        &asked.scripts,
+    let orders = Orders {
+        config: &asked.config,
+        scripts: &asked.scripts,
         rules,
-        &asked.question,
-        progress,
-        turns,
-        more,
-    ) {
+    };
+    let report = match found(alloc, &orders, &asked.question, progress, bounds) {
         Ok(report) => report,
         Err(_) => return Err(WriteFault::Memory),
     };

@@ -12,12 +12,10 @@ ghost use Rattle.fmp_run_explore_from.specs.declared.begun.BegunFault.TheVariant
 
 use fmp_codes::Event;
 use fmp_names::Names;
-use fmp_rules::Config;
+use fmp_run_explore::Orders;
 use fmp_search::{Choice, Space};
 use fmp_search_kernel::{Walker, choice_of};
-use fmp_search_orders::Rules;
 use fmp_search_pattern::Question;
-use fmp_text_scripts::Scripts;
 use fmp_trace::{event_of, is_line, next_line};
 use std::alloc::{AllocError, AllocFailed, Global};
 
@@ -90,20 +88,18 @@ fn go_on<'a, 't>(
 /// one that has no step.
 pub(crate) fn begun_choices(
     alloc: Global,
-    config: &Config,
-    scripts: &Scripts,
-    rules: Rules,
+    orders: &Orders<'_>,
     text: &[u8],
 ) -> Result<Vec<Choice>, BegunFault>
-    requires in_bits { AreInBits scripts.now }
+    requires in_bits { AreInBits orders.now.scripts.now }
     requires short { length text.now ≤ most_bytes }
-    ensures begun { IfOk result (λ v. IsBegunBy config.now scripts.now rules text.now v.items) }
-    ensures fault { IfErr result (IsBegunFault config.now scripts.now rules text.now) }
+    ensures begun { IfOk result (λ v. IsBegunBy orders.now.config.now orders.now.scripts.now orders.now.rules text.now v.items) }
+    ensures fault { IfErr result (IsBegunFault orders.now.config.now orders.now.scripts.now orders.now.rules text.now) }
 {
-    let names = config.names();
+    let names = orders.config.names();
     names.validity();
     let nothing = Question::new(Vec::new(alloc));
-    let mut walker = Walker::new(config, scripts, rules, &nothing)?;
+    let mut walker = Walker::new(orders.config, orders.scripts, orders.rules, &nothing)?;
     walker.restart()?;
     let mut scratch = Vec::new(alloc);
     let mut choices = Vec::new(alloc);

@@ -1,5 +1,5 @@
 //! The run through the orders that go on from a trace, from bytes to bytes.
-ghost use Rattle.std.specs.Prelude.{◌≡◌, ◌-◌, ◌≤◌, ◌<◌, ◌^◌, ◌↔◌, Err, IfOk, IfErr, length};
+ghost use Rattle.std.specs.Prelude.{◌≡◌, ◌-◌, ◌<◌, ◌^◌, ◌↔◌, Err, IfOk, IfErr, length};
 ghost use Rattle.fmp_run_devices.specs.Devices.{IsKnown, bytes_of};
 ghost use Rattle.fmp_run_devices.specs.Ends.{sink_ends, source_ends};
 ghost use Rattle.fmp_run_texts.specs.Owed.{WritesOut};
@@ -12,17 +12,16 @@ use crate::begun::BegunFault;
 use crate::fault::FromFault;
 use crate::searching::found_from;
 use fmp_run_devices::{Sink, Source, write_out};
-use fmp_run_explore::{ExploreFault, Finding, StepsAsker, asked_from};
+use fmp_run_explore::{ExploreFault, Finding, Orders, SearchRequest, StepsAsker, asked_from};
 use fmp_run_texts::RunFault;
 use fmp_search::Progress;
-use fmp_search_orders::Rules;
 use fmp_text::MOST_BYTES;
 use std::alloc::Global;
 
-/// Reads a configuration and scripts, goes through every order of what may happen by these rules that goes on from the one whose trace `begun`
-/// is, and writes whether one of them shows what the question asks.
+/// Reads a configuration and scripts, goes through every order of what may happen by the rules of the request that goes on from the one whose trace
+/// `begun` is, and writes whether one of them shows what its question asks.
 ///
-/// An order is looked at from boot on: its first lines are those of `begun`, it has at most so many lines with them, and what is written of it
+/// An order is looked at from boot on: its first lines are those of `begun`, it has at most as many lines with them as the request says, and what is written of it
 /// begins with them. A trace that is too long is refused before anything is read, and one that is no order's of these scripts once the texts
 /// and the question were. For the rest it is as `run_explore`.
 pub fn run_explore_from<R: Source, S: Source, W: Sink, P: Progress>(
@@ -31,26 +30,23 @@ pub fn run_explore_from<R: Source, S: Source, W: Sink, P: Progress>(
     scripts: &mut S,
     begun: &[u8],
     output: &mut W,
-    question: &[u8],
-    rules: Rules,
+    request: &SearchRequest<'_>,
     progress: &mut P,
-    turns: u32,
-    places: u32,
 ) -> Result<Finding, FromFault>
     requires config_calls { R.failures config.old < 2 ^ 64 - 1 }
     requires script_calls { S.failures scripts.old < 2 ^ 64 - 1 }
     requires output_calls { W.failures output.old < 2 ^ 64 - 1 }
-    requires turns { turns ≤ 1000000 }
-    requires places { 1 ≤ places }
 
     // What it owes to both texts, to its question and to its devices, whatever it writes.
-    ensures owes { faults.OwesSearchFrom (λ text. faults.IsQuestionFault text question.now)
+    ensures owes { faults.OwesSearchFrom (λ text. faults.IsQuestionFault text request.now.question.now)
         (source_ends R.left R.failures config.old config.new) (source_ends S.left S.failures scripts.old scripts.new)
         (sink_ends W.written W.buffered W.failures output.old output.new) result }
 
     // What it writes: what is known of all orders that go on from the trace.
-    ensures writes { WritesOut (λ c s. IsExploredFrom c s begun.now question.now rules turns (places - 1))
-        (λ c s. IsBegunFrom c s begun.now question.now rules turns (places - 1)) (FromFault.Explore (ExploreFault.Run RunFault.Write))
+    ensures writes { WritesOut (λ c s. IsExploredFrom c s begun.now request.now.question.now request.now.rules request.now.bounds.turns.count
+        (request.now.bounds.places.count - 1))
+        (λ c s. IsBegunFrom c s begun.now request.now.question.now request.now.rules request.now.bounds.turns.count (request.now.bounds.places.count - 1))
+        (FromFault.Explore (ExploreFault.Run RunFault.Write))
         (source_ends R.left R.failures config.old config.new) (source_ends S.left S.failures scripts.old scripts.new)
         (sink_ends W.written W.buffered W.failures output.old output.new) result }
 
@@ -59,7 +55,7 @@ pub fn run_explore_from<R: Source, S: Source, W: Sink, P: Progress>(
 
     // A line of the trace that no order has is the first one.
     ensures stray { IsKnown (R.left config.old) → IsKnown (S.left scripts.old)
-        → IfErr result (faults.IsStrayFault (bytes_of (R.left config.old)) (bytes_of (S.left scripts.old)) rules begun.now) }
+        → IfErr result (faults.IsStrayFault (bytes_of (R.left config.old)) (bytes_of (S.left scripts.old)) request.now.rules begun.now) }
 
     // A trace is too long whatever the texts are.
     ensures long { (result ≡ Err FromFault.Long) ↔ (most_bytes < length begun.now) }
@@ -67,21 +63,20 @@ pub fn run_explore_from<R: Source, S: Source, W: Sink, P: Progress>(
     if begun.len() > MOST_BYTES {
         return Err(FromFault::Long);
     }
-    let asked = match asked_from(alloc, &StepsAsker { text: question }, config, scripts) {
+    let asker = StepsAsker {
+        text: request.question,
+    };
+    let asked = match asked_from(alloc, &asker, config, scripts) {
         Ok(asked) => asked,
         Err(fault) => return Err(FromFault::Explore(fault)),
     };
-    let (finding, text) = match found_from(
-        alloc,
-        &asked.config,
-        &asked.scripts,
-        rules,
-        begun,
-        &asked.question,
-        progress,
-        turns,
-        places - 1,
-    ) {
+    let orders = Orders {
+        config: &asked.config,
+        scripts: &asked.scripts,
+        rules: request.rules,
+    };
+    let (question, bounds) = (&asked.question, request.bounds);
+    let (finding, text) = match found_from(alloc, &orders, begun, question, progress, bounds) {
         Ok(found) => found,
         Err(BegunFault::Memory) => return Err(FromFault::Explore(ExploreFault::Run(
             RunFault::Memory,

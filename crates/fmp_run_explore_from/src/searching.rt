@@ -1,5 +1,5 @@
 //! The search through the orders of one machine and its scripts that go on from a trace.
-ghost use Rattle.std.specs.Prelude.{◌≡◌, ◌≤◌, ◌<◌, ◌^◌, length, List, IfOk, IfErr};
+ghost use Rattle.std.specs.Prelude.{◌≡◌, ◌-◌, ◌≤◌, length, List, IfOk, IfErr};
 ghost use Rattle.fmp_codes.specs.declared.records.Record.{Record as AnyRecord};
 ghost use Rattle.fmp_text_scripts.specs.Scripts.{AreInBits};
 ghost use Rattle.fmp_text.specs.Limits.{most_bytes};
@@ -14,12 +14,11 @@ ghost use Rattle.fmp_run_explore_from.specs.Explored.{FindsFrom, IsFoundFrom};
 ghost use Rattle.fmp_run_explore_from.specs.Strays.{IsBegunFault};
 
 use crate::begun::{BegunFault, begun_choices};
-use fmp_rules::Config;
-use fmp_run_explore::{Finding, never, not_within, trace_along, two_walkers};
+use fmp_ranges::Bounds;
+use fmp_run_explore::{Finding, Orders, never, not_within, trace_along, two_walkers};
 use fmp_search::{Answer, Choice, Progress, Space, explore_along};
-use fmp_search_orders::{Rules, begun_answer};
+use fmp_search_orders::begun_answer;
 use fmp_search_pattern::Question;
-use fmp_text_scripts::Scripts;
 use std::alloc::{AllocError, Global};
 
 /// What `explore_along` gives, by these two pairs. It is of any space, since in a function of walkers, which borrow what they are asked, the check of
@@ -30,69 +29,61 @@ fn explored_along<W: Space + Drop, P: Progress>(
     others: (W, W),
     choices: &[Choice],
     progress: &mut P,
-    turns: u32,
-    more: u32,
+    bounds: Bounds,
 ) -> Result<Answer, AllocError>
     requires origins { (W.origin walkers.1 ≡ W.origin walkers.0) × (W.origin others.0 ≡ W.origin walkers.0) × (W.origin others.1 ≡ W.origin walkers.0) }
-    requires turns { turns < 2 ^ 31 }
-    ensures says { IfOk result (λ answer. SaysAlong W.after W.wanted (W.origin walkers.0) choices.now turns more answer) }
+    ensures says { IfOk result (λ answer. SaysAlong W.after W.wanted (W.origin walkers.0) choices.now bounds.turns.count (bounds.places.count - 1) answer) }
     ensures ended { IfOk result (IsAnswerEndedBy (P.over progress.new)) }
 {
     let (walker, base) = walkers;
     let (other, trunk) = others;
+    let (turns, more) = (bounds.turns.count, bounds.places.count - 1);
     explore_along(
         alloc, walker, base, other, trunk, choices, progress, turns, more,
     )
 }
 
-/// What is known of all runs over places that begin with a step of each of these choices, with room for so many places besides the first.
+/// What is known of all runs over places that begin with a step of each of these choices, as far as the bounds say.
 fn answered_along<P: Progress>(
     alloc: Global,
-    config: &Config,
-    scripts: &Scripts,
-    rules: Rules,
+    orders: &Orders<'_>,
     question: &Question,
     choices: &[Choice],
     progress: &mut P,
-    turns: u32,
-    more: u32,
+    bounds: Bounds,
 ) -> Result<Answer, AllocError>
-    requires { turns < 2 ^ 31 }
     ensures ended { IfOk result (IsAnswerEndedBy (P.over progress.new)) }
-    ensures says { IfOk result (λ answer. SaysAlong places.after is_seen (places.origin config.now scripts.now rules question.now) choices.now turns more answer) }
+    ensures says { IfOk result (λ answer. SaysAlong places.after is_seen
+        (places.origin orders.now.config.now orders.now.scripts.now orders.now.rules question.now) choices.now bounds.turns.count
+        (bounds.places.count - 1) answer) }
 {
-    let walkers = two_walkers(config, scripts, rules, question)?;
-    let others = two_walkers(config, scripts, rules, question)?;
-    explored_along(alloc, walkers, others, choices, progress, turns, more)
+    let walkers = two_walkers(orders, question)?;
+    let others = two_walkers(orders, question)?;
+    explored_along(alloc, walkers, others, choices, progress, bounds)
 }
 
-/// What is known of all orders that go on from the one whose events have these choices, and the text that tells it. There is room for so
-/// many places besides the first. The error is want of memory.
+/// What is known of all orders that go on from the one whose events have these choices, and the text that tells it. The error is
+/// want of memory.
 fn report_from<P: Progress>(
     alloc: Global,
-    config: &Config,
-    scripts: &Scripts,
-    rules: Rules,
+    orders: &Orders<'_>,
     question: &Question,
     choices: &[Choice],
     progress: &mut P,
-    turns: u32,
-    more: u32,
+    bounds: Bounds,
 ) -> Result<(Finding, Vec<u8>), AllocError>
-    requires turns { turns ≤ 1000000 }
-    requires in_bits { AreInBits scripts.now }
+    requires in_bits { AreInBits orders.now.scripts.now }
     ensures ended { IfOk result (λ r. IsEndedBy (P.over progress.new) r.0) }
-    ensures finds { (begun : List AnyRecord) → IsOrder config.now scripts.now rules begun → choices.now ≡ choices_of begun
-        → IfOk result (λ r. FindsFrom config.now scripts.now rules question.now begun turns more r.1.items r.0) }
+    ensures finds { (begun : List AnyRecord) → IsOrder orders.now.config.now orders.now.scripts.now orders.now.rules begun → choices.now ≡ choices_of begun
+        → IfOk result (λ r. FindsFrom orders.now.config.now orders.now.scripts.now orders.now.rules question.now begun bounds.turns.count
+        (bounds.places.count - 1) r.1.items r.0) }
 {
-    let names = config.names();
+    let names = orders.config.names();
     names.validity();
     begun_answer();
-    match answered_along(
-        alloc, config, scripts, rules, question, choices, progress, turns, more,
-    )? {
+    match answered_along(alloc, orders, question, choices, progress, bounds)? {
         Answer::Found(steps) => {
-            let text = trace_along(alloc, config, scripts, rules, question, &steps)?;
+            let text = trace_along(alloc, orders, question, &steps)?;
             Ok((Finding::Shown, text))
         }
         Answer::Never => Ok((Finding::Never, never(alloc)?)),
@@ -104,33 +95,27 @@ fn report_from<P: Progress>(
 /// What is known of all orders that go on from the one whose trace a text is, and the text that tells it.
 pub(crate) fn found_from<P: Progress>(
     alloc: Global,
-    config: &Config,
-    scripts: &Scripts,
-    rules: Rules,
+    orders: &Orders<'_>,
     begun: &[u8],
     question: &Question,
     progress: &mut P,
-    turns: u32,
-    more: u32,
+    bounds: Bounds,
 ) -> Result<(Finding, Vec<u8>), BegunFault>
-    requires turns { turns ≤ 1000000 }
-    requires in_bits { AreInBits scripts.now }
+    requires in_bits { AreInBits orders.now.scripts.now }
     requires short { length begun.now ≤ most_bytes }
-    ensures found { IfOk result (λ r. IsFoundFrom config.now scripts.now rules begun.now question.now turns more r.1.items r.0) }
+    ensures found { IfOk result (λ r. IsFoundFrom orders.now.config.now orders.now.scripts.now orders.now.rules begun.now question.now bounds.turns.count
+        (bounds.places.count - 1) r.1.items r.0) }
     ensures ended { IfOk result (λ r. IsEndedBy (P.over progress.new) r.0) }
-    ensures fault { IfErr result (IsBegunFault config.now scripts.now rules begun.now) }
+    ensures fault { IfErr result (IsBegunFault orders.now.config.now orders.now.scripts.now orders.now.rules begun.now) }
 {
-    let choices = begun_choices(alloc, config, scripts, rules, begun)?;
+    let choices = begun_choices(alloc, orders, begun)?;
     let report = report_from(
         alloc,
-        config,
-        scripts,
-        rules,
+        orders,
         question,
         choices.as_slice(),
         progress,
-        turns,
-        more,
+        bounds,
     )?;
     Ok(report)
 }

@@ -1,5 +1,5 @@
 //! The run through all orders for what stays, from bytes to bytes.
-ghost use Rattle.std.specs.Prelude.{◌-◌, ◌≤◌, ◌<◌, ◌^◌, IfOk};
+ghost use Rattle.std.specs.Prelude.{◌-◌, ◌<◌, ◌^◌, IfOk};
 ghost use Rattle.fmp_run_devices.specs.Devices.{IsKnown, bytes_of};
 ghost use Rattle.fmp_run_devices.specs.Ends.{sink_ends, source_ends};
 ghost use Rattle.fmp_run_texts.specs.Owed.{WritesOut};
@@ -13,53 +13,52 @@ use crate::asking::LastingAsker;
 use crate::staying::Stayed;
 use crate::writing::{WriteFault, found_written};
 use fmp_run_devices::{Sink, Source};
-use fmp_run_explore::{ExploreFault, asked_from};
+use fmp_run_explore::{ExploreFault, SearchRequest, asked_from};
 use fmp_run_texts::RunFault;
 use fmp_search::Progress;
-use fmp_search_orders::Rules;
 use std::alloc::Global;
 
-/// Reads a configuration and scripts, goes through every order of what may happen by these rules, and writes whether one of them ends so that
-/// something that the question asks stays for ever.
+/// Reads a configuration and scripts, goes through every order of what may happen by the rules of the request, and writes whether one of them ends so that
+/// something that its question asks stays for ever.
 ///
-/// It looks at orders of at most so many lines, one more for the last, and has room for so many places. It tells how far it has come.
+/// It looks at orders of at most as many lines as the request says, one more for the last, and has room for as many places. It tells how far it has come.
 pub fn run_forever<R: Source, S: Source, W: Sink, P: Progress>(
     alloc: Global,
     config: &mut R,
     scripts: &mut S,
     output: &mut W,
-    question: &[u8],
-    rules: Rules,
+    request: &SearchRequest<'_>,
     progress: &mut P,
-    turns: u32,
-    places: u32,
 ) -> Result<Stayed, ExploreFault>
     requires config_calls { R.failures config.old < 2 ^ 64 - 1 }
     requires script_calls { S.failures scripts.old < 2 ^ 64 - 1 }
     requires output_calls { W.failures output.old < 2 ^ 64 - 1 }
-    requires turns { turns ≤ 1000000 }
-    requires places { 1 ≤ places }
 
     // What it owes to both texts, to its question and to its devices, whatever it writes.
-    ensures owes { OwesSearch faults.IsScriptFault (λ text. asked.IsQuestionFault text question.now)
+    ensures owes { OwesSearch faults.IsScriptFault (λ text. asked.IsQuestionFault text request.now.question.now)
         (source_ends R.left R.failures config.old config.new) (source_ends S.left S.failures scripts.old scripts.new)
         (sink_ends W.written W.buffered W.failures output.old output.new) result }
 
     // What it writes: what is known of all orders.
-    ensures writes { WritesOut (λ c s old new found. IsExplored c s question.now rules turns old new found.asked.question.items found.staying)
-        (λ c s. IsBegun c s question.now rules turns) (ExploreFault.Run RunFault.Write)
+    ensures writes { WritesOut (λ c s old new found. IsExplored c s request.now.question.now request.now.rules request.now.bounds.turns.count old new found.asked.question.items found.staying)
+        (λ c s. IsBegun c s request.now.question.now request.now.rules request.now.bounds.turns.count) (ExploreFault.Run RunFault.Write)
         (source_ends R.left R.failures config.old config.new) (source_ends S.left S.failures scripts.old scripts.new)
         (sink_ends W.written W.buffered W.failures output.old output.new) result }
 
     // It tells how far it went.
     ensures gone { IsKnown (R.left config.old) → IsKnown (S.left scripts.old)
-        → IfOk result (λ s. HasGone (bytes_of (R.left config.old)) (bytes_of (S.left scripts.old)) question.now rules s.asked.question.items s.staying s.extent) }
+        → IfOk result (λ s. HasGone (bytes_of (R.left config.old))
+        (bytes_of (S.left scripts.old)) request.now.question.now request.now.rules s.asked.question.items s.staying s.extent) }
 {
-    let asked = match asked_from(alloc, &LastingAsker { text: question }, config, scripts) {
+    let asker = LastingAsker {
+        text: request.question,
+    };
+    let asked = match asked_from(alloc, &asker, config, scripts) {
         Ok(asked) => asked,
         Err(fault) => return Err(fault),
     };
-    match found_written(alloc, &asked, rules, output, progress, turns, places - 1) {
+    let rules = request.rules;
+    match found_written(alloc, &asked, rules, request.bounds, output, progress) {
         Ok((staying, extent)) => Ok(Stayed {
             staying,
             asked,

@@ -7,8 +7,9 @@ ghost use Rattle.fmp_text_scripts.specs.Scripts.{AreInBits};
 
 use crate::searching::found;
 use crate::staying::Staying;
+use fmp_ranges::Bounds;
 use fmp_run_devices::{Sink, write_out};
-use fmp_run_explore::Asked;
+use fmp_run_explore::{Asked, Orders};
 use fmp_search::{Extent, Progress};
 use fmp_search_orders::Rules;
 use fmp_search_pattern::Moment;
@@ -23,42 +24,37 @@ pub(crate) enum WriteFault {
     Write,
 }
 
-/// Goes through every order of what was read, and writes what is known of them. There is room for so many places besides the first.
+/// Goes through every order of what was read, and writes what is known of them. It goes as far as the bounds say.
 pub(crate) fn found_written<W: Sink, P: Progress>(
     alloc: Global,
     asked: &Asked<Vec<Moment>>,
     rules: Rules,
+    bounds: Bounds,
     output: &mut W,
     progress: &mut P,
-    turns: u32,
-    more: u32,
 ) -> Result<(Staying, Extent), WriteFault>
     requires output_calls { W.failures output.old < 2 ^ 64 - 1 }
-    requires turns { turns ≤ 1000000 }
     requires few { length asked.now.question.items ≤ 64 }
     requires in_bits { AreInBits asked.now.scripts }
     ensures written { IsKnown (W.written output.old)
-        → IfOk result (λ r. IsWritten asked.now.config asked.now.scripts rules asked.now.question.items turns (bytes_of (W.written output.old))
+        → IfOk result (λ r. IsWritten asked.now.config asked.now.scripts rules asked.now.question.items bounds.turns.count (bytes_of (W.written output.old))
         (bytes_of (W.written output.new)) r.0) }
     ensures gone { IfOk result (λ r. IsGone asked.now.config asked.now.scripts rules asked.now.question.items r.0 r.1) }
     ensures known { IsKnown (W.written output.old) → IsKnown (W.written output.new) }
     ensures passed { OnOk result (W.buffered output.new ≡ []) }
     ensures none_held { W.buffered output.old ≡ [] → result ≢ Err WriteFault.Write → W.buffered output.new ≡ [] }
     ensures part { IsKnown (W.written output.old) → (result ≡ Err WriteFault.Write)
-        → IsPartWritten asked.now.config asked.now.scripts rules asked.now.question.items turns (bytes_of (W.written output.old)) (bytes_of (W.written output.new)) }
+        → IsPartWritten asked.now.config asked.now.scripts rules asked.now.question.items bounds.turns.count (bytes_of (W.written output.old))
+        (bytes_of (W.written output.new)) }
     ensures unwritten { IsKnown (W.written output.old) → (result ≡ Err WriteFault.Memory) → bytes_of (W.written output.new) ≡ bytes_of (W.written output.old) }
     ensures writes { W.failures output.new ≡ W.failures output.old + (if is_unwritten result then 1 else 0) }
 {
-    let report = match found(
-        alloc,
-        &asked.config,
-        &asked.scripts,
+    let orders = Orders {
+        config: &asked.config,
+        scripts: &asked.scripts,
         rules,
-        &asked.question,
-        progress,
-        turns,
-        more,
-    ) {
+    };
+    let report = match found(alloc, &orders, &asked.question, progress, bounds) {
         Ok(report) => report,
         Err(_) => return Err(WriteFault::Memory),
     };

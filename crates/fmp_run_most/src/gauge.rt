@@ -4,13 +4,10 @@ ghost use Rattle.fmp_search_orders.specs.Places as places;
 ghost use Rattle.fmp_run_most.specs.Gauged as spec;
 
 use crate::figure::{Figure, is_beyond, value};
-use fmp_rules::Config;
+use crate::sizing::Sizing;
 use fmp_search::Space;
 use fmp_search_kernel::Walker;
-use fmp_search_orders::Rules;
-use fmp_search_pattern::Question;
 use fmp_step_words::Views;
-use fmp_text_scripts::Scripts;
 use std::alloc::AllocError;
 use std::marker::Model;
 
@@ -52,21 +49,14 @@ impl<'a> Model for Gauge<'a> {
 
 impl<'a> Gauge<'a> {
     /// One where all runs begin.
-    pub fn new(
-        config: &'a Config,
-        scripts: &'a Scripts,
-        rules: Rules,
-        none: &'a Question,
-        figures: &'a [Figure],
-        bounds: &'a [u16],
-    ) -> Result<Gauge<'a>, AllocError>
-        requires gauged { (length figures.now ≤ 1024) × (length bounds.now ≡ length figures.now) }
-        ensures { IfOk result (λ g. g.place ≡ spec.gauged figures.entry.now bounds.entry.now
-            (places.origin config.entry.now scripts.entry.now rules none.entry.now)) }
+    pub fn new(sizing: &Sizing<'a>, bounds: &'a [u16]) -> Result<Gauge<'a>, AllocError>
+        requires { length bounds.now ≡ length sizing.now.figures.now }
+        ensures { IfOk result (λ g. g.place ≡ spec.gauged sizing.now.figures.now bounds.entry.now
+            (places.origin sizing.now.config.now sizing.now.scripts.now sizing.now.rules sizing.now.none.now)) }
     {
         Ok(Gauge {
-            walker: Walker::new(config, scripts, rules, none)?,
-            figures,
+            walker: Walker::new(sizing.config, sizing.scripts, sizing.rules, sizing.none)?,
+            figures: sizing.figures,
             bounds,
         })
     }

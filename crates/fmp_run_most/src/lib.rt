@@ -13,6 +13,7 @@ mod gauge;
 mod raising;
 mod run;
 mod settling;
+mod sizing;
 mod table;
 mod things;
 

@@ -1,13 +1,15 @@
 //! The run for what sizes a system, from bytes to bytes.
-ghost use Rattle.std.specs.Prelude.{◌-◌, ◌≤◌, ◌<◌, ◌^◌, IfOk};
+ghost use Rattle.std.specs.Prelude.{◌-◌, ◌<◌, ◌^◌, IfOk};
 ghost use Rattle.fmp_run_devices.specs.Ends.{sink_ends, source_ends};
 ghost use Rattle.fmp_run_texts.specs.Owed.{OwesTexts, WritesOut};
 ghost use Rattle.fmp_run_texts.specs.Texts.{FirstConfigFault, FirstScriptFault};
 ghost use Rattle.fmp_run_most.specs.Runs.{IsBegun, IsTable, IsTold};
 
 use crate::settling::{Reach, settled, settled_nearer};
+use crate::sizing::Sizing;
 use crate::table::table;
 use crate::things::figures_of;
+use fmp_ranges::Bounds;
 use fmp_rules::Config;
 use fmp_run_devices::{Sink, Source, write_out};
 use fmp_run_texts::{RunFault, ScriptReader, texts_from};
@@ -17,55 +19,53 @@ use fmp_search_pattern::Question;
 use fmp_text_scripts::Scripts;
 use std::alloc::{AllocError, Global};
 
-/// The table of a machine and its scripts, and of which orders it tells. There is room for so many places besides the first. The error is want of memory.
+/// The table of a machine and its scripts, and of which orders it tells. The error is want of memory.
 fn told<P: Progress>(
     alloc: Global,
     config: &Config,
     scripts: &Scripts,
     rules: Rules,
+    bounds: Bounds,
     progress: &mut P,
-    turns: u32,
-    more: u32,
 ) -> Result<(Vec<u8>, Reach), AllocError>
-    requires { turns ≤ 1000000 }
-    ensures { IfOk result (λ r. IsTable config.now scripts.now rules turns r.0.items r.1) }
+    ensures { IfOk result (λ r. IsTable config.now scripts.now rules bounds.turns.count r.0.items r.1) }
 {
     let none = Question::new(Vec::new(alloc));
     let figures = figures_of(alloc, config)?;
-    let (bounds, reach) = settled(
-        alloc, config, scripts, rules, &none, &figures, progress, turns, more,
-    )?;
-    let bounds = settled_nearer(
-        alloc, config, scripts, rules, &none, &figures, bounds, reach, progress, turns, more,
-    )?;
+    let sizing = Sizing {
+        config,
+        scripts,
+        rules,
+        none: &none,
+        figures: &figures,
+    };
+    let (most, reach) = settled(alloc, &sizing, progress, bounds)?;
+    let most = settled_nearer(alloc, &sizing, most, reach, progress, bounds)?;
     let text = table(
         alloc,
         config,
         matches!(reach, Reach::Whole),
         &figures,
-        &bounds,
+        &most,
     )?;
     Ok((text, reach))
 }
 
 /// Reads a configuration and scripts, goes through every order of what may happen by these rules, and writes how far each figure goes.
 ///
-/// It looks at orders of at most so many lines, and has room for so many places. It tells `progress` how far it has come, which may end it.
+/// It looks at orders of at most as many lines, and has room for as many places as the bounds say. It tells `progress` how far it has come, which may end it.
 pub fn run_most<R: Source, S: Source, W: Sink, P: Progress>(
     alloc: Global,
     config: &mut R,
     scripts: &mut S,
     output: &mut W,
     rules: Rules,
+    bounds: Bounds,
     progress: &mut P,
-    turns: u32,
-    places: u32,
 ) -> Result<Reach, RunFault>
     requires config_calls { R.failures config.old < 2 ^ 64 - 1 }
     requires script_calls { S.failures scripts.old < 2 ^ 64 - 1 }
     requires output_calls { W.failures output.old < 2 ^ 64 - 1 }
-    requires turns { turns ≤ 1000000 }
-    requires places { 1 ≤ places }
 
     // What it owes to both texts and to its devices, whatever it writes.
     ensures owes { OwesTexts FirstConfigFault FirstScriptFault
@@ -73,7 +73,7 @@ pub fn run_most<R: Source, S: Source, W: Sink, P: Progress>(
         (sink_ends W.written W.buffered W.failures output.old output.new) result result }
 
     // What it writes: the table of the one text's machine, by the other's scripts.
-    ensures writes { WritesOut (λ c s. IsTold c s rules turns) (λ c s. IsBegun c s rules turns) RunFault.Write
+    ensures writes { WritesOut (λ c s. IsTold c s rules bounds.turns.count) (λ c s. IsBegun c s rules bounds.turns.count) RunFault.Write
         (source_ends R.left R.failures config.old config.new) (source_ends S.left S.failures scripts.old scripts.new)
         (sink_ends W.written W.buffered W.failures output.old output.new) result }
 {
@@ -81,7 +81,7 @@ pub fn run_most<R: Source, S: Source, W: Sink, P: Progress>(
         Ok(texts) => texts,
         Err(fault) => return Err(fault),
     };
-    let (text, reach) = match told(alloc, &machine, &list, rules, progress, turns, places - 1) {
+    let (text, reach) = match told(alloc, &machine, &list, rules, bounds, progress) {
         Ok(told) => told,
         Err(_) => return Err(RunFault::Memory),
     };

@@ -1,5 +1,5 @@
 //! The search for how far each figure goes.
-ghost use Rattle.std.specs.Prelude.{◌≡◌, ◌≤◌, ◌<◌, ◌*◌, ◌^◌, [], IfOk, IfSome, length, map, if◌then◌else◌};
+ghost use Rattle.std.specs.Prelude.{◌≡◌, ◌*◌, [], IfOk, IfSome, length, map, if◌then◌else◌};
 ghost use Rattle.fmp_search.specs.Meeting.{Meets};
 ghost use Rattle.fmp_search_orders.specs.Places as places;
 ghost use Rattle.fmp_run_most.specs.Figures.{value};
@@ -7,16 +7,13 @@ ghost use Rattle.fmp_run_most.specs.Gauged as spec;
 ghost use Rattle.fmp_run_most.specs.Most as known;
 ghost use Rattle.fmp_run_most.specs.Most.{AreMost};
 
-use crate::figure::Figure;
 use crate::gauge::{Gauge, SPAN};
 use crate::raising::raise;
+use crate::sizing::Sizing;
 use crate::things::at_boot;
-use fmp_rules::Config;
+use fmp_ranges::{Bounds, Turns};
 use fmp_run_texts::Status;
 use fmp_search::{Met, Progress, Space, meet};
-use fmp_search_orders::Rules;
-use fmp_search_pattern::Question;
-use fmp_text_scripts::Scripts;
 use std::alloc::{AllocError, Global};
 
 /// Of which orders something is known.
@@ -56,13 +53,11 @@ fn met<W: Space + Drop, P: Progress>(
     walkers: (W, W),
     others: (W, W),
     progress: &mut P,
-    turns: u32,
-    more: u32,
+    within: Bounds,
     count: usize,
 ) -> Result<Option<Met>, AllocError>
     requires origins { (W.origin walkers.1 ≡ W.origin walkers.0) × (W.origin others.0 ≡ W.origin walkers.0) × (W.origin others.1 ≡ W.origin walkers.0) }
-    requires turns { turns < 2 ^ 31 }
-    ensures { IfOk result (λ o. IfSome o (Meets W.after W.passes (W.origin walkers.0) turns count)) }
+    ensures { IfOk result (λ o. IfSome o (Meets W.after W.passes (W.origin walkers.0) within.turns.count count)) }
 {
     let (mut walker, mut base) = walkers;
     let (mut other, mut trunk) = others;
@@ -73,89 +68,70 @@ fn met<W: Space + Drop, P: Progress>(
         &mut other,
         &mut trunk,
         progress,
-        turns,
-        more,
+        within.turns.count,
+        within.places.count - 1,
         count,
     )
 }
 
 /// Two who gauge figures, where all runs begin.
 fn two_gauges<'a>(
-    config: &'a Config,
-    scripts: &'a Scripts,
-    rules: Rules,
-    none: &'a Question,
-    figures: &'a [Figure],
+    sizing: &Sizing<'a>,
     bounds: &'a [u16],
 ) -> Result<(Gauge<'a>, Gauge<'a>), AllocError>
-    requires gauged { (length figures.now ≤ 1024) × (length bounds.now ≡ length figures.now) }
-    ensures first { IfOk result (λ r. r.0.place ≡ spec.gauged figures.entry.now bounds.entry.now
-        (places.origin config.entry.now scripts.entry.now rules none.entry.now)) }
-    ensures second { IfOk result (λ r. r.1.place ≡ spec.gauged figures.entry.now bounds.entry.now
-        (places.origin config.entry.now scripts.entry.now rules none.entry.now)) }
+    requires { length bounds.now ≡ length sizing.now.figures.now }
+    ensures first { IfOk result (λ r. r.0.place ≡ spec.gauged sizing.now.figures.now bounds.entry.now
+        (places.origin sizing.now.config.now sizing.now.scripts.now sizing.now.rules sizing.now.none.now)) }
+    ensures second { IfOk result (λ r. r.1.place ≡ spec.gauged sizing.now.figures.now bounds.entry.now
+        (places.origin sizing.now.config.now sizing.now.scripts.now sizing.now.rules sizing.now.none.now)) }
 {
-    let first = Gauge::new(config, scripts, rules, none, figures, bounds)?;
-    let second = Gauge::new(config, scripts, rules, none, figures, bounds)?;
+    let first = Gauge::new(sizing, bounds)?;
+    let second = Gauge::new(sizing, bounds)?;
     Ok((first, second))
 }
 
-/// Which figures are beyond their bounds after events, the first after each. The question has no steps.
+/// Which figures are beyond their bounds after events, the first after each.
 fn beyond_met<P: Progress>(
     alloc: Global,
-    config: &Config,
-    scripts: &Scripts,
-    rules: Rules,
-    none: &Question,
-    figures: &[Figure],
+    sizing: &Sizing<'_>,
     bounds: &[u16],
     progress: &mut P,
-    turns: u32,
-    more: u32,
+    within: Bounds,
 ) -> Result<Option<Met>, AllocError>
-    requires gauged { (length figures.now ≤ 1024) × (length bounds.now ≡ length figures.now) }
-    requires bare { (turns ≤ 1000000) × (none.now ≡ []) }
+    requires { length bounds.now ≡ length sizing.now.figures.now }
     ensures { IfOk result (λ o. IfSome o (Meets spec.gauged_after spec.gauged_passes
-        (spec.gauged figures.now bounds.now (places.origin config.now scripts.now rules [])) turns (length figures.now * spec.span))) }
+        (spec.gauged sizing.now.figures.now bounds.now (places.origin sizing.now.config.now sizing.now.scripts.now sizing.now.rules [])) within.turns.count
+        (length sizing.now.figures.now * spec.span))) }
 {
-    let walkers = two_gauges(config, scripts, rules, none, figures, bounds)?;
-    let others = two_gauges(config, scripts, rules, none, figures, bounds)?;
-    let count = figures.len() * SPAN as usize;
-    met(alloc, walkers, others, progress, turns, more, count)
+    let walkers = two_gauges(sizing, bounds)?;
+    let others = two_gauges(sizing, bounds)?;
+    let count = sizing.figures.len() * SPAN as usize;
+    met(alloc, walkers, others, progress, within, count)
 }
 
-/// Moves the bounds of figures, which are their numbers at boot, to how far the figures go, and tells of which orders that is. There is room for so many places
-/// besides the first, and the question has no steps. The error is want of memory.
+/// Moves the bounds of figures, which are their numbers at boot, to how far the figures go, and tells of which orders that is. The error is want of
+/// memory.
 fn settle<P: Progress>(
     alloc: Global,
-    config: &Config,
-    scripts: &Scripts,
-    rules: Rules,
-    none: &Question,
-    figures: &[Figure],
+    sizing: &Sizing<'_>,
     bounds: &mut [u16],
     progress: &mut P,
-    turns: u32,
-    more: u32,
+    within: Bounds,
 ) -> Result<Reach, AllocError>
-    requires few { length figures.now ≤ 1024 }
-    requires begin { bounds.old ≡ map (value (places.origin config.now scripts.now rules []).machine) figures.now }
-    requires bare { (turns ≤ 1000000) × (none.now ≡ []) }
-    ensures { IfOk result (λ reach. AreMost config.now scripts.now rules turns reach figures.now bounds.new) }
+    requires begin { bounds.old ≡ map (value (places.origin sizing.now.config.now sizing.now.scripts.now sizing.now.rules []).machine) sizing.now.figures.now }
+    ensures { IfOk result (λ reach. AreMost sizing.now.config.now sizing.now.scripts.now sizing.now.rules within.turns.count reach sizing.now.figures.now bounds.new) }
 {
-    let _names = config.names();
+    let _names = sizing.config.names();
     let mut whole = true;
-    for at in 0..figures.len() {
-        let Some(met) = beyond_met(
-            alloc, config, scripts, rules, none, figures, bounds, progress, turns, more,
-        )?
-        else {
+    for at in 0..sizing.figures.len() {
+        let Some(met) = beyond_met(alloc, sizing, bounds, progress, within)? else {
             return Ok(Reach::Part);
         };
         whole &= met.whole;
         if !met.marks.contains(&true) {
             return Ok(Reach::of(whole));
         }
-        raise(figures, bounds, &met.marks);
+        raise(sizing.figures, bounds, &met.marks);
     }
     Ok(Reach::of(whole))
 }
@@ -163,32 +139,14 @@ fn settle<P: Progress>(
 /// How far the figures go, and of which orders that is, likewise.
 pub(crate) fn settled<P: Progress>(
     alloc: Global,
-    config: &Config,
-    scripts: &Scripts,
-    rules: Rules,
-    none: &Question,
-    figures: &[Figure],
+    sizing: &Sizing<'_>,
     progress: &mut P,
-    turns: u32,
-    more: u32,
+    within: Bounds,
 ) -> Result<(Vec<u16>, Reach), AllocError>
-    requires few { length figures.now ≤ 1024 }
-    requires bare { (turns ≤ 1000000) × (none.now ≡ []) }
-    ensures { IfOk result (λ r. AreMost config.now scripts.now rules turns r.1 figures.now r.0.items) }
+    ensures { IfOk result (λ r. AreMost sizing.now.config.now sizing.now.scripts.now sizing.now.rules within.turns.count r.1 sizing.now.figures.now r.0.items) }
 {
-    let mut bounds = at_boot(alloc, config, figures)?;
-    let reach = settle(
-        alloc,
-        config,
-        scripts,
-        rules,
-        none,
-        figures,
-        &mut bounds,
-        progress,
-        turns,
-        more,
-    )?;
+    let mut bounds = at_boot(alloc, sizing.config, sizing.figures)?;
+    let reach = settle(alloc, sizing, &mut bounds, progress, within)?;
     Ok((bounds, reach))
 }
 
@@ -196,31 +154,26 @@ pub(crate) fn settled<P: Progress>(
 /// where more is not known. The error is want of memory.
 pub(crate) fn settled_nearer<P: Progress>(
     alloc: Global,
-    config: &Config,
-    scripts: &Scripts,
-    rules: Rules,
-    none: &Question,
-    figures: &[Figure],
+    sizing: &Sizing<'_>,
     known: Vec<u16>,
     reach: Reach,
     progress: &mut P,
-    turns: u32,
-    more: u32,
+    within: Bounds,
 ) -> Result<Vec<u16>, AllocError>
-    requires few { length figures.now ≤ 1024 }
-    requires bare { (turns ≤ 1000000) × (none.now ≡ []) }
-    requires known { AreMost config.now scripts.now rules turns reach figures.now known.items }
-    ensures { IfOk result (λ v. AreMost config.now scripts.now rules turns reach figures.now v.items) }
+    requires known { AreMost sizing.now.config.now sizing.now.scripts.now sizing.now.rules within.turns.count reach sizing.now.figures.now known.items }
+    ensures { IfOk result (λ v. AreMost sizing.now.config.now sizing.now.scripts.now sizing.now.rules within.turns.count reach sizing.now.figures.now v.items) }
 {
     if !matches!(reach, Reach::Part) {
         return Ok(known);
     }
     let mut best = known;
     let mut lines = 1;
-    while lines < turns {
-        let (bounds, nearer) = settled(
-            alloc, config, scripts, rules, none, figures, progress, lines, more,
-        )?;
+    while lines < within.turns.count {
+        let fewer = Bounds {
+            turns: Turns { count: lines },
+            places: within.places,
+        };
+        let (bounds, nearer) = settled(alloc, sizing, progress, fewer)?;
         if matches!(nearer, Reach::Part) {
             return Ok(best);
         }

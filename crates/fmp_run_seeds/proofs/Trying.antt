@@ -55,16 +55,15 @@ module _ (seed ticks turns : ℕ) (c : Setup) (scripts : List Steps) (es : List 
   fitting (Drawn drawing) run fit =
       subst (All EventInBits) (sym run.events_are) (order_fits c scripts (drawn.rules_of drawing ticks) fit run.records run.order.in_order)
 
-module _ (runs : SeedRuns) (c : Setup) (scripts : List Steps) (asked : Option (List Step)) (seed : ℕ) (es : List Event) (at : Option ℕ) (comes : Comes runs c scripts asked seed es at)
-    (few_turns : runs.turns ≤ 1000000) where
+module _ (runs : SeedRuns) (c : Setup) (scripts : List Steps) (asked : Option (List Step)) (seed : ℕ) (es : List Event) (at : Option ℕ) (comes : Comes runs c scripts asked seed es at) where
   comes_few : length es ≤ 1000000
-  comes_few = let short = few seed runs.ticks runs.turns c scripts es comes.quiet runs.order comes.run in omega (arith, short, few_turns)
+  comes_few = let few_turns = runs.limits.turns.few in let short = few seed runs.limits.ticks.count runs.limits.turns.count c scripts es comes.quiet runs.order comes.run in omega (arith, short, few_turns)
 
   comes_on : AreOn c.processors es
-  comes_on = events_on seed runs.ticks runs.turns c scripts es comes.quiet runs.order comes.run
+  comes_on = events_on seed runs.limits.ticks.count runs.limits.turns.count c scripts es comes.quiet runs.order comes.run
 
   comes_fitting : AreInBits scripts → All EventInBits es
-  comes_fitting = fitting seed runs.ticks runs.turns c scripts es comes.quiet runs.order comes.run
+  comes_fitting = fitting seed runs.limits.ticks.count runs.limits.turns.count c scripts es comes.quiet runs.order comes.run
 
   module _ (n : ℕ) (within : n ≤ length es) where
     -- so are the first of them
@@ -92,10 +91,10 @@ pub stuck_so : (quiet : Bool) (waiting : List ℕ) → quiet ≡ true → (lengt
 stuck_so quiet waiting is some = rw (is, some) refl
 
 module _ (runs : SeedRuns) (c : Setup) (scripts : List Steps) (seed : ℕ) (in_turn : runs.order ≡ InTurn) (h : List Record) (ended : Ended)
-    (run : IsRunOfSeed seed c scripts runs.ticks runs.turns h ended) (waiting : List ℕ) (tells : waiting ≡ waiting_after c (events_of h)) where
-  of_turn : AreOfSeed runs.order seed c scripts runs.ticks runs.turns (events_of h) (is_quiet ended)
+    (run : IsRunOfSeed seed c scripts runs.limits.ticks.count runs.limits.turns.count h ended) (waiting : List ℕ) (tells : waiting ≡ waiting_after c (events_of h)) where
+  of_turn : AreOfSeed runs.order seed c scripts runs.limits.ticks.count runs.limits.turns.count (events_of h) (is_quiet ended)
   of_turn =
-      subst (λ (o : SeedOrder). AreOfSeed o seed c scripts runs.ticks runs.turns (events_of h) (is_quiet ended)) (sym in_turn) (h, ended, run, refl, refl)
+      subst (λ (o : SeedOrder). AreOfSeed o seed c scripts runs.limits.ticks.count runs.limits.turns.count (events_of h) (is_quiet ended)) (sym in_turn) (h, ended, run, refl, refl)
 
   at_so : (b : Bool) → is_stuck (is_quiet ended) waiting ≡ b
       → cond b (Some (length (events_of h))) None ≡ cond (is_stuck (is_quiet ended) (waiting_after c (events_of h))) (Some (length (events_of h))) None
@@ -121,17 +120,16 @@ asked_short names (Some text) None asks = absurd asks
 asked_short names (Some text) (Some question) asks = question_short names text question asks
 
 -- the front of a run that comes to what is looked for: on the processors, few, and with its trace and its waiting tasks what was found
-module _ (runs : SeedRuns) (c : Setup) (scripts : List Steps) (asked : Option (List Step)) (seed : ℕ) (front : Vec Event) (reaches : Reaches runs c scripts asked seed (Some front))
-    (few_turns : runs.turns ≤ 1000000) where
+module _ (runs : SeedRuns) (c : Setup) (scripts : List Steps) (asked : Option (List Step)) (seed : ℕ) (front : Vec Event) (reaches : Reaches runs c scripts asked seed (Some front)) where
   is_front : front.items ≡ take reaches.1 reaches.0
   is_front = reaches.4
 
   pub front_on : AreOn c.processors front.items
-  front_on = subst (AreOn c.processors) (sym is_front) (first_on runs c scripts asked seed reaches.0 (Some reaches.1) reaches.2 few_turns reaches.1 reaches.3)
+  front_on = subst (AreOn c.processors) (sym is_front) (first_on runs c scripts asked seed reaches.0 (Some reaches.1) reaches.2 reaches.1 reaches.3)
 
   pub front_few : length front.items < 2 ^ 32
   front_few =
-      let most = subst (λ (l : List Event). length l ≤ 1000000) (sym is_front) (first_few runs c scripts asked seed reaches.0 (Some reaches.1) reaches.2 few_turns reaches.1 reaches.3) in
+      let most = subst (λ (l : List Event). length l ≤ 1000000) (sym is_front) (first_few runs c scripts asked seed reaches.0 (Some reaches.1) reaches.2 reaches.1 reaches.3) in
       omega (arith, most)
 
   pub front_found : (text waiting : List ℕ) (line : ℕ) → line ≡ length front.items → IsValid c → AreValid c.names → AreInBits scripts
@@ -144,7 +142,7 @@ module _ (runs : SeedRuns) (c : Setup) (scripts : List Steps) (asked : Option (L
         events = reaches.0;
         comes = reaches.2;
         within = reaches.3;
-        answers = first_trace runs c scripts asked seed reaches.0 (Some reaches.1) reaches.2 few_turns reaches.1 reaches.3 text valid names_valid fit
+        answers = first_trace runs c scripts asked seed reaches.0 (Some reaches.1) reaches.2 reaches.1 reaches.3 text valid names_valid fit
             (prints ∙ ap (λ (l : List Event). lines_from c.names 1 (answers numbered (booted c) l)) is_front);
         tells = tells ∙ ap (waiting_after c) is_front;
       })

@@ -38,13 +38,13 @@ is_stuck quiet waiting = quiet && not (length waiting == 0)
 
 -- after how many events of a run it is what is looked for: after the fewest whose answers show the question, or else after all of them
 abbrev pub IsAt : SeedRuns → Setup → Option (List Step) → List Event → Bool → Option ℕ → Type 0
-IsAt runs c (Some question) events quiet at = IsShownAt c (rules_of runs.order runs.ticks) question events at
+IsAt runs c (Some question) events quiet at = IsShownAt c (rules_of runs.order runs.limits.ticks.count) question events at
 IsAt runs c None events quiet at = at ≡ (if is_stuck quiet (waiting_after c events) then Some (length events) else None)
 
 -- the run of a seed, and after how many of its events it is what is looked for
 pub record Comes (runs : SeedRuns) (c : Setup) (scripts : List Steps) (asked : Option (List Step)) (seed : ℕ) (events : List Event) (at : Option ℕ) : Type 0 where
   pub quiet : Bool
-  pub run : AreOfSeed runs.order seed c scripts runs.ticks runs.turns events quiet
+  pub run : AreOfSeed runs.order seed c scripts runs.limits.ticks.count runs.limits.turns.count events quiet
   pub is_at : IsAt runs c asked events quiet at
 
 -- the run of this seed is not what is looked for

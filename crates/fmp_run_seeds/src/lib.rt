@@ -16,5 +16,5 @@ pub use fmp_run_explore::{ExploreFault, QuestionLine};
 pub use fmp_search_random::Drawing;
 pub use orders::{SeedOrder, SeedRuns};
 pub use progress::SeedProgress;
-pub use run::run_seeds;
+pub use run::{SeedRequest, run_seeds};
 pub use seeking::{SeedFound, SeedSearch};

@@ -1,10 +1,11 @@
 //! The runs of seeds.
-ghost use Rattle.std.specs.Prelude.{◌≡◌, ◌≤◌, Bool, List, length, IfOk};
+ghost use Rattle.std.specs.Prelude.{◌≡◌, Bool, List, length, IfOk};
 ghost use Rattle.fmp_smp_histories.specs.Histories as histories;
 ghost use Rattle.fmp_run_seeds.specs.Orders as spec;
 ghost use Rattle.fmp_run_seeds.specs.Orders.{AreOfSeed};
 
 use fmp_codes::{Answer, Event, Proc, Record};
+use fmp_ranges::Limits;
 use fmp_rules::Config;
 use fmp_search_orders::Rules;
 use fmp_search_random::{Drawing, draw_order};
@@ -26,10 +27,7 @@ pub enum SeedOrder {
 #[derive(Clone, Copy)]
 pub struct SeedRuns {
     pub order: SeedOrder,
-    /// How many ticks each processor takes at most.
-    pub ticks: u32,
-    /// How many events a run has at most.
-    pub turns: u32,
+    pub limits: Limits,
 }
 
 /// A run of a seed.
@@ -43,17 +41,17 @@ pub(crate) struct SeedRun {
 impl SeedRuns {
     /// When the line `end` stands in such a run.
     pub(crate) fn rules(self) -> Rules
-        ensures { result ≡ spec.rules_of self.order self.ticks }
+        ensures { result ≡ spec.rules_of self.order self.limits.ticks.count }
     {
         match self.order {
             SeedOrder::InTurn => Rules {
-                ticks: Some(self.ticks),
+                ticks: Some(self.limits.ticks.count),
                 prompt: true,
                 drift: None,
                 pace: None,
                 spurious: false,
             },
-            SeedOrder::Drawn(drawing) => drawing.rules(self.ticks),
+            SeedOrder::Drawn(drawing) => drawing.rules(self.limits.ticks),
         }
     }
 }
@@ -86,15 +84,12 @@ fn run_in_turn(
     alloc: Global,
     config: &Config,
     scripts: &Scripts,
-    ticks: u32,
-    turns: u32,
+    limits: Limits,
     seed: u64,
 ) -> Result<SeedRun, AllocError>
-    requires ticks { ticks ≤ 1000000 }
-    requires least { 1 ≤ turns }
-    requires most { turns ≤ 1000000 }
-    ensures { IfOk result (λ r. AreOfSeed SeedOrder.InTurn seed config.now scripts.now ticks turns r.events.items r.is_quiet) }
+    ensures { IfOk result (λ r. AreOfSeed SeedOrder.InTurn seed config.now scripts.now limits.ticks.count limits.turns.count r.events.items r.is_quiet) }
 {
+    let (ticks, turns) = (limits.ticks.count, limits.turns.count);
     let run = run_seeded(alloc, config, scripts, ticks, turns, seed)?;
     let events = events_of(alloc, &run.history)?;
     Ok(SeedRun {
@@ -111,17 +106,12 @@ pub(crate) fn run_of_seed(
     runs: SeedRuns,
     seed: u64,
 ) -> Result<SeedRun, AllocError>
-    requires ticks { runs.ticks ≤ 1000000 }
-    requires least { 1 ≤ runs.turns }
-    requires most { runs.turns ≤ 1000000 }
-    ensures { IfOk result (λ r. AreOfSeed runs.order seed config.now scripts.now runs.ticks runs.turns r.events.items r.is_quiet) }
+    ensures { IfOk result (λ r. AreOfSeed runs.order seed config.now scripts.now runs.limits.ticks.count runs.limits.turns.count r.events.items r.is_quiet) }
 {
     match runs.order {
-        SeedOrder::InTurn => run_in_turn(alloc, config, scripts, runs.ticks, runs.turns, seed),
+        SeedOrder::InTurn => run_in_turn(alloc, config, scripts, runs.limits, seed),
         SeedOrder::Drawn(drawing) => {
-            let order = draw_order(
-                alloc, config, scripts, drawing, runs.ticks, runs.turns, seed,
-            )?;
+            let order = draw_order(alloc, config, scripts, drawing, runs.limits, seed)?;
             Ok(SeedRun {
                 events: order.events,
                 is_quiet: order.is_quiet,

@@ -15,6 +15,7 @@ use crate::progress::SeedProgress;
 use fmp_codes::{Answer, Event, Proc, Record};
 use fmp_kernel::Kernel;
 use fmp_rules::Config;
+use fmp_run_explore::Asked;
 use fmp_run_texts::Status;
 use fmp_search_pattern::Question;
 use fmp_search_shrink::shown_at;
@@ -114,12 +115,10 @@ fn stuck_in_turn(
     seed: u64,
 ) -> Result<Option<Vec<Event>>, AllocError>
     requires in_turn { runs.order ≡ SeedOrder.InTurn }
-    requires ticks { runs.ticks ≤ 1000000 }
-    requires least { 1 ≤ runs.turns }
-    requires most { runs.turns ≤ 1000000 }
     ensures { IfOk result (spec.Reaches runs config.now scripts.now None seed) }
 {
-    let run = run_seeded(alloc, config, scripts, runs.ticks, runs.turns, seed)?;
+    let (ticks, turns) = (runs.limits.ticks.count, runs.limits.turns.count);
+    let run = run_seeded(alloc, config, scripts, ticks, turns, seed)?;
     let mut waiting = Vec::new(alloc);
     put_waiting(&mut waiting, config.names(), run.history.last().machine())?;
     let lines = waiting.as_slice();
@@ -138,9 +137,6 @@ fn reached(
     runs: SeedRuns,
     seed: u64,
 ) -> Result<Option<Vec<Event>>, AllocError>
-    requires ticks { runs.ticks ≤ 1000000 }
-    requires least { 1 ≤ runs.turns }
-    requires most { runs.turns ≤ 1000000 }
     requires short { IfSome question.now (λ q. length q ≤ 255) }
     ensures { IfOk result (spec.Reaches runs config.now scripts.now question.now seed) }
 {
@@ -185,9 +181,6 @@ fn found_by(
     runs: SeedRuns,
     seed: u64,
 ) -> Result<Option<(SeedFound, Vec<u8>)>, AllocError>
-    requires ticks { runs.ticks ≤ 1000000 }
-    requires least { 1 ≤ runs.turns }
-    requires most { runs.turns ≤ 1000000 }
     requires short { IfSome question.now (λ q. length q ≤ 255) }
     requires in_bits { AreInBits scripts.now }
     ensures { IfOk result (spec.Tries runs config.now scripts.now question.now seed) }
@@ -215,28 +208,31 @@ fn found_by(
 /// memory.
 pub(crate) fn sought<P: SeedProgress>(
     alloc: Global,
-    config: &Config,
-    scripts: &Scripts,
-    question: &Option<Question>,
+    asked: &Asked<Option<Question>>,
     runs: SeedRuns,
     first: u64,
     last: u64,
     progress: &mut P,
 ) -> Result<(SeedSearch, Vec<u8>), AllocError>
-    requires ticks { runs.ticks ≤ 1000000 }
-    requires least { 1 ≤ runs.turns }
-    requires most { runs.turns ≤ 1000000 }
-    requires short { IfSome question.now (λ q. length q ≤ 255) }
-    requires in_bits { AreInBits scripts.now }
-    ensures seeks { IfOk result (λ r. Seeks runs config.now scripts.now question.now first last r.1.items r.0) }
+    requires short { IfSome asked.now.question (λ q. length q ≤ 255) }
+    requires in_bits { AreInBits asked.now.scripts }
+    ensures seeks { IfOk result (λ r. Seeks runs asked.now.config asked.now.scripts asked.now.question first last r.1.items r.0) }
     ensures ended { IfOk result (λ r. IsEndedBy (P.over progress.new) r.0) }
 {
     if last < first {
         return Ok((SeedSearch::Passed, Vec::new(alloc)));
     }
+    let (config, scripts) = (&asked.config, &asked.scripts);
     for seed in first..last {
         progress.tell(seed);
-        if let Some((found, text)) = found_by(alloc, config, scripts, question, runs, seed)? {
+        if let Some((found, text)) = found_by(
+            alloc,
+            config,
+            scripts,
+            &asked.question,
+            runs,
+            seed,
+        )? {
             return Ok((SeedSearch::Found(found), text));
         }
         if progress.is_over() {
@@ -244,7 +240,7 @@ pub(crate) fn sought<P: SeedProgress>(
         }
     }
     progress.tell(last);
-    match found_by(alloc, config, scripts, question, runs, last)? {
+    match found_by(alloc, config, scripts, &asked.question, runs, last)? {
         Some((found, text)) => Ok((SeedSearch::Found(found), text)),
         None => Ok((SeedSearch::Passed, Vec::new(alloc))),
     }

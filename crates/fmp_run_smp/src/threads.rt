@@ -10,6 +10,7 @@ ghost use Rattle.fmp_run_smp.specs.Scripted as spec;
 ghost use Rattle.fmp_run_smp.specs.Scripted.{InOrder, IsPlayBegun, IsPlayed, IsPlayedToEnd};
 
 use crate::ending::{SmpEnd, write_history};
+use fmp_ranges::{Limits, Ticks, Turns};
 use fmp_rules::Config;
 use fmp_run_devices::{Sink, Source};
 use fmp_run_texts::{RunFault, ScriptReader, texts_from};
@@ -38,18 +39,16 @@ fn run_in_threads<'a, T: Threads + Wait + Sync, G: Gate + Sync>(
     alloc: Global,
     config: &'a Config,
     scripts: &'a Scripts,
-    ticks: u32,
-    turns: u32,
+    limits: Limits,
     gate: &G,
 ) -> Result<SmpRun<'a>, RunFault>
-    requires ticks { ticks ≤ 1000000 }
-    requires least { 1 ≤ turns }
-    requires most { turns ≤ 1000000 }
-    ensures run { IfOk result (λ r. IsSmpRun config.entry.now scripts.entry.now ticks turns r.history.records (map (λ v. v.items) r.receipts.items) r.ended) }
-    ensures ticked { IfOk result (λ r. TicksInTurn config.entry.now ticks r.history.records) }
+    ensures run { IfOk result (λ r. IsSmpRun config.entry.now scripts.entry.now limits.ticks.count limits.turns.count r.history.records
+        (map (λ v. v.items) r.receipts.items) r.ended) }
+    ensures ticked { IfOk result (λ r. TicksInTurn config.entry.now limits.ticks.count r.history.records) }
     ensures configured { IfOk result (λ r. r.history.config ≡ config.entry.now) }
     ensures kinds { IfErr result (λ fault. (is_config fault ≡ false) × (is_text fault ≡ false) × (is_read fault ≡ false) × (is_write fault ≡ false)) }
 {
+    let (ticks, turns) = (limits.ticks.count, limits.turns.count);
     match run_smp(rt, alloc, config, scripts, ticks, turns, gate) {
         Ok(run) => Ok(run),
         Err(fault) => Err(run_fault(fault)),
@@ -62,24 +61,22 @@ fn run_in_order<'a, T: Threads + Wait + Sync, G: Gate + Sync>(
     alloc: Global,
     config: &'a Config,
     scripts: &'a Scripts,
-    ticks: u32,
-    turns: u32,
+    limits: Limits,
     seed: Option<u64>,
     gate: &G,
 ) -> Result<SmpRun<'a>, RunFault>
-    requires ticks { ticks ≤ 1000000 }
-    requires least { 1 ≤ turns }
-    requires most { turns ≤ 1000000 }
-    ensures run { IfOk result (λ r. IsSmpRun config.entry.now scripts.entry.now ticks turns r.history.records (map (λ v. v.items) r.receipts.items) r.ended) }
-    ensures ordered { IfOk result (λ r. InOrder seed config.entry.now scripts.entry.now ticks r.history.records) }
-    ensures ticked { IfOk result (λ r. TicksInTurn config.entry.now ticks r.history.records) }
+    ensures run { IfOk result (λ r. IsSmpRun config.entry.now scripts.entry.now limits.ticks.count limits.turns.count r.history.records
+        (map (λ v. v.items) r.receipts.items) r.ended) }
+    ensures ordered { IfOk result (λ r. InOrder seed config.entry.now scripts.entry.now limits.ticks.count r.history.records) }
+    ensures ticked { IfOk result (λ r. TicksInTurn config.entry.now limits.ticks.count r.history.records) }
     ensures configured { IfOk result (λ r. r.history.config ≡ config.entry.now) }
     ensures kinds { IfErr result (λ fault. (is_config fault ≡ false) × (is_text fault ≡ false) × (is_read fault ≡ false) × (is_write fault ≡ false)) }
     ensures no_thread_fault { IfSome seed (λ number. IfErr result (λ fault. is_thread_fault fault ≡ false)) }
 {
     let Some(seed) = seed else {
-        return run_in_threads(rt, alloc, config, scripts, ticks, turns, gate);
+        return run_in_threads(rt, alloc, config, scripts, limits, gate);
     };
+    let (ticks, turns) = (limits.ticks.count, limits.turns.count);
     match run_seeded(alloc, config, scripts, ticks, turns, seed) {
         Ok(run) => Ok(run),
         Err(_) => Err(RunFault::Memory),
@@ -89,25 +86,21 @@ fn run_in_order<'a, T: Threads + Wait + Sync, G: Gate + Sync>(
 /// Reads a configuration and scripts, has processors follow these, each in a thread of its own, and writes the trace of what happened. Where
 /// a seed is given there are no threads, and the order is the one that it determines: the same texts and numbers give the same trace.
 ///
-/// A clock gives each processor so many ticks. The run ends where all are taken and no processor has anything left to do,
-/// or where it has so many turns. Who waits there is told.
+/// A clock gives each processor as many ticks as the limits say. The run ends where all are taken and no processor has anything left to do,
+/// or where it has as many turns as they say. Who waits there is told.
 pub fn run_scripts<T: Threads + Wait + Sync, R: Source, S: Source, W: Sink, G: Gate + Sync>(
     rt: &T,
     alloc: Global,
     config: &mut R,
     scripts: &mut S,
     trace: &mut W,
-    ticks: u32,
-    turns: u32,
+    limits: Limits,
     seed: Option<u64>,
     gate: &G,
 ) -> Result<SmpEnd, RunFault>
     requires config_calls { R.failures config.old < 2 ^ 64 - 1 }
     requires script_calls { S.failures scripts.old < 2 ^ 64 - 1 }
     requires trace_calls { W.failures trace.old < 2 ^ 64 - 1 }
-    requires ticks { ticks ≤ 1000000 }
-    requires least { 1 ≤ turns }
-    requires most { turns ≤ 1000000 }
 
     // What it owes to both texts and to its devices, whatever it writes.
     ensures owes { OwesTexts FirstConfigFault FirstScriptFault
@@ -116,8 +109,8 @@ pub fn run_scripts<T: Threads + Wait + Sync, R: Source, S: Source, W: Sink, G: G
 
     // What it writes: the trace of a run of the one text's machine by the other's scripts, in the order of the seed where one is given. The lines that
     // are told are those of the tasks that wait at the end of this run.
-    ensures writes { WritesOut (λ c s old new end. IsPlayedToEnd seed c s ticks turns old new end.ended end.waiting.items)
-        (λ c s. IsPlayBegun c s ticks turns) RunFault.Write
+    ensures writes { WritesOut (λ c s old new end. IsPlayedToEnd seed c s limits.ticks.count limits.turns.count old new end.ended end.waiting.items)
+        (λ c s. IsPlayBegun c s limits.ticks.count limits.turns.count) RunFault.Write
         (source_ends R.left R.failures config.old config.new) (source_ends S.left S.failures scripts.old scripts.new)
         (sink_ends W.written W.buffered W.failures trace.old trace.new) result }
 
@@ -125,7 +118,7 @@ pub fn run_scripts<T: Threads + Wait + Sync, R: Source, S: Source, W: Sink, G: G
     ensures no_thread_fault { IfSome seed (λ number. IfErr result (λ fault. is_thread_fault fault ≡ false)) }
 {
     let (machine, list) = texts_from(alloc, &ScriptReader, config, scripts)?;
-    let run = run_in_order(rt, alloc, &machine, &list, ticks, turns, seed, gate)?;
+    let run = run_in_order(rt, alloc, &machine, &list, limits, seed, gate)?;
     drop(run.receipts);
     let names = machine.names();
     names.validity();
@@ -164,7 +157,11 @@ pub fn run_threads<T: Threads + Wait + Sync, R: Source, S: Source, W: Sink, G: G
         (source_ends R.left R.failures config.old config.new) (source_ends S.left S.failures scripts.old scripts.new)
         (sink_ends W.written W.buffered W.failures trace.old trace.new) result }
 {
-    match run_scripts(rt, alloc, config, scripts, trace, ticks, turns, None, gate) {
+    let limits = Limits {
+        ticks: Ticks { count: ticks },
+        turns: Turns { count: turns },
+    };
+    match run_scripts(rt, alloc, config, scripts, trace, limits, None, gate) {
         Ok(end) => Ok(end.ended),
         Err(fault) => Err(fault),
     }

@@ -5,6 +5,7 @@ ghost use Rattle.fmp_search_random.specs.Drawn.{IsDrawn};
 
 use arrayvec::ArrayVec;
 use fmp_codes::Event;
+use fmp_ranges::{Limits, Ticks};
 use fmp_rules::Config;
 use fmp_search::Space;
 use fmp_search_kernel::Walker;
@@ -31,11 +32,11 @@ impl Drawing {
     ghost use Rattle.fmp_search_random.specs.Drawn as spec;
 
     /// The rules of the orders of which one is drawn.
-    pub fn rules(self, ticks: u32) -> Rules
-        ensures { result ≡ spec.rules_of self ticks }
+    pub fn rules(self, ticks: Ticks) -> Rules
+        ensures { result ≡ spec.rules_of self ticks.count }
     {
         Rules {
-            ticks: Some(ticks),
+            ticks: Some(ticks.count),
             prompt: !self.late,
             drift: None,
             pace: None,
@@ -224,26 +225,24 @@ fn go_on(
 /// next bits, for up to 128 events. The second, modulo how many events are left without those of a processor that stands still, is the place
 /// of the one that happens, from 0; where that leaves none, all are taken.
 ///
-/// The order ends where nothing may happen, or with as many events as `turns` says. The error is want of memory, and there is no other.
+/// The order ends where nothing may happen, or with as many events as `limits` say. The error is want of memory, and there is no other.
 pub fn draw_order(
     alloc: Global,
     config: &Config,
     scripts: &Scripts,
     drawing: Drawing,
-    ticks: u32,
-    turns: u32,
+    limits: Limits,
     seed: u64,
 ) -> Result<DrawnOrder, AllocError>
-    requires { turns ≤ 1000000 }
-    ensures { IfOk result (λ d. IsDrawn drawing seed config.now scripts.now ticks turns d.events.items d.is_quiet) }
+    ensures { IfOk result (λ d. IsDrawn drawing seed config.now scripts.now limits.ticks.count limits.turns.count d.events.items d.is_quiet) }
 {
     let processors = config.processors();
     let question = Question::new(Vec::new(alloc));
-    let mut walker = Walker::new(config, scripts, drawing.rules(ticks), &question)?;
+    let mut walker = Walker::new(config, scripts, drawing.rules(limits.ticks), &question)?;
     walker.restart()?;
     let mut draws = Draws::new(drawing.stalls, seed);
     let mut events = Vec::new(alloc);
-    let mut left = turns;
+    let mut left = limits.turns.count;
     while let Some(event) = go_on(alloc, processors, &mut walker, &mut draws, left) {
         events.push(event)?;
         left -= 1;

@@ -1,4 +1,4 @@
-use Rattle.std.proofs.Common.{◌∙◌, IfOk, ap, subst, sym}
+use Rattle.std.proofs.Common.{◌∙◌, ◌-◌, IfOk, ap, subst, sym}
 use Rattle.fmp_search.specs.Answers.{Says}
 use Rattle.fmp_search.specs.Extents.{Went}
 use Rattle.fmp_search.specs.Roots.{Leaves}
@@ -8,20 +8,22 @@ use Rattle.fmp_search_kernel.specs.Walked.{origin_of}
 use Rattle.fmp_run_explore.proofs.searching.answered.Goals as goal
 
 -- all four begin where all runs do
-pub explored-requires-clause-origins : goal.explored-requires-clause-origins
-explored-requires-clause-origins g c = (
-  ap origin_of (c.in_ok-walkers.ensures.second ∙ sym c.in_ok-walkers.ensures.first),
-  ap origin_of (c.in_ok-others.ensures.first ∙ sym c.in_ok-walkers.ensures.first),
-  ap origin_of (c.in_ok-others.ensures.second ∙ sym c.in_ok-walkers.ensures.first),
-)
+pub explored-requires : goal.explored-requires
+explored-requires g c = record {
+  origins = (
+    ap origin_of (c.in_ok-walkers.ensures.second ∙ sym c.in_ok-walkers.ensures.first),
+    ap origin_of (c.in_ok-others.ensures.first ∙ sym c.in_ok-walkers.ensures.first),
+    ap origin_of (c.in_ok-others.ensures.second ∙ sym c.in_ok-walkers.ensures.first),
+  );
+}
 
 pub returns-clause-says : goal.returns-clause-says
 returns-clause-says g c =
-    subst (λ (w : Place). IfOk c.explored.result (λ r. Says after is_seen w c.args.turns c.args.more r.0)) (ap origin_of c.in_ok-walkers.ensures.first) c.explored.ensures.says
+    subst (λ (w : Place). IfOk c.explored.result (λ r. Says after is_seen w c.args.bounds.turns.count (c.args.bounds.places.count - 1) r.0)) (ap origin_of c.in_ok-walkers.ensures.first) c.explored.ensures.says
 
 pub returns-clause-leaves : goal.returns-clause-leaves
 returns-clause-leaves g c =
-    subst (λ (w : Place). IfOk c.explored.result (λ r. Leaves after is_seen w c.args.turns r.0 r.1)) (ap origin_of c.in_ok-walkers.ensures.first) c.explored.ensures.leaves
+    subst (λ (w : Place). IfOk c.explored.result (λ r. Leaves after is_seen w c.args.bounds.turns.count r.0 r.1)) (ap origin_of c.in_ok-walkers.ensures.first) c.explored.ensures.leaves
 
 pub returns-clause-went : goal.returns-clause-went
 returns-clause-went g c = subst (λ (w : Place). IfOk c.explored.result (λ r. Went after w r.0 r.2)) (ap origin_of c.in_ok-walkers.ensures.first) c.explored.ensures.went

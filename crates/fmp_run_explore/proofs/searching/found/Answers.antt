@@ -1,4 +1,4 @@
-use Rattle.std.proofs.Common.{arith, ◌≡◌, ◌∙◌, ◌≤◌, ℕ, true, List, length, ap, subst, sym}
+use Rattle.std.proofs.Common.{arith, ◌≡◌, ◌∙◌, ◌-◌, ◌<◌, ◌^◌, ℕ, true, List, length, ap, subst, sym}
 use Rattle.std.specs.Prelude.{is_some}
 use Rattle.fmp_names.specs.Names.{AreValid}
 use Rattle.fmp_trace.specs.Lines.{lines_from}
@@ -14,108 +14,108 @@ use Rattle.fmp_run_explore.proofs.searching.found.Goals as goal
 
 pub trace_along-requires-clause-leads : goal.trace_along-requires-clause-leads
 trace_along-requires-clause-leads g c =
-    let begin = origin c.args.config.now c.args.scripts.now c.args.rules c.args.question.now in
-    let says = subst (λ a. Says after is_seen begin c.args.turns c.args.more a) c.in-Found.is c.in_ok-answer.ensures.says in
+    let begin = origin c.args.orders.now.config.now c.args.orders.now.scripts.now c.args.orders.now.rules c.args.question.now in
+    let says = subst (λ a. Says after is_seen begin c.args.bounds.turns.count (c.args.bounds.places.count - 1) a) c.in-Found.is c.in_ok-answer.ensures.says in
     subst (λ (steps : List ℕ). is_some (run after begin steps) ≡ true) (sym c.deref.ensures.value) (ap is_some says.1.leads)
 
 pub trace_along-requires-clause-few : goal.trace_along-requires-clause-few
 trace_along-requires-clause-few g c =
-    let begin = origin c.args.config.now c.args.scripts.now c.args.rules c.args.question.now in
-    let says = subst (λ a. Says after is_seen begin c.args.turns c.args.more a) c.in-Found.is c.in_ok-answer.ensures.says in
+    let begin = origin c.args.orders.now.config.now c.args.orders.now.scripts.now c.args.orders.now.rules c.args.question.now in
+    let says = subst (λ a. Says after is_seen begin c.args.bounds.turns.count (c.args.bounds.places.count - 1) a) c.in-Found.is c.in_ok-answer.ensures.says in
     let short = says.0 in
-    let few = c.requires.turns in
-    subst (λ (steps : List ℕ). length steps ≤ 1000000) (sym c.deref.ensures.value) (omega (arith, short, few))
+    let few = c.args.bounds.turns.few in
+    subst (λ (steps : List ℕ). length steps < 2 ^ 31) (sym c.deref.ensures.value) (omega (arith, short, few))
 
 pub returns-in_ok-text-in-Found-clause-leaves : goal.returns-in_ok-text-in-Found-clause-leaves
 returns-in_ok-text-in-Found-clause-leaves g c =
-    let begin = origin c.args.config.now c.args.scripts.now c.args.rules c.args.question.now in
-    none_reported begin c.in_ok-answer.roots (subst (λ a. LeavesRoots after is_seen begin c.args.turns a c.in_ok-answer.roots) c.in-Found.is c.in_ok-answer.ensures.leaves)
+    let begin = origin c.args.orders.now.config.now c.args.orders.now.scripts.now c.args.orders.now.rules c.args.question.now in
+    none_reported begin c.in_ok-answer.roots (subst (λ a. LeavesRoots after is_seen begin c.args.bounds.turns.count a c.in_ok-answer.roots) c.in-Found.is c.in_ok-answer.ensures.leaves)
 
 pub returns-in_ok-never-in-Never-clause-leaves : goal.returns-in_ok-never-in-Never-clause-leaves
 returns-in_ok-never-in-Never-clause-leaves g c =
-    let begin = origin c.args.config.now c.args.scripts.now c.args.rules c.args.question.now in
-    none_reported begin c.in_ok-answer.roots (subst (λ a. LeavesRoots after is_seen begin c.args.turns a c.in_ok-answer.roots) c.in-Never.is c.in_ok-answer.ensures.leaves)
+    let begin = origin c.args.orders.now.config.now c.args.orders.now.scripts.now c.args.orders.now.rules c.args.question.now in
+    none_reported begin c.in_ok-answer.roots (subst (λ a. LeavesRoots after is_seen begin c.args.bounds.turns.count a c.in_ok-answer.roots) c.in-Never.is c.in_ok-answer.ensures.leaves)
 
 pub returns-in_ok-text-in-Found-clause-finds : goal.returns-in_ok-text-in-Found-clause-finds
 returns-in_ok-text-in-Found-clause-finds g c =
-    let config = c.args.config.now in
-    let begin = origin config c.args.scripts.now c.args.rules c.args.question.now in
-    let law = c.places_answer.ensures config c.args.scripts.now c.args.rules c.args.question.now c.names-names.ensures.valid in
-    let says = subst (λ a. Says after is_seen begin c.args.turns c.args.more a) c.in-Found.is c.in_ok-answer.ensures.says in
-    shown config c.args.scripts.now c.args.rules c.args.question.now c.in-Found.steps.items says.1 c.args.turns c.in_ok-text-in-Found.text.items
-    c.names-names.ensures.valid (subst AreValid c.names-names.ensures.value c.validity.ensures) c.requires.in_bits c.requires.turns law says.0
+    let config = c.args.orders.now.config.now in
+    let begin = origin config c.args.orders.now.scripts.now c.args.orders.now.rules c.args.question.now in
+    let law = c.places_answer.ensures config c.args.orders.now.scripts.now c.args.orders.now.rules c.args.question.now c.names-names.ensures.valid in
+    let says = subst (λ a. Says after is_seen begin c.args.bounds.turns.count (c.args.bounds.places.count - 1) a) c.in-Found.is c.in_ok-answer.ensures.says in
+    shown config c.args.orders.now.scripts.now c.args.orders.now.rules c.args.question.now c.in-Found.steps.items says.1 c.args.bounds.turns.count c.in_ok-text-in-Found.text.items
+    c.names-names.ensures.valid (subst AreValid c.names-names.ensures.value c.validity.ensures) c.requires.in_bits c.args.bounds.turns.few law says.0
     (c.in_ok-text-in-Found.ensures ∙ ap (λ (steps : List ℕ). lines_from config.names 1 (records begin steps)) c.deref.ensures.value)
 
 pub returns-in_ok-text-in-Found-clause-made : goal.returns-in_ok-text-in-Found-clause-made
 returns-in_ok-text-in-Found-clause-made g c =
-    let begin = origin c.args.config.now c.args.scripts.now c.args.rules c.args.question.now in
-    made_none begin c.in_ok-answer.roots (subst (λ a. LeavesRoots after is_seen begin c.args.turns a c.in_ok-answer.roots) c.in-Found.is c.in_ok-answer.ensures.leaves)
+    let begin = origin c.args.orders.now.config.now c.args.orders.now.scripts.now c.args.orders.now.rules c.args.question.now in
+    made_none begin c.in_ok-answer.roots (subst (λ a. LeavesRoots after is_seen begin c.args.bounds.turns.count a c.in_ok-answer.roots) c.in-Found.is c.in_ok-answer.ensures.leaves)
 
 pub returns-in_ok-never-in-Never-clause-finds : goal.returns-in_ok-never-in-Never-clause-finds
 returns-in_ok-never-in-Never-clause-finds g c =
-    let begin = origin c.args.config.now c.args.scripts.now c.args.rules c.args.question.now in
-    let law = c.places_answer.ensures c.args.config.now c.args.scripts.now c.args.rules c.args.question.now c.names-names.ensures.valid in
-    (law.never (subst (λ a. Says after is_seen begin c.args.turns c.args.more a) c.in-Never.is c.in_ok-answer.ensures.says), c.in_ok-never-in-Never.ensures)
+    let begin = origin c.args.orders.now.config.now c.args.orders.now.scripts.now c.args.orders.now.rules c.args.question.now in
+    let law = c.places_answer.ensures c.args.orders.now.config.now c.args.orders.now.scripts.now c.args.orders.now.rules c.args.question.now c.names-names.ensures.valid in
+    (law.never (subst (λ a. Says after is_seen begin c.args.bounds.turns.count (c.args.bounds.places.count - 1) a) c.in-Never.is c.in_ok-answer.ensures.says), c.in_ok-never-in-Never.ensures)
 
 pub returns-in_ok-never-in-Never-clause-made : goal.returns-in_ok-never-in-Never-clause-made
 returns-in_ok-never-in-Never-clause-made g c =
-    let begin = origin c.args.config.now c.args.scripts.now c.args.rules c.args.question.now in
-    made_none begin c.in_ok-answer.roots (subst (λ a. LeavesRoots after is_seen begin c.args.turns a c.in_ok-answer.roots) c.in-Never.is c.in_ok-answer.ensures.leaves)
+    let begin = origin c.args.orders.now.config.now c.args.orders.now.scripts.now c.args.orders.now.rules c.args.question.now in
+    made_none begin c.in_ok-answer.roots (subst (λ a. LeavesRoots after is_seen begin c.args.bounds.turns.count a c.in_ok-answer.roots) c.in-Never.is c.in_ok-answer.ensures.leaves)
 
 pub returns-in_ok-not_within-in-NotWithin-clause-finds : goal.returns-in_ok-not_within-in-NotWithin-clause-finds
 returns-in_ok-not_within-in-NotWithin-clause-finds g c =
-    let begin = origin c.args.config.now c.args.scripts.now c.args.rules c.args.question.now in
-    let law = c.places_answer.ensures c.args.config.now c.args.scripts.now c.args.rules c.args.question.now c.names-names.ensures.valid in
-    let says = subst (λ a. Says after is_seen begin c.args.turns c.args.more a) c.in-NotWithin.is c.in_ok-answer.ensures.says in
+    let begin = origin c.args.orders.now.config.now c.args.orders.now.scripts.now c.args.orders.now.rules c.args.question.now in
+    let law = c.places_answer.ensures c.args.orders.now.config.now c.args.orders.now.scripts.now c.args.orders.now.rules c.args.question.now c.names-names.ensures.valid in
+    let says = subst (λ a. Says after is_seen begin c.args.bounds.turns.count (c.args.bounds.places.count - 1) a) c.in-NotWithin.is c.in_ok-answer.ensures.says in
     (says.0, law.within c.in-NotWithin.turns says.1, c.in_ok-not_within-in-NotWithin.ensures, says.2)
 
 pub returns-in_ok-not_within-in-NotWithin-clause-leaves : goal.returns-in_ok-not_within-in-NotWithin-clause-leaves
 returns-in_ok-not_within-in-NotWithin-clause-leaves g c =
-    let begin = origin c.args.config.now c.args.scripts.now c.args.rules c.args.question.now in
-    let law = c.roots_answer.ensures c.args.config.now c.args.scripts.now c.args.rules c.args.question.now c.names-names.ensures.valid in
-    let leaves = subst (λ a. LeavesRoots after is_seen begin c.args.turns a c.in_ok-answer.roots) c.in-NotWithin.is c.in_ok-answer.ensures.leaves in
-    report_within c.args.config.now c.args.scripts.now c.args.rules c.args.question.now c.in-NotWithin.turns c.args.turns c.in_ok-answer.roots law leaves.0 leaves.1
+    let begin = origin c.args.orders.now.config.now c.args.orders.now.scripts.now c.args.orders.now.rules c.args.question.now in
+    let law = c.roots_answer.ensures c.args.orders.now.config.now c.args.orders.now.scripts.now c.args.orders.now.rules c.args.question.now c.names-names.ensures.valid in
+    let leaves = subst (λ a. LeavesRoots after is_seen begin c.args.bounds.turns.count a c.in_ok-answer.roots) c.in-NotWithin.is c.in_ok-answer.ensures.leaves in
+    report_within c.args.orders.now.config.now c.args.orders.now.scripts.now c.args.orders.now.rules c.args.question.now c.in-NotWithin.turns c.args.bounds.turns.count c.in_ok-answer.roots law leaves.0 leaves.1
 
 pub returns-in_ok-not_within-in-NotWithin-clause-made : goal.returns-in_ok-not_within-in-NotWithin-clause-made
 returns-in_ok-not_within-in-NotWithin-clause-made g c =
-    let begin = origin c.args.config.now c.args.scripts.now c.args.rules c.args.question.now in
-    let says = subst (λ a. Says after is_seen begin c.args.turns c.args.more a) c.in-NotWithin.is c.in_ok-answer.ensures.says in
-    let leaves = subst (λ a. LeavesRoots after is_seen begin c.args.turns a c.in_ok-answer.roots) c.in-NotWithin.is c.in_ok-answer.ensures.leaves in
-    made_within begin c.in-NotWithin.turns c.args.turns c.in_ok-answer.roots says.0 c.requires.turns leaves.0 leaves.1
+    let begin = origin c.args.orders.now.config.now c.args.orders.now.scripts.now c.args.orders.now.rules c.args.question.now in
+    let says = subst (λ a. Says after is_seen begin c.args.bounds.turns.count (c.args.bounds.places.count - 1) a) c.in-NotWithin.is c.in_ok-answer.ensures.says in
+    let leaves = subst (λ a. LeavesRoots after is_seen begin c.args.bounds.turns.count a c.in_ok-answer.roots) c.in-NotWithin.is c.in_ok-answer.ensures.leaves in
+    made_within begin c.in-NotWithin.turns c.args.bounds.turns.count c.in_ok-answer.roots says.0 c.args.bounds.turns.few leaves.0 leaves.1
 
 pub returns-in_ok-not_within-in-Ended-clause-finds : goal.returns-in_ok-not_within-in-Ended-clause-finds
 returns-in_ok-not_within-in-Ended-clause-finds g c =
-    let begin = origin c.args.config.now c.args.scripts.now c.args.rules c.args.question.now in
-    let law = c.places_answer.ensures c.args.config.now c.args.scripts.now c.args.rules c.args.question.now c.names-names.ensures.valid in
-    let says = subst (λ a. Says after is_seen begin c.args.turns c.args.more a) c.in-Ended.is c.in_ok-answer.ensures.says in
+    let begin = origin c.args.orders.now.config.now c.args.orders.now.scripts.now c.args.orders.now.rules c.args.question.now in
+    let law = c.places_answer.ensures c.args.orders.now.config.now c.args.orders.now.scripts.now c.args.orders.now.rules c.args.question.now c.names-names.ensures.valid in
+    let says = subst (λ a. Says after is_seen begin c.args.bounds.turns.count (c.args.bounds.places.count - 1) a) c.in-Ended.is c.in_ok-answer.ensures.says in
     (says.0, law.within c.in-Ended.turns says.1, c.in_ok-not_within-in-Ended.ensures)
 
 pub returns-in_ok-not_within-in-Ended-clause-leaves : goal.returns-in_ok-not_within-in-Ended-clause-leaves
 returns-in_ok-not_within-in-Ended-clause-leaves g c =
-    let begin = origin c.args.config.now c.args.scripts.now c.args.rules c.args.question.now in
-    none_reported begin c.in_ok-answer.roots (subst (λ a. LeavesRoots after is_seen begin c.args.turns a c.in_ok-answer.roots) c.in-Ended.is c.in_ok-answer.ensures.leaves)
+    let begin = origin c.args.orders.now.config.now c.args.orders.now.scripts.now c.args.orders.now.rules c.args.question.now in
+    none_reported begin c.in_ok-answer.roots (subst (λ a. LeavesRoots after is_seen begin c.args.bounds.turns.count a c.in_ok-answer.roots) c.in-Ended.is c.in_ok-answer.ensures.leaves)
 
 pub returns-in_ok-not_within-in-Ended-clause-made : goal.returns-in_ok-not_within-in-Ended-clause-made
 returns-in_ok-not_within-in-Ended-clause-made g c =
-    let begin = origin c.args.config.now c.args.scripts.now c.args.rules c.args.question.now in
-    made_none begin c.in_ok-answer.roots (subst (λ a. LeavesRoots after is_seen begin c.args.turns a c.in_ok-answer.roots) c.in-Ended.is c.in_ok-answer.ensures.leaves)
+    let begin = origin c.args.orders.now.config.now c.args.orders.now.scripts.now c.args.orders.now.rules c.args.question.now in
+    made_none begin c.in_ok-answer.roots (subst (λ a. LeavesRoots after is_seen begin c.args.bounds.turns.count a c.in_ok-answer.roots) c.in-Ended.is c.in_ok-answer.ensures.leaves)
 
 pub returns-in_ok-text-in-Found-clause-went : goal.returns-in_ok-text-in-Found-clause-went
 returns-in_ok-text-in-Found-clause-went g c =
-    let begin = origin c.args.config.now c.args.scripts.now c.args.rules c.args.question.now in
+    let begin = origin c.args.orders.now.config.now c.args.orders.now.scripts.now c.args.orders.now.rules c.args.question.now in
     subst (λ a. Went after begin a c.in_ok-answer.extent) c.in-Found.is c.in_ok-answer.ensures.went
 
 pub returns-in_ok-never-in-Never-clause-went : goal.returns-in_ok-never-in-Never-clause-went
 returns-in_ok-never-in-Never-clause-went g c =
-    let begin = origin c.args.config.now c.args.scripts.now c.args.rules c.args.question.now in
+    let begin = origin c.args.orders.now.config.now c.args.orders.now.scripts.now c.args.orders.now.rules c.args.question.now in
     subst (λ a. Went after begin a c.in_ok-answer.extent) c.in-Never.is c.in_ok-answer.ensures.went
 
 pub returns-in_ok-not_within-in-NotWithin-clause-went : goal.returns-in_ok-not_within-in-NotWithin-clause-went
 returns-in_ok-not_within-in-NotWithin-clause-went g c =
-    let begin = origin c.args.config.now c.args.scripts.now c.args.rules c.args.question.now in
+    let begin = origin c.args.orders.now.config.now c.args.orders.now.scripts.now c.args.orders.now.rules c.args.question.now in
     subst (λ a. Went after begin a c.in_ok-answer.extent) c.in-NotWithin.is c.in_ok-answer.ensures.went
 
 pub returns-in_ok-not_within-in-Ended-clause-went : goal.returns-in_ok-not_within-in-Ended-clause-went
 returns-in_ok-not_within-in-Ended-clause-went g c =
-    let begin = origin c.args.config.now c.args.scripts.now c.args.rules c.args.question.now in
+    let begin = origin c.args.orders.now.config.now c.args.orders.now.scripts.now c.args.orders.now.rules c.args.question.now in
     subst (λ a. Went after begin a c.in_ok-answer.extent) c.in-Ended.is c.in_ok-answer.ensures.went

@@ -8,7 +8,7 @@ use Rattle.fmp_run_explore.proofs.telling.trace_along.Goals as goal
 
 pub loop-step-init : goal.loop-step-init
 loop-step-init c =
-    let names = c.args.config.now.names in
+    let names = c.args.orders.now.config.now.names in
     let steps = c.args.steps.now in
     let begins = c.in_ok-restart.ensures.there ∙ ap origin_of c.in_ok-walker.ensures in
     let few = c.requires.few in

@@ -7,7 +7,7 @@ use Rattle.fmp_run_explore.proofs.telling.trace_along.Given as goal
 
 abbrev pub invariant-loop-step : goal.invariant-loop-step
 invariant-loop-step l = record {
-  report : l.out.items ++ lines_from l.config.names (l.n + 1) (records l.walker.place (drop l.step-index l.steps)) ≡ lines_from l.config.names 1 (records (origin l.config l.scripts l.fn.rules l.question) l.steps);
+  report : l.out.items ++ lines_from l.orders.config.now.names (l.n + 1) (records l.walker.place (drop l.step-index l.steps)) ≡ lines_from l.orders.config.now.names 1 (records (origin l.orders.config.now l.orders.scripts.now l.orders.rules l.question) l.steps);
   leads : is_some (run after l.walker.place (drop l.step-index l.steps)) ≡ true;
   count : l.n ≡ l.step-index;
   room : length (drop l.step-index l.steps) < l.walker.left;

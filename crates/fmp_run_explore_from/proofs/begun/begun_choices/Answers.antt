@@ -15,17 +15,17 @@ use Rattle.fmp_run_explore_from.proofs.begun.begun_choices.Goals as goal
 
 pub loop-choices-init : goal.loop-choices-init
 loop-choices-init c =
-    let config = c.args.config.now in
-    let scripts = c.args.scripts.now in
+    let config = c.args.orders.now.config.now in
+    let scripts = c.args.orders.now.scripts.now in
     let text = c.args.text.now in
     let nothing : c.new-nothing.result ≡ [] = c.new-nothing.ensures ∙ c.new.ensures.items in
-    let begins = c.in_ok-restart.ensures.there ∙ ap origin_of c.in_ok-walker.ensures ∙ ap (λ (q : List Step). origin config scripts c.args.rules q) nothing in
+    let begins = c.in_ok-restart.ensures.there ∙ ap origin_of c.in_ok-walker.ensures ∙ ap (λ (q : List Step). origin config scripts c.args.orders.now.rules q) nothing in
     let room = c.in_ok-restart.ensures.room in
     let short = c.requires.short in
     record {
       so_far =
-          subst (λ (cs : List Choice). IsSoFar config scripts c.args.rules text c.restart.new.self.place 1 cs text) (sym c.new-choices.ensures.items)
-          (so_begun config scripts c.args.rules c.names-names.ensures.valid text c.restart.new.self.place begins);
+          subst (λ (cs : List Choice). IsSoFar config scripts c.args.orders.now.rules text c.restart.new.self.place 1 cs text) (sym c.new-choices.ensures.items)
+          (so_begun config scripts c.args.orders.now.rules c.names-names.ensures.valid text c.restart.new.self.place begins);
       room = omega (arith, room, short);
       count = omega arith;
     }
@@ -37,8 +37,8 @@ loop-choices-smaller c =
 
 pub loop-choices-preserved : goal.loop-choices-preserved
 loop-choices-preserved c =
-    let config = c.args.config.now in
-    let scripts = c.args.scripts.now in
+    let config = c.args.orders.now.config.now in
+    let scripts = c.args.orders.now.scripts.now in
     let text = c.args.text.now in
     let n = c.loop-choices.number in
     let w = c.loop-choices.walker.place in
@@ -48,13 +48,13 @@ loop-choices-preserved c =
     let far = c.loop-choices.invariant.so_far in
     let on = rw c.in-Some.is at c.in_ok-choice.ensures.further in
     let named = subst (λ (names : NameLists). GoesOnBy names n w next rest after c.in-Some.choice) c.names-names.ensures.value on in
-    let more = so_more config scripts c.args.rules c.names-names.ensures.valid text w n c.loop-choices.choices.items rest far next after c.in-Some.choice named in
+    let more = so_more config scripts c.args.orders.now.rules c.names-names.ensures.valid text w n c.loop-choices.choices.items rest far next after c.in-Some.choice named in
     let shorter = line_shorter c.names-names.result.now n (step listed w.machine on.event).1 rest after on.line in
     let left = c.in_ok-choice.ensures.room in
     let room = c.loop-choices.invariant.room in
     let count = c.loop-choices.invariant.count in
     record {
-      so_far = subst (λ (cs : List Choice). IsSoFar config scripts c.args.rules text next (n + 1) cs after) (sym c.in_ok-push.ensures.items) more;
+      so_far = subst (λ (cs : List Choice). IsSoFar config scripts c.args.orders.now.rules text next (n + 1) cs after) (sym c.in_ok-push.ensures.items) more;
       room = omega (arith, shorter, left, room);
       count = omega (arith, shorter, count);
     }
@@ -62,7 +62,7 @@ loop-choices-preserved c =
 pub returns-then-is_empty-clause-begun : goal.returns-then-is_empty-clause-begun
 returns-then-is_empty-clause-begun c =
     let rest = c.loop-choices.rest.now in
-    so_whole c.args.config.now c.args.scripts.now c.args.rules c.names-names.ensures.valid c.args.text.now c.loop-choices.walker.place c.loop-choices.number c.loop-choices.choices.items rest
+    so_whole c.args.orders.now.config.now c.args.orders.now.scripts.now c.args.orders.now.rules c.names-names.ensures.valid c.args.text.now c.loop-choices.walker.place c.loop-choices.number c.loop-choices.choices.items rest
     c.loop-choices.invariant.so_far (nil_from_length rest (eqb-true (length rest) 0 (sym c.if-is_empty.ensures)))
 
 pub returns-clause-fault : goal.returns-clause-fault
@@ -75,6 +75,6 @@ returns-clause-fault c =
     let small : n < 2 ^ 64 = omega (arith, count, short) in
     let some : length rest ≢ 0 = eqb-false (length rest) 0 (sym c.if-is_empty.ensures) in
     let none = rw c.in_default.is at c.in_ok-choice.ensures.no_further in
-    so_stray c.args.config.now c.args.scripts.now c.args.rules c.names-names.ensures.valid c.args.text.now w n c.loop-choices.choices.items rest c.loop-choices.invariant.so_far
+    so_stray c.args.orders.now.config.now c.args.orders.now.scripts.now c.args.orders.now.rules c.names-names.ensures.valid c.args.text.now w n c.loop-choices.choices.items rest c.loop-choices.invariant.so_far
     (subst AreValid c.names-names.ensures.value c.validity.ensures) c.requires.in_bits small (omega (arith, some))
     (subst (λ (names : NameLists). GoesNoFurther names n w rest) c.names-names.ensures.value none)

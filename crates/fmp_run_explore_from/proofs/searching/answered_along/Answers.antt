@@ -1,4 +1,4 @@
-use Rattle.std.proofs.Common.{◌∙◌, IfOk, ap, subst, sym}
+use Rattle.std.proofs.Common.{◌∙◌, ◌-◌, IfOk, ap, subst, sym}
 use Rattle.fmp_search.specs.Guides.{SaysAlong}
 use Rattle.fmp_search_orders.specs.Laws.{is_seen}
 use Rattle.fmp_search_orders.specs.Places.{Place, after}
@@ -6,14 +6,16 @@ use Rattle.fmp_search_kernel.specs.Walked.{origin_of}
 use Rattle.fmp_run_explore_from.proofs.searching.answered_along.Goals as goal
 
 -- all four begin where all runs do
-pub explored_along-requires-clause-origins : goal.explored_along-requires-clause-origins
-explored_along-requires-clause-origins g c = (
-  ap origin_of (c.in_ok-walkers.ensures.second ∙ sym c.in_ok-walkers.ensures.first),
-  ap origin_of (c.in_ok-others.ensures.first ∙ sym c.in_ok-walkers.ensures.first),
-  ap origin_of (c.in_ok-others.ensures.second ∙ sym c.in_ok-walkers.ensures.first),
-)
+pub explored_along-requires : goal.explored_along-requires
+explored_along-requires g c = record {
+  origins = (
+    ap origin_of (c.in_ok-walkers.ensures.second ∙ sym c.in_ok-walkers.ensures.first),
+    ap origin_of (c.in_ok-others.ensures.first ∙ sym c.in_ok-walkers.ensures.first),
+    ap origin_of (c.in_ok-others.ensures.second ∙ sym c.in_ok-walkers.ensures.first),
+  );
+}
 
 pub returns-clause-says : goal.returns-clause-says
 returns-clause-says g c =
-    subst (λ (w : Place). IfOk c.explored_along.result (λ answer. SaysAlong after is_seen w c.args.choices.now c.args.turns c.args.more answer)) (ap origin_of c.in_ok-walkers.ensures.first)
+    subst (λ (w : Place). IfOk c.explored_along.result (λ answer. SaysAlong after is_seen w c.args.choices.now c.args.bounds.turns.count (c.args.bounds.places.count - 1) answer)) (ap origin_of c.in_ok-walkers.ensures.first)
     c.explored_along.ensures.says

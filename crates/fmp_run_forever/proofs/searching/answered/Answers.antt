@@ -14,7 +14,7 @@ stayed-requires-clause-origins g c = (
 
 pub returns-clause-says : goal.returns-clause-says
 returns-clause-says g c =
-    subst (λ (w : Watched). IfOk c.stayed.result (λ r. SaysForEver watched_after watched_passes w (length c.args.lasting.now) c.args.turns r.0)) (ap origin_at c.in_ok-walkers.ensures.first)
+    subst (λ (w : Watched). IfOk c.stayed.result (λ r. SaysForEver watched_after watched_passes w (length c.args.lasting.now) c.args.bounds.turns.count r.0)) (ap origin_at c.in_ok-walkers.ensures.first)
     c.stayed.ensures.says
 
 pub returns-clause-went : goal.returns-clause-went

@@ -10,15 +10,15 @@ use Rattle.fmp_run_forever.proofs.searching.report_along.Goals as goal
 
 pub trace_along-requires-clause-leads : goal.trace_along-requires-clause-leads
 trace_along-requires-clause-leads c =
-    let law = c.watched_answer.ensures c.args.config.now c.args.scripts.now c.args.rules c.args._lasting.now c.names.ensures.valid in
-    subst (λ (q : List Step). is_some (run after (origin c.args.config.now c.args.scripts.now c.args.rules q) c.args.steps.now) ≡ true) (sym c.requires.none)
+    let law = c.watched_answer.ensures c.args.orders.now.config.now c.args.orders.now.scripts.now c.args.orders.now.rules c.args._lasting.now c.names.ensures.valid in
+    subst (λ (q : List Step). is_some (run after (origin c.args.orders.now.config.now c.args.orders.now.scripts.now c.args.orders.now.rules q) c.args.steps.now) ≡ true) (sym c.requires.none)
     (law.made c.args.test c.args.steps.now c.requires.ends)
 
 pub returns-clause-finds : goal.returns-clause-finds
 returns-clause-finds c =
-    let config = c.args.config.now in
-    let scripts = c.args.scripts.now in
-    let rules = c.args.rules in
+    let config = c.args.orders.now.config.now in
+    let scripts = c.args.orders.now.scripts.now in
+    let rules = c.args.orders.now.rules in
     let lasting = c.args._lasting.now in
     let steps = c.args.steps.now in
     let text = c.in_ok-text.text.items in

@@ -7,7 +7,7 @@ use Rattle.fmp_run_forever.proofs.writing.found_written.Goals as goal
 pub returns-in-Ok-write_out-clause-written : goal.returns-in-Ok-write_out-clause-written
 returns-in-Ok-write_out-clause-written g c = λ known. (
   c.in-Ok.report.text.items,
-  subst (λ (l : List Lasting). Finds c.args.asked.now.config c.args.asked.now.scripts c.args.rules l c.args.turns c.in-Ok.report.text.items c.in-Ok.report.staying) c.deref.ensures.value c.in-Ok.ensures.finds,
+  subst (λ (l : List Lasting). Finds c.args.asked.now.config c.args.asked.now.scripts c.args.rules l c.args.bounds.turns.count c.in-Ok.report.text.items c.in-Ok.report.staying) c.deref.ensures.value c.in-Ok.ensures.finds,
   c.in-Ok-write_out.ensures.ok known ∙ ap (λ (x : List ℕ). bytes_of (g.W.Sink.written c.args.output.now) ++ x) c.as_slice.ensures.value,
 )
 
@@ -15,7 +15,7 @@ pub returns-clause-part : goal.returns-clause-part
 returns-clause-part g c = λ known is. (
   c.in-Ok.report.text.items,
   c.in-Ok.report.staying,
-  subst (λ (l : List Lasting). Finds c.args.asked.now.config c.args.asked.now.scripts c.args.rules l c.args.turns c.in-Ok.report.text.items c.in-Ok.report.staying) c.deref.ensures.value c.in-Ok.ensures.finds,
+  subst (λ (l : List Lasting). Finds c.args.asked.now.config c.args.asked.now.scripts c.args.rules l c.args.bounds.turns.count c.in-Ok.report.text.items c.in-Ok.report.staying) c.deref.ensures.value c.in-Ok.ensures.finds,
   subst (λ (x : List ℕ). BeginsWith (bytes_of (g.W.Sink.written c.args.output.now)) x (bytes_of (g.W.Sink.written c.write_out.new.sink))) c.as_slice.ensures.value
       (c.in-Err-write_out.ensures.err known),
 )

@@ -11,43 +11,43 @@ use Rattle.fmp_run_most.proofs.Ordered.{most_part, most_all}
 use Rattle.fmp_run_most.proofs.settling.settle.Goals as goal
 
 pub loop-at-init : goal.loop-at-init
-loop-at-init g c = kept_boot (origin c.args.config.now c.args.scripts.now c.args.rules []) c.args.turns c.args.figures.now _ c.requires.begin
+loop-at-init g c = kept_boot (origin c.args.sizing.now.config.now c.args.sizing.now.scripts.now c.args.sizing.now.rules []) c.args.within.turns.count c.args.sizing.now.figures.now _ c.requires.begin
 
 pub returns-in_default : goal.returns-in_default
 returns-in_default g c =
-    most_part c.args.config.now c.args.scripts.now c.args.rules c.names-names.ensures.valid c.args.turns c.args.figures.now c.loop-at.bounds c.loop-at.at c.loop-at.whole c.loop-at.invariant
+    most_part c.args.sizing.now.config.now c.args.sizing.now.scripts.now c.args.sizing.now.rules c.names-names.ensures.valid c.args.within.turns.count c.args.sizing.now.figures.now c.loop-at.bounds c.loop-at.at c.loop-at.whole c.loop-at.invariant
 
 pub returns-then-not-contains : goal.returns-then-not-contains
 returns-then-not-contains g c =
-    let q = origin c.args.config.now c.args.scripts.now c.args.rules [] in
-    let figures = c.args.figures.now in
+    let q = origin c.args.sizing.now.config.now c.args.sizing.now.scripts.now c.args.sizing.now.rules [] in
+    let figures = c.args.sizing.now.figures.now in
     let bounds = c.loop-at.bounds in
     let met = c.in-Some.met in
-    let meets = subst (λ o. IfSome o (Meets gauged_after gauged_passes (gauged figures bounds q) c.args.turns (length figures * 65536))) c.in-Some.is c.in_ok-met.ensures in
+    let meets = subst (λ o. IfSome o (Meets gauged_after gauged_passes (gauged figures bounds q) c.args.within.turns.count (length figures * 65536))) c.in-Some.is c.in_ok-met.ensures in
     let both = c.loop-at.whole && met.whole in
-    most_all c.args.config.now c.args.scripts.now c.args.rules c.names-names.ensures.valid c.args.turns figures bounds both c.of.result
-    (kept_all q c.args.turns figures bounds c.loop-at.at c.loop-at.whole c.loop-at.invariant met meets
+    most_all c.args.sizing.now.config.now c.args.sizing.now.scripts.now c.args.sizing.now.rules c.names-names.ensures.valid c.args.within.turns.count figures bounds both c.of.result
+    (kept_all q c.args.within.turns.count figures bounds c.loop-at.at c.loop-at.whole c.loop-at.invariant met meets
     (λ n is. none_marked _ refl c.deref.result.now n (sym c.contains.ensures.value ∙ c.if-not-contains.true)
     (subst (λ (xs : List Bool). slice_get xs n ≡ Some true) (sym c.deref.ensures.value) is)) both (λ e. (and_parts c.loop-at.whole met.whole e).1))
     c.of.ensures
 
 pub loop-at-preserved : goal.loop-at-preserved
 loop-at-preserved g c =
-    let q = origin c.args.config.now c.args.scripts.now c.args.rules [] in
-    let figures = c.args.figures.now in
+    let q = origin c.args.sizing.now.config.now c.args.sizing.now.scripts.now c.args.sizing.now.rules [] in
+    let figures = c.args.sizing.now.figures.now in
     let bounds = c.loop-at.bounds in
     let met = c.in-Some.met in
-    let meets = subst (λ o. IfSome o (Meets gauged_after gauged_passes (gauged figures bounds q) c.args.turns (length figures * 65536))) c.in-Some.is c.in_ok-met.ensures in
-    kept_more q c.args.turns figures bounds c.loop-at.at c.loop-at.whole c.loop-at.invariant met meets c.raise.new.bounds
+    let meets = subst (λ o. IfSome o (Meets gauged_after gauged_passes (gauged figures bounds q) c.args.within.turns.count (length figures * 65536))) c.in-Some.is c.in_ok-met.ensures in
+    kept_more q c.args.within.turns.count figures bounds c.loop-at.at c.loop-at.whole c.loop-at.invariant met meets c.raise.new.bounds
     (subst (λ (xs : List Bool). AreRaised figures bounds xs c.raise.new.bounds) c.deref-in-loop-at.ensures.value c.raise.ensures) (c.loop-at.whole && met.whole)
     (λ e. (and_parts c.loop-at.whole met.whole e).0) (λ e. (and_parts c.loop-at.whole met.whole e).1)
 
 pub returns : goal.returns
 returns g c =
-    let q = origin c.args.config.now c.args.scripts.now c.args.rules [] in
-    let figures = c.args.figures.now in
+    let q = origin c.args.sizing.now.config.now c.args.sizing.now.scripts.now c.args.sizing.now.rules [] in
+    let figures = c.args.sizing.now.figures.now in
     let past = c.loop-at-test.false in
     let end = c.loop-at.auto.at-end in
     let same : c.loop-at.at ≡ length figures = omega (arith, past, end) in
-    most_all c.args.config.now c.args.scripts.now c.args.rules c.names-names.ensures.valid c.args.turns figures c.loop-at.bounds c.loop-at.whole c.of-2.result
-    (subst (λ n. Kept q c.args.turns figures c.loop-at.bounds n c.loop-at.whole) same c.loop-at.invariant) c.of-2.ensures
+    most_all c.args.sizing.now.config.now c.args.sizing.now.scripts.now c.args.sizing.now.rules c.names-names.ensures.valid c.args.within.turns.count figures c.loop-at.bounds c.loop-at.whole c.of-2.result
+    (subst (λ n. Kept q c.args.within.turns.count figures c.loop-at.bounds n c.loop-at.whole) same c.loop-at.invariant) c.of-2.ensures

@@ -12,7 +12,7 @@ returns-in-Ok-write_out-clause-writes g c =
       whole = λ configs texts writes.
           let old = bytes_of (g.W.Sink.written c.args.trace.now) in (
             c.in-Ok-sought.sought.1.items,
-            sought_by c.in-Ok.asked.config c.in-Ok.asked.scripts _ _ _ c.in-Ok.asked.question c.args.runs c.args.first c.args.last c.in-Ok-sought.sought.1.items c.in-Ok-sought.sought.0
+            sought_by c.in-Ok.asked.config c.in-Ok.asked.scripts _ _ _ c.in-Ok.asked.question c.args.request.now.runs c.args.request.now.first c.args.request.now.last c.in-Ok-sought.sought.1.items c.in-Ok-sought.sought.0
                 (c.in-Ok.ensures.says configs) (c.in-Ok.ensures.spells texts) c.in-Ok.ensures.asks c.in-Ok-sought.ensures.seeks,
             c.in-Ok-write_out.ensures.ok writes ∙ ap (λ (text : List ℕ). old ++ text) c.as_slice.ensures.value,
           );
@@ -31,7 +31,7 @@ returns-clause-writes g c =
           let new = bytes_of (g.W.Sink.written c.write_out.new.sink) in (
             c.in-Ok-sought.sought.1.items,
             c.in-Ok-sought.sought.0,
-            sought_by c.in-Ok.asked.config c.in-Ok.asked.scripts _ _ _ c.in-Ok.asked.question c.args.runs c.args.first c.args.last c.in-Ok-sought.sought.1.items c.in-Ok-sought.sought.0
+            sought_by c.in-Ok.asked.config c.in-Ok.asked.scripts _ _ _ c.in-Ok.asked.question c.args.request.now.runs c.args.request.now.first c.args.request.now.last c.in-Ok-sought.sought.1.items c.in-Ok-sought.sought.0
                 (c.in-Ok.ensures.says configs) (c.in-Ok.ensures.spells texts) c.in-Ok.ensures.asks c.in-Ok-sought.ensures.seeks,
             subst (λ (text : List ℕ). BeginsWith old text new) c.as_slice.ensures.value (c.in-Err-write_out.ensures.err writes),
           );

@@ -19,7 +19,7 @@ returns-then-not-is_quiet c =
     let a = c.args in
     let h = c.in_ok-run.run'.history.records in
     let e = c.in_ok-run.ensures in
-    let run : IsRunOfSeed a.seed a.config.now a.scripts.now a.runs.ticks a.runs.turns h c.in_ok-run.run'.ended =
+    let run : IsRunOfSeed a.seed a.config.now a.scripts.now a.runs.limits.ticks.count a.runs.limits.turns.count h c.in_ok-run.run'.ended =
     record { receipts = _; run = e.run; order = e.order; ticked = e.ticked } in
     let waiting = c.put_waiting.new.out.items in
     let m = state_after c.in_ok-run.run'.history.config h in
@@ -41,7 +41,7 @@ returns c =
     let a = c.args in
     let h = c.in_ok-run.run'.history.records in
     let e = c.in_ok-run.ensures in
-    let run : IsRunOfSeed a.seed a.config.now a.scripts.now a.runs.ticks a.runs.turns h c.in_ok-run.run'.ended =
+    let run : IsRunOfSeed a.seed a.config.now a.scripts.now a.runs.limits.ticks.count a.runs.limits.turns.count h c.in_ok-run.run'.ended =
     record { receipts = _; run = e.run; order = e.order; ticked = e.ticked } in
     let waiting = c.put_waiting.new.out.items in
     let m = state_after c.in_ok-run.run'.history.config h in

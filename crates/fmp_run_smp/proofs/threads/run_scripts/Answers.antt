@@ -33,9 +33,9 @@ returns-in_err-waiting-clause-writes g c =
           let r = c.in_ok-run.run' in
           let failed = rw (p.1, p.2) at is in
           let fault : c.in_err-waiting.field-0.0 ≡ Write = same_fault c.in_err-waiting.field-0.0 Write failed in
-          begun_played _ _ c.args.ticks c.args.turns c.in_ok-machine.machine r.history.records r.ended
-          (played _ _ c.args.ticks c.args.turns c.in_ok-machine.machine c.in_ok-machine.list r.history.records (map (λ v. v.items) r.receipts.items) r.ended
-          (read.says configs) c.names-names.ensures.valid (subst AreValid c.names-names.ensures.value c.validity.ensures) (read.made texts) read.keeps c.requires.most c.in_ok-run.ensures.run c.in_ok-run.ensures.ticked)
+          begun_played _ _ c.args.limits.ticks.count c.args.limits.turns.count c.in_ok-machine.machine r.history.records r.ended
+          (played _ _ c.args.limits.ticks.count c.args.limits.turns.count c.in_ok-machine.machine c.in_ok-machine.list r.history.records (map (λ v. v.items) r.receipts.items) r.ended
+          (read.says configs) c.names-names.ensures.valid (subst AreValid c.names-names.ensures.value c.validity.ensures) (read.made texts) read.keeps c.args.limits.turns.few c.in_ok-run.ensures.run c.in_ok-run.ensures.ticked)
           _ _ c.names-names.ensures.value refl _ _ (c.in_err-waiting.ensures.write writes (ap Err fault));
       unwritten = λ writes.
           rw (p.1, p.2) (c.in_err-waiting.ensures.unwritten writes);
@@ -47,9 +47,9 @@ returns-clause-writes g c =
       whole = λ configs texts writes.
           let read = c.in_ok-machine.ensures in
           let r = c.in_ok-run.run' in
-          played_to_end _ _ c.args.ticks c.args.turns c.in_ok-machine.machine r.history.records r.ended
-          (played _ _ c.args.ticks c.args.turns c.in_ok-machine.machine c.in_ok-machine.list r.history.records (map (λ v. v.items) r.receipts.items) r.ended
-          (read.says configs) c.names-names.ensures.valid (subst AreValid c.names-names.ensures.value c.validity.ensures) (read.made texts) read.keeps c.requires.most c.in_ok-run.ensures.run c.in_ok-run.ensures.ticked)
+          played_to_end _ _ c.args.limits.ticks.count c.args.limits.turns.count c.in_ok-machine.machine r.history.records r.ended
+          (played _ _ c.args.limits.ticks.count c.args.limits.turns.count c.in_ok-machine.machine c.in_ok-machine.list r.history.records (map (λ v. v.items) r.receipts.items) r.ended
+          (read.says configs) c.names-names.ensures.valid (subst AreValid c.names-names.ensures.value c.validity.ensures) (read.made texts) read.keeps c.args.limits.turns.few c.in_ok-run.ensures.run c.in_ok-run.ensures.ticked)
           _ _ c.names-names.ensures.value refl c.args.seed _ _ _ (c.in_ok-waiting.ensures.written writes) c.in_ok-run.ensures.ordered
           (tells_waiting c.in_ok-machine.machine _ _ r.history.records _ c.names-names.ensures.value c.in_ok-run.ensures.configured c.in_ok-waiting.ensures.waiting);
       passed = search rules;

@@ -14,17 +14,18 @@ loop-event-init c =
     let config = c.args.config.now in
     let scripts = c.args.scripts.now in
     let valid : IsValid config = c.processors-processors.ensures.valid in
-    let by : Rules = rules_of c.args.drawing c.args.ticks in
+    let by : Rules = rules_of c.args.drawing c.args.limits.ticks.count in
     let asked : c.new-question.result ≡ [] = c.new-question.ensures ∙ c.new.ensures.items in
     let begun : c.in_ok-walker.walker.place ≡ origin config scripts by [] =
     c.in_ok-walker.ensures ∙ ap (λ (r : Rules). origin config scripts r c.new-question.result) c.rules.ensures ∙ ap (λ (q : List Step). origin config scripts by q) asked in
     let there : c.restart.new.self.place ≡ origin config scripts by [] = c.in_ok-restart.ensures.there ∙ ap origin_of begun in
     let room = c.in_ok-restart.ensures.room in
+    let few = c.args.limits.turns.few in
     record {
       so_far =
-          so_begun c.args.drawing c.args.seed config scripts c.args.ticks c.args.turns valid c.new-events.result.items c.new-draws.result c.restart.new.self.place
+          so_begun c.args.drawing c.args.seed config scripts c.args.limits.ticks.count c.args.limits.turns.count valid c.new-events.result.items c.new-draws.result c.restart.new.self.place
           c.new-events.ensures.items c.new-draws.ensures there;
-      room = omega (arith, room, c.requires);
+      room = omega (arith, room, few);
     }
 
 pub go_on-requires-clause-least : goal.go_on-requires-clause-least
@@ -46,7 +47,7 @@ loop-event-preserved c =
     let room = c.in-Some.ensures.room in
     record {
       so_far =
-          so_more c.args.drawing c.args.seed config c.args.scripts.now c.args.ticks c.args.turns valid c.loop-event.events.items c.loop-event.left c.loop-event.draws
+          so_more c.args.drawing c.args.seed config c.args.scripts.now c.args.limits.ticks.count c.args.limits.turns.count valid c.loop-event.events.items c.loop-event.left c.loop-event.draws
           c.loop-event.walker.place far.so_far c.in-Some.event c.go_on.new.walker.place c.go_on.new.draws c.push.new.self.items (c.loop-event.left - 1) goes
           c.in_ok-push.ensures.items refl;
       room = omega (arith, least, left, room);
@@ -56,6 +57,6 @@ pub returns : goal.returns
 returns c =
     let config = c.args.config.now in
     let valid : IsValid config = c.processors-processors.ensures.valid in
-    so_whole c.args.drawing c.args.seed config c.args.scripts.now c.args.ticks c.args.turns valid c.loop-event.events.items c.loop-event.left c.loop-event.draws
+    so_whole c.args.drawing c.args.seed config c.args.scripts.now c.args.limits.ticks.count c.args.limits.turns.count valid c.loop-event.events.items c.loop-event.left c.loop-event.draws
     c.loop-event.walker.place c.loop-event.invariant.so_far c.go_on.new.walker.place c.go_on.new.draws c.is_empty-is_quiet.result c.in_default.ensures.goes
     (c.is_empty-is_quiet.ensures ∙ ap (λ (xs : List ℕ). length xs == 0) c.choices.ensures)

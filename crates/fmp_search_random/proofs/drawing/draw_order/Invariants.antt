@@ -5,7 +5,7 @@ use Rattle.fmp_search_random.proofs.drawing.draw_order.Given as goal
 -- what was drawn so far
 abbrev pub invariant-loop-event : goal.invariant-loop-event
 invariant-loop-event l = record {
-  so_far : IsSoFar l.fn.drawing l.fn.seed l.fn.config l.fn.scripts l.fn.ticks l.fn.turns l.events.items l.left l.draws l.walker.place;
+  so_far : IsSoFar l.fn.drawing l.fn.seed l.fn.config l.fn.scripts l.fn.limits.ticks.count l.fn.limits.turns.count l.events.items l.left l.draws l.walker.place;
   room : l.left ≤ l.walker.left;
 }
 

@@ -27,10 +27,10 @@ loop-beyond-preserved g c =
     let middle = come + (beyond - come) / 2 in
     let asked : c.in_ok-first.first ≡ take middle self.question = c.in_ok-first.ensures ∙ ap (take middle) c.question-question.ensures in
     let report = c.in_ok-found.ensures.finds in
-    let room = c.args.places - 1 in
+    let room = c.args.bounds.places.count - 1 in
     elim c.match-found.branch [
       | in-Shown w ↦
-          let some = some_shown self.config self.scripts self.rules c.in_ok-first.first c.args.turns room report.0 c.in_ok-found.found report.1 w.in-Shown.is in
+          let some = some_shown self.config self.scripts self.rules c.in_ok-first.first c.args.bounds.turns.count room report.0 c.in_ok-found.found report.1 w.in-Shown.is in
           record {
             come = subst (λ n. Comes (take n self.question)) (sym w.come-is) (subst Comes asked some);
             none = subst (λ n. Fails (take n self.question)) (sym w.beyond-is) kept.none;
@@ -38,7 +38,7 @@ loop-beyond-preserved g c =
             within = subst (λ n. n ≤ length self.question) (sym w.beyond-is) within;
           }
       | in-Never w ↦
-          let none = none_shown self.config self.scripts self.rules c.in_ok-first.first c.args.turns room report.0 c.in_ok-found.found report.1 w.in-Never.is in
+          let none = none_shown self.config self.scripts self.rules c.in_ok-first.first c.args.bounds.turns.count room report.0 c.in_ok-found.found report.1 w.in-Never.is in
           record {
             come = subst (λ n. Comes (take n self.question)) (sym w.come-is) kept.come;
             none = subst (λ n. Fails (take n self.question)) (sym w.beyond-is) (subst Fails asked none);
@@ -77,7 +77,7 @@ returns-in-NotWithin g c =
       found = found;
       text = report.0;
       fewer = omega (arith, far, apart, within);
-      finds = subst (λ q. Finds self.config self.scripts self.rules q c.args.turns (c.args.places - 1) report.0 found) asked report.1;
+      finds = subst (λ q. Finds self.config self.scripts self.rules q c.args.bounds.turns.count (c.args.bounds.places.count - 1) report.0 found) asked report.1;
       ended = c.in_ok-found.ensures.ended;
       unknown = is_unknown found c.in-NotWithin.is;
     }

@@ -1,4 +1,4 @@
-use Rattle.std.proofs.Common.{◌∙◌, ◌≤◌, ℕ, List, length, subst, sym}
+use Rattle.std.proofs.Common.{◌∙◌, ◌<◌, ◌^◌, ℕ, List, arith, length, subst, sym}
 use Rattle.std.proofs.lemmas.Result.{IfOk-weaker}
 use Rattle.fmp_run_explore.proofs.Rest.{report_at}
 use Rattle.fmp_run_explore.proofs.layer.Layer.trace.Goals as goal
@@ -6,7 +6,8 @@ use Rattle.fmp_run_explore.proofs.layer.Layer.trace.Goals as goal
 pub trace_along-requires-clause-few : goal.trace_along-requires-clause-few
 trace_along-requires-clause-few c =
     let made = c.self.invariant.0 c.args.at c.in_ok-steps.steps.items c.in_ok-steps.ensures in
-    subst (λ (steps : List ℕ). length steps ≤ 1000000) (sym c.deref.ensures.value) made.1
+    let few = made.1 in
+    subst (λ (steps : List ℕ). length steps < 2 ^ 31) (sym c.deref.ensures.value) (omega (arith, few))
 
 pub returns : goal.returns
 returns c =
