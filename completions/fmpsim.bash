@@ -5,7 +5,7 @@ _fmpsim() {
     case $COMP_CWORD,${COMP_WORDS[1]},$word in
         1,*) words='calls check wave view smp explore shrink list help --help --version' ;;
         *,calls,-*) words='--state --changes --of --context --color --help --diagnostics=gcc' ;;
-        *,check,-*) words='--show --all --partial --context --help --diagnostics=gcc' ;;
+        *,check,-*) words='--show --all --partial --order --context --help --diagnostics=gcc' ;;
         *,wave,-*) words='--gtkw --context --help --diagnostics=gcc' ;;
         *,view,-*) words='--differences --context --help --diagnostics=gcc' ;;
         *,smp,-*) words='--ticks --turns --seed --seeds --find --late --stalls --seconds --strict --progress --context --color --help --diagnostics=gcc' ;;

@@ -10,6 +10,7 @@ complete -c fmpsim -n __fish_use_subcommand -f -a check -d 'Says whether a trace
 complete -c fmpsim -n '__fish_seen_subcommand_from check' -l show -d 'Also shows the first line that differs'
 complete -c fmpsim -n '__fish_seen_subcommand_from check' -l all -d 'Shows each line that differs, as a unified diff'
 complete -c fmpsim -n '__fish_seen_subcommand_from check' -l partial -d 'Judges only what is written of each line'
+complete -c fmpsim -n '__fish_seen_subcommand_from check' -l order -d 'Writes the machine'\''s own lines of a partial trace, in the order in which it plays them'
 complete -c fmpsim -n '__fish_seen_subcommand_from check' -l context -d 'Shows below a fault its line, its place and what is expected there; at a terminal by itself, unless there is --no-context'
 complete -c fmpsim -n '__fish_seen_subcommand_from check' -l help -d 'Print help'
 complete -c fmpsim -n __fish_use_subcommand -f -a wave -d 'Writes the waveform of a trace, for GTKWave and other viewers'

@@ -38,9 +38,13 @@ refused_lines() {
 	check machine.cfg
 	check machine.cfg trace.txt more
 	check --show --all machine.cfg trace.txt
-	check --partial --show machine.cfg trace.txt
 	check --all --partial machine.cfg trace.txt
 	check --partial --partial machine.cfg trace.txt
+	check --order --all machine.cfg trace.txt
+	check --show --order machine.cfg trace.txt
+	check --partial --show --order machine.cfg trace.txt
+	check --order --order machine.cfg trace.txt
+	calls --order machine.cfg events.txt
 	check --all --all machine.cfg trace.txt
 	check --state machine.cfg trace.txt
 	check --changes machine.cfg trace.txt

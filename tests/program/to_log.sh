@@ -35,6 +35,14 @@ comes_back() {
     done
 }
 
+# whole_of_made MACHINE: the machine's own lines for the partial trace made, in the order in which it plays them, are a trace of its own.
+whole_of_made() {
+    local well=no
+    "$program" check --order "$1" made > whole 2> told && [ ! -s told ] && [ "$(wc -l < whole)" -ge "$(grep -vc ' open' made)" ] && well=yes
+    count "$well" check --order "$1" made
+    run 0 "$(as_file echo yes)" /dev/null check "$1" whole
+}
+
 # Logs in which calls overlap, drawn by several seeds. Some order within the bounds is the machine's, which the trace's own need not be.
 overlaps() {
     local example well seed bounds=0
@@ -48,6 +56,7 @@ overlaps() {
             bounds=$((bounds + $(grep -c ' by=' made)))
             count "$well" '#' tools/to-log "$example/machine.cfg" trace.txt --spread 8 --seed "$seed" '|' tools/from-log
             run 0 "$(as_file echo yes)" /dev/null check --partial "$example/machine.cfg" made
+            whole_of_made "$example/machine.cfg"
         done
     done
     well=no

@@ -1,5 +1,5 @@
 -- The command lines of the program, and what their words ask for.
-use Rattle.std.specs.Prelude.{◌≡◌, ℕ, Bool, false, true, List, [], ◌∷◌, IsSomeAnd, Option, None, Some, codes, if◌then◌else◌, option_map, unwrap_or}
+use Rattle.std.specs.Prelude.{◌≡◌, ℕ, ◌||◌, Bool, false, true, List, [], ◌∷◌, IsSomeAnd, Option, None, Some, codes, if◌then◌else◌, option_map, unwrap_or}
 use Rattle.std.specs.Bool.{then_some}
 use Rattle.std.specs.Borrow.{Bor}
 use Rattle.clap.specs.Words.{App, Row, Text, first_of, one_of}
@@ -13,13 +13,14 @@ use Rattle.fmp_cli_explore.specs.Explore as explore
 use Rattle.fmp_cli_explore.specs.Shrink.Shrink as shrink
 use Rattle.fmp_cli.specs.declared.Asked.{Asked}
 use Rattle.fmp_cli.specs.declared.Asked.TheVariants.{Waveform}
+use Rattle.fmp_cli.specs.declared.Partly.{Partly}
 use Rattle.fmp_cli.specs.declared.Paths.{Paths}
 use Rattle.fmp_cli.specs.declared.Request.{Request}
 use Rattle.fmp_cli.specs.declared.Request.TheVariants as request
 use Rattle.fmp_cli.specs.declared.Subcommand.{Subcommand}
 use Rattle.fmp_cli.specs.declared.Subcommand.TheVariants as subcommand
 use Rattle.fmp_cli.specs.declared.Report.{Report}
-use Rattle.fmp_cli.specs.Flags.{report_by, asked_by, is_path, page_by, subcommand_by}
+use Rattle.fmp_cli.specs.Flags.{report_by, asked_by, is_path, page_by, partly_by, subcommand_by}
 
 -- each command line, as a parse reads it
 abbrev pub calls_line : App
@@ -29,8 +30,8 @@ calls_line = line_of (codes "calls") (
 
 abbrev pub check_line : App
 check_line = line_of (codes "check") (
-    path_rule (codes "CFG") ∷ path_rule (codes "TRACE") ∷ choice_rule (codes "show") ∷ choice_rule (codes "all") ∷ choice_rule (codes "partial")
-    ∷ flag_rule (codes "context") ∷ [])
+    path_rule (codes "CFG") ∷ path_rule (codes "TRACE") ∷ choice_rule (codes "show") ∷ choice_rule (codes "all") ∷ flag_rule (codes "partial")
+    ∷ choice_rule (codes "order") ∷ flag_rule (codes "context") ∷ [])
 
 abbrev pub wave_line : App
 wave_line = line_of (codes "wave") (
@@ -71,15 +72,23 @@ pub record AsksCheck (rows : List Row) (p : Paths) (a : Asked) : Type 0 where
   pub show : Bool
   pub all : Bool
   pub whole : IsFlag (one_of (codes "partial") rows) false
+  pub unordered : IsFlag (one_of (codes "order") rows) false
   pub show_flag : IsFlag (one_of (codes "show") rows) show
   pub all_flag : IsFlag (one_of (codes "all") rows) all
   pub paths : NamesPaths rows (codes "TRACE") form.Trace p
   pub asked : a ≡ asked_by show all
 
--- a trace is judged as a partial one
-pub record AsksPartial (rows : List Row) (p : Paths) : Type 0 where
-  pub partial : IsFlag (one_of (codes "partial") rows) true
+-- of a partial trace what the flags say is asked, where one of two stands
+pub record AsksPartial (rows : List Row) (p : Paths) (a : Partly) : Type 0 where
+  pub partial : Bool
+  pub show : Bool
+  pub order : Bool
+  pub partial_flag : IsFlag (one_of (codes "partial") rows) partial
+  pub show_flag : IsFlag (one_of (codes "show") rows) show
+  pub order_flag : IsFlag (one_of (codes "order") rows) order
+  pub either : (partial || order) ≡ true
   pub paths : NamesPaths rows (codes "TRACE") form.Partial p
+  pub asked : a ≡ partly_by show order
 
 -- the waveform is asked for
 pub record AsksWave (rows : List Row) (p : Paths) (a : Asked) : Type 0 where
@@ -115,7 +124,7 @@ IsCalls rows _ = ⊥
 
 abbrev pub IsCheck : List Row → Request → Type 0
 IsCheck rows (request.Trace p a) = AsksCheck rows p a
-IsCheck rows (request.Partial p) = AsksPartial rows p
+IsCheck rows (request.Partial p a) = AsksPartial rows p a
 IsCheck rows _ = ⊥
 
 abbrev pub IsWave : List Row → Request → Type 0

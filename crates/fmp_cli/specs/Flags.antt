@@ -7,6 +7,8 @@ use Rattle.fmp_trace_check.specs.declared.comparing.Shown.TheVariants.{First, Ea
 use Rattle.clap.specs.Words.{Text}
 use Rattle.fmp_cli.specs.declared.Asked.{Asked}
 use Rattle.fmp_cli.specs.declared.Asked.TheVariants.{Verdict, Differences, Page, DifferencesPage}
+use Rattle.fmp_cli.specs.declared.Partly.{Partly}
+use Rattle.fmp_cli.specs.declared.Partly.TheVariants as partly
 use Rattle.fmp_cli.specs.declared.Subcommand.{Subcommand}
 use Rattle.fmp_cli.specs.declared.Subcommand.TheVariants as subcommand
 use Rattle.fmp_cli.specs.declared.Report.{Report}
@@ -26,6 +28,12 @@ abbrev pub asked_by : Bool → Bool → Asked
 asked_by true all = Differences First
 asked_by false true = Differences Each
 asked_by false false = Verdict
+
+-- what is written of a partial trace, by the flags: the machine's own lines, or else the first that differs, or else the verdict alone
+abbrev pub partly_by : Bool → Bool → Partly
+partly_by show true = partly.Order
+partly_by true false = partly.First
+partly_by false false = partly.Verdict
 
 -- which page is asked for, by the flag
 abbrev pub page_by : Bool → Asked

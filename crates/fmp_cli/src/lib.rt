@@ -7,7 +7,7 @@ ghost use Rattle.std.specs.Prelude.{◌≡◌, ◌≤◌, IfOk, IsErr, codes, dr
 ghost use Rattle.fmp_cli_table.specs.Found.{found_by, rows_in};
 ghost use Rattle.fmp_cli.specs.Cli.{AsksFor, AsksList, IsAsked, IsCalls, IsCheck, IsListedBy, IsView, IsWave, NamesPaths};
 ghost use Rattle.fmp_cli.specs.Cli.{calls_line, check_line, list_line, view_line, wave_line};
-ghost use Rattle.fmp_cli.specs.Flags.{asked_by, is_path, page_by, report_by, subcommand_by};
+ghost use Rattle.fmp_cli.specs.Flags.{asked_by, is_path, page_by, partly_by, report_by, subcommand_by};
 
 use clap::error::ErrorKind;
 use clap::{Arg, ArgAction, ArgMatches, Command, Error};
@@ -137,7 +137,12 @@ written is not judged, and what is written is judged exactly:
 Where calls of two processors overlap, ` by=9` at the end of a line says that line 9 is the last
 that may take effect before it, and the answer `open` that its end is not told. Then the verdict
 is `yes` if some order within these bounds is the machine's, `no 57` if none has line 57 and all
-before it, and `not known` if there are too many.
+before it, and `not known` if there are too many. With --show the state is then that after such an
+order of the lines before it.
+
+With --order, which goes with --partial and stands for it, the machine's own lines are written in
+place of a `yes`, in the order in which it plays them. So a partial trace becomes a whole one,
+which `fmpsim view` and `fmpsim wave` draw. Where the verdict is another nothing is written.
 
 Its last line may be `ends 812`: the trace ends at line 812 of its log, before that. Then the
 verdict is `yes to 812` in place of `yes`.
@@ -244,6 +249,8 @@ const ALL: &str = "all";
 
 const PARTIAL: &str = "partial";
 
+const ORDER: &str = "order";
+
 const GTKW: &str = "gtkw";
 
 const DIFFERENCES: &str = "differences";
@@ -295,18 +302,23 @@ const CHECK_PARTS: &[Part<'static>] = &[
     TRACE_PART,
     Part {
         id: SHOW,
-        form: Form::Choice(ALL),
+        form: Form::OneOfThree(ALL, ORDER),
         about: "Also shows the first line that differs",
     },
     Part {
         id: ALL,
-        form: Form::Choice(PARTIAL),
+        form: Form::OneOfThree(PARTIAL, ORDER),
         about: "Shows each line that differs, as a unified diff",
     },
     Part {
         id: PARTIAL,
-        form: Form::Choice(SHOW),
+        form: Form::Flag,
         about: "Judges only what is written of each line",
+    },
+    Part {
+        id: ORDER,
+        form: Form::OneOfThree(SHOW, ALL),
+        about: "Writes the machine's own lines of a partial trace, in the order in which it plays them",
     },
     CONTEXT_PART,
 ];
@@ -428,6 +440,17 @@ pub enum Asked {
     DifferencesPage,
 }
 
+/// What is written of a partial trace.
+#[derive(Clone, Copy)]
+pub enum Partly {
+    /// The verdict.
+    Verdict,
+    /// That, and the first line that is not the machine's.
+    First,
+    /// The machine's own lines, in the order in which it plays them.
+    Order,
+}
+
 /// A configuration of which is listed what was read.
 #[derive(Clone, Copy)]
 pub struct Described<'a> {
@@ -446,8 +469,8 @@ pub enum Request<'a> {
     Life(Paths<'a>, &'a str, Colour),
     /// What is asked of a trace.
     Trace(Paths<'a>, Asked),
-    /// Whether a trace of which lines leave out parts is the machine's.
-    Partial(Paths<'a>),
+    /// What is asked of a trace of which lines leave out parts.
+    Partial(Paths<'a>, Partly),
     /// GTKWave's save file for a configuration. There is no other text.
     Save(Paths<'a>),
     /// The trace of processors that follow scripts.
@@ -541,6 +564,17 @@ fn asked_for(show: bool, all: bool) -> Asked
     }
 }
 
+/// What is written of a partial trace by these flags.
+fn partly_for(show: bool, order: bool) -> Partly
+    ensures { result ≡ partly_by show order }
+{
+    match (show, order) {
+        (_, true) => Partly::Order,
+        (true, false) => Partly::First,
+        (false, false) => Partly::Verdict,
+    }
+}
+
 /// What `calls` is asked for: what of some things changes where `--of` stands, the state too where `--state` does, and what of it changed where
 /// `--changes` does.
 fn calls_in<'a>(matches: &ArgMatches<'a>) -> Request<'a>
@@ -555,15 +589,17 @@ fn calls_in<'a>(matches: &ArgMatches<'a>) -> Request<'a>
     }
 }
 
-/// What `check` is asked for: by `--partial`, by `--show`, by `--all`, or by none of them.
+/// What `check` is asked for: of a partial trace where `--partial` or `--order` stands, by `--show`, by `--all`, or by none of them.
 fn check_in<'a>(matches: &ArgMatches<'a>) -> Request<'a>
     ensures { IsCheck (rows_in matches.now) result }
 {
-    if flag_in(matches, PARTIAL) {
-        return Request::Partial(named_paths(matches, TRACE, TextForm::Partial));
+    let show = flag_in(matches, SHOW);
+    let order = flag_in(matches, ORDER);
+    if flag_in(matches, PARTIAL) || order {
+        let paths = named_paths(matches, TRACE, TextForm::Partial);
+        return Request::Partial(paths, partly_for(show, order));
     }
     let paths = named_paths(matches, TRACE, TextForm::Trace);
-    let show = flag_in(matches, SHOW);
     let all = flag_in(matches, ALL);
     Request::Trace(paths, asked_for(show, all))
 }

@@ -52,20 +52,23 @@ module _ (c : Setup) (text : List ℕ) (lines : Lines) (are : AreLinesOf c.names
     is_ordered : list_all is_plain are.said ≡ false
     is_ordered = subst (λ (ss : List Said). list_all is_plain ss ≡ false) (ok_same stands.said are.said (sym stands.read ∙ are.read)) stands.are_plain
 
-    judges : (f : Found) → SaysOfOrders c text are.said f → JudgesOrders c text f
-    judges f says = record { said = are.said; read = are.read; ordered = is_ordered; says = says }
+    judges : (f : Found) (order : List ℕ) → SaysOfOrders c text are.said f order → JudgesOrders c text f order
+    judges f order says = record { said = are.said; read = are.read; ordered = is_ordered; says = says }
 
     pub some_order : (o : Orders) (order : _) → o ≡ orders.Right order → SaysOrders (plays numbered) (last_at lines.lasts.items) (length lines.lasts.items) (must_at lines.musts.items) (at_booted c (lines_of text)) o
-        → JudgesOrders c text found.Yes
+        → JudgesOrders c text found.Yes order.items
     some_order o order is says =
         let told = subst (SaysOrders (plays numbered) (last_at (lasts_from 0 are.said)) (length are.said) (must_at (map must_of are.said)) (at_booted c (lines_of text))) is (says_of_said o says) in
-        judges found.Yes (order.items, told)
+        judges found.Yes order.items told
 
-    pub none_without : (o : Orders) (n : ℕ) → o ≡ orders.Without n → SaysOrders (plays numbered) (last_at lines.lasts.items) (length lines.lasts.items) (must_at lines.musts.items) (at_booted c (lines_of text)) o
-        → JudgesOrders c text (found.No (n + 1))
-    none_without o n is says =
+    pub none_without : (o : Orders) (n : ℕ) (order : _) → o ≡ orders.Without n order → SaysOrders (plays numbered) (last_at lines.lasts.items) (length lines.lasts.items) (must_at lines.musts.items) (at_booted c (lines_of text)) o
+        → JudgesOrders c text (found.No (n + 1)) order.items
+    none_without o n order is says =
         let told = subst (SaysOrders (plays numbered) (last_at (lasts_from 0 are.said)) (length are.said) (must_at (map must_of are.said)) (at_booted c (lines_of text))) is (says_of_said o says) in
-        judges (found.No (n + 1)) (n, refl, told.0, told.1)
+        judges (found.No (n + 1)) order.items (n, refl, told.0, told.1, told.2)
+
+    pub not_known : (order : List ℕ) → order ≡ [] → JudgesOrders c text found.NotKnown order
+    not_known order none = judges found.NotKnown order none
 
   pub crowded_fault : (o : Orders) (j : ℕ) (fault : TextFault) → o ≡ orders.Crowded j → fault ≡ record { kind = TooMany; line = j + 1 }
       → SaysOrders (plays numbered) (last_at lines.lasts.items) (length lines.lasts.items) (must_at lines.musts.items) (at_booted c (lines_of text)) o → IsOfOrders c.names text fault
@@ -74,9 +77,9 @@ module _ (c : Setup) (text : List ℕ) (lines : Lines) (are : AreLinesOf c.names
       record { said = are.said; read = are.read; line = j; crowded = told; is = at }
 
   -- the line of an answer is one of the lines
-  pub without_small : AreValid c.names → (o : Orders) (n : ℕ) → o ≡ orders.Without n → SaysOrders (plays numbered) (last_at lines.lasts.items) (length lines.lasts.items) (must_at lines.musts.items) (at_booted c (lines_of text)) o
+  pub without_small : AreValid c.names → (o : Orders) (n : ℕ) (order : _) → o ≡ orders.Without n order → SaysOrders (plays numbered) (last_at lines.lasts.items) (length lines.lasts.items) (must_at lines.musts.items) (at_booted c (lines_of text)) o
       → n + 1 < 2 ^ 32
-  without_small valid o n is says =
+  without_small valid o n order is says =
       let told = subst (SaysOrders (plays numbered) (last_at lines.lasts.items) (length lines.lasts.items) (must_at lines.musts.items) (at_booted c (lines_of text))) is says in
       omega (arith, told.0, few_lines valid)
 

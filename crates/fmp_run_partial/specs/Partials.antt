@@ -16,14 +16,15 @@ use Rattle.fmp_trace_partial.specs.Saying.{said_in}
 use Rattle.fmp_trace_partial.specs.declared.telling.Said.{Said}
 use Rattle.fmp_run_partial.specs.Endings.{IsBody}
 use Rattle.fmp_run_partial.specs.Verdicts.{JudgesText, PartlyPrintsAnswers}
-use Rattle.fmp_run_partial.specs.declared.verdict.PartialVerdict.{PartialVerdict}
+use Rattle.fmp_run_partial.specs.declared.showing.PartialShown.{PartialShown}
+use Rattle.fmp_run_partial.specs.declared.showing.Shown.{Shown}
 use Rattle.fmp_trace_partial.specs.Partly.{FaultAfter}
 
--- the verdict on a partial trace, by the answers of the one text's machine to the events of the other
-pub record CheckedPartly (config_text trace_text : List ℕ) (verdict : PartialVerdict) : Type 0 where
+-- the verdict on a partial trace, and what is written of it, by the answers of the one text's machine to the events of the other
+pub record CheckedPartly (asked : PartialShown) (config_text trace_text : List ℕ) (shown : Shown) : Type 0 where
   pub config : Setup
   pub says : SaysConfig config_text config
-  pub judges : JudgesText config trace_text verdict
+  pub judges : JudgesText asked config trace_text shown
 
 -- the trace is one of the machine's own of which parts may be left out, within the limits: the one text's machine answers to some
 -- events so

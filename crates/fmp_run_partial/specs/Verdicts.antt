@@ -1,5 +1,5 @@
 -- What is answered of a partial trace: whether its lines are what the machine answers to their events.
-use Rattle.std.specs.Prelude.{◌≡◌, ℕ, ◌+◌, ◌<◌, ◌≤◌, ◌⊎◌, Bool, true, false, List, [], ◌∷◌, ◌++◌, length, map, All, Option, None, Some, Ok, codes, decimal}
+use Rattle.std.specs.Prelude.{◌≡◌, ℕ, ◌+◌, ◌<◌, ◌≤◌, Bool, true, false, List, [], ◌∷◌, ◌++◌, length, map, All, Option, None, Some, Ok}
 use Rattle.std.specs.List.{list_all}
 use Rattle.fmp_calls.specs.Arguments.{EventInBits}
 use Rattle.fmp_codes.specs.Records.{AreOn}
@@ -14,16 +14,16 @@ use Rattle.fmp_names.specs.Names.{NameLists}
 use Rattle.fmp_search_lines.specs.Lasts.{last_at, must_at}
 use Rattle.fmp_search_lines.specs.Orders.{IsFirstWithout, IsRight}
 use Rattle.fmp_setup.specs.Setup.{Setup}
-use Rattle.fmp_run_texts.specs.declared.status.Status.{Status}
-use Rattle.fmp_run_texts.specs.declared.status.Status.TheVariants.{Different, Done, Limit}
 use Rattle.fmp_run_partial.specs.Endings.{IsBody}
 use Rattle.fmp_run_partial.specs.Following.{is_plain}
 use Rattle.fmp_run_partial.specs.declared.following.Followed.{Followed}
 use Rattle.fmp_run_partial.specs.declared.following.Followed.TheVariants as followed
 use Rattle.fmp_run_partial.specs.declared.verdict.Found.{Found}
 use Rattle.fmp_run_partial.specs.declared.verdict.Found.TheVariants as found
-use Rattle.fmp_run_partial.specs.declared.verdict.PartialVerdict.{PartialVerdict}
-use Rattle.fmp_run_partial.specs.declared.verdict.PartialVerdict.TheVariants as partial
+use Rattle.fmp_run_partial.specs.declared.showing.PartialShown.{PartialShown}
+use Rattle.fmp_run_partial.specs.declared.showing.Shown.{Shown}
+use Rattle.fmp_run_partial.specs.Showing.{events_of, IsShown}
+use Rattle.fmp_run_partial.specs.Written.{verdict_to}
 use Rattle.fmp_trace_orders.specs.Lines.{is_open, lasts_from, lines_of, must_of}
 use Rattle.fmp_trace_orders.specs.Playing.{at_booted, plays}
 use Rattle.fmp_trace.specs.Fits.{FitsNames}
@@ -100,21 +100,22 @@ FollowedSays c text followed.Yes = StandsSo c text true × JudgesPartly c text Y
 FollowedSays c text (followed.No k) = StandsSo c text true × JudgesPartly c text (No k)
 FollowedSays c text followed.Ordered = StandsSo c text false
 
--- what was found of the orders of the lines, which say this: an order within their bounds has each line that has to be taken, and each of its lines is the
--- machine's own for the events of that order; or there is none, and the first lines, so many less one, have one and with the next they have none
-abbrev pub SaysOfOrders : Setup → List ℕ → List Said → Found → Type 0
-SaysOfOrders c text said found.Yes = (order : List ℕ)
-    × IsRight (plays numbered) (last_at (lasts_from 0 said)) (length said) (must_at (map must_of said)) (length said) (at_booted c (lines_of text)) order
-SaysOfOrders c text said (found.No k) = (n : ℕ) × (k ≡ n + 1) × (n < length said)
+-- what was found of the orders of the lines, which say this, and an order that bears it out: within their bounds it has each line that has to be taken, and
+-- each of its lines is the machine's own for the events of that order; or it has those of the first lines, so many less one, and with the next there is none
+abbrev pub SaysOfOrders : Setup → List ℕ → List Said → Found → List ℕ → Type 0
+SaysOfOrders c text said found.Yes order =
+    IsRight (plays numbered) (last_at (lasts_from 0 said)) (length said) (must_at (map must_of said)) (length said) (at_booted c (lines_of text)) order
+SaysOfOrders c text said (found.No k) order = (n : ℕ) × (k ≡ n + 1) × (n < length said)
     × IsFirstWithout (plays numbered) (last_at (lasts_from 0 said)) (length said) (must_at (map must_of said)) (at_booted c (lines_of text)) n
-SaysOfOrders c text said found.NotKnown = Unit {0}
+    × IsRight (plays numbered) (last_at (lasts_from 0 said)) (length said) (must_at (map must_of said)) n (at_booted c (lines_of text)) order
+SaysOfOrders c text said found.NotKnown order = order ≡ []
 
--- the verdict on lines of which some say something of orders
-pub record JudgesOrders (c : Setup) (text : List ℕ) (v : Found) : Type 0 where
+-- the verdict on lines of which some say something of orders, by an order of them
+pub record JudgesOrders (c : Setup) (text : List ℕ) (v : Found) (order : List ℕ) : Type 0 where
   pub said : List Said
   pub read : said_in c.names text ≡ Ok said
   pub ordered : list_all is_plain said ≡ false
-  pub says : SaysOfOrders c text said v
+  pub says : SaysOfOrders c text said v order
 
 -- the verdict on other lines
 abbrev pub JudgesStanding : Setup → List ℕ → Found → Type 0
@@ -122,42 +123,20 @@ JudgesStanding c text found.Yes = FollowedSays c text followed.Yes
 JudgesStanding c text (found.No k) = FollowedSays c text (followed.No k)
 JudgesStanding c text found.NotKnown = ⊥
 
--- ---- whole texts
+-- the verdict on lines: as they stand, or by an order of them
+abbrev pub JudgesLines : Setup → List ℕ → Found → Option (List ℕ) → Type 0
+JudgesLines c text v None = JudgesStanding c text v
+JudgesLines c text v (Some order) = JudgesOrders c text v order
 
--- the verdict on lines that end before their log, or with it
-abbrev pub verdict_to : Found → Option ℕ → PartialVerdict
-verdict_to found.Yes None = partial.Yes
-verdict_to found.Yes (Some line) = partial.YesTo line
-verdict_to (found.No k) ends = partial.No k
-verdict_to found.NotKnown ends = partial.NotKnown
-
--- the verdict on a text: that on its lines, but for the last one where that says at which line of its log the text ends
-pub record JudgesText (c : Setup) (text : List ℕ) (verdict : PartialVerdict) : Type 0 where
+-- the verdict on a text and what is shown of it: that on its lines, but for the last one where that says at which line of its log the text ends
+pub record JudgesText (asked : PartialShown) (c : Setup) (text : List ℕ) (shown : Shown) : Type 0 where
   pub short : length text ≤ most_bytes
   pub body : List ℕ
   pub ends : Option ℕ
   pub is_body : IsBody text body ends
   pub found : Found
-  pub judges : JudgesStanding c body found ⊎ JudgesOrders c body found
-  pub is : verdict ≡ verdict_to found ends
-
--- the verdict as it is written
-abbrev pub partial_text : PartialVerdict → List ℕ
-partial_text partial.Yes = codes "yes\n"
-partial_text (partial.YesTo line) = codes "yes to " ++ decimal line ++ codes "\n"
-partial_text (partial.No k) = codes "no " ++ decimal k ++ codes "\n"
-partial_text partial.NotKnown = codes "not known\n"
-
--- what it says of a text that does not end before its log: only `yes` is yes
-abbrev pub plain_verdict : PartialVerdict → Verdict
-plain_verdict partial.Yes = Yes
-plain_verdict (partial.YesTo line) = No line
-plain_verdict (partial.No k) = No k
-plain_verdict partial.NotKnown = No 0
-
--- how the program ends after it
-abbrev pub status_of_partial : PartialVerdict → Status
-status_of_partial partial.Yes = Done
-status_of_partial (partial.YesTo line) = Limit
-status_of_partial (partial.No k) = Different
-status_of_partial partial.NotKnown = Limit
+  pub order : Option (List ℕ)
+  pub judges : JudgesLines c body found order
+  pub said : List Said
+  pub read : said_in c.names body ≡ Ok said
+  pub is_shown : IsShown asked c body (lines_of body) (events_of said) order found (verdict_to found ends) shown

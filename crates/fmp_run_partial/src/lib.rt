@@ -12,9 +12,12 @@
 mod ending;
 mod following;
 mod judging;
+mod playing;
 mod run;
+mod showing;
 mod verdict;
 
 pub use judging::judge_partial;
 pub use run::run_partial;
+pub use showing::{PartialShown, Shown};
 pub use verdict::PartialVerdict;

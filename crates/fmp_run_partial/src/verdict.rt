@@ -1,6 +1,6 @@
 //! The verdict on a partial trace, and how it is written.
 ghost use Rattle.std.specs.Prelude.{◌≡◌};
-ghost use Rattle.fmp_run_partial.specs.Verdicts as spec;
+ghost use Rattle.fmp_run_partial.specs.Written as spec;
 
 use arrayvec::ArrayString;
 use fmp_run_texts::Status;
@@ -18,6 +18,14 @@ pub enum Found {
     No(u32),
     /// There are more places than there is room for.
     NotKnown,
+}
+
+/// What is found of the lines of a partial trace, and by what order of them.
+#[derive(Drop)]
+pub(crate) struct Finding {
+    pub(crate) found: Found,
+    /// Where lines say something of orders, the lines one after the other: in a right order of all, or of those before the line with which there is none.
+    pub(crate) order: Option<Vec<u32>>,
 }
 
 /// The verdict on a partial trace.

@@ -61,9 +61,8 @@ told_goal plays lasts musts goal end s ends h e turns room a said =
     says_goal plays lasts musts goal end s ends turns room a (subst (λ (q : Held _). Says (next plays) is_reached q turns room a) e said)
 
 -- the order without a line
-pub begins : {S : Type 0} (plays : S → ℕ → Option S) (last : ℕ → ℕ) (count : ℕ) (must : ℕ → Bool) (s : S) → IsBeginning plays last count must 0 s
-begins plays last count must s = record {
-  order = [];
+pub starts : {S : Type 0} (plays : S → ℕ → Option S) (last : ℕ → ℕ) (count : ℕ) (must : ℕ → Bool) (s : S) → IsRight plays last count must 0 s []
+starts plays last count must s = record {
   after_it = s;
   within = tt;
   right = refl;
@@ -74,6 +73,9 @@ begins plays last count must s = record {
 pub right_begins : {S : Type 0} (plays : S → ℕ → Option S) (last : ℕ → ℕ) (count : ℕ) (must : ℕ → Bool) (goal : ℕ) (s : S) (order : List ℕ) →
     IsRight plays last count must goal s order → IsBeginning plays last count must goal s
 right_begins plays last count must goal s order is = record { order = order; after_it = is.after_it; within = is.within; right = is.right; all = is.all }
+
+begins : {S : Type 0} (plays : S → ℕ → Option S) (last : ℕ → ℕ) (count : ℕ) (must : ℕ → Bool) (s : S) → IsBeginning plays last count must 0 s
+begins plays last count must s = right_begins plays last count must 0 s [] (starts plays last count must s)
 
 -- where no right order has all lines there is a line at least
 pub some_line : {S : Type 0} (plays : S → ℕ → Option S) (last : ℕ → ℕ) (count : ℕ) (must : ℕ → Bool) (s : S) →

@@ -18,8 +18,8 @@ use std::alloc::{AllocError, Global};
 pub enum Orders {
     /// These lines, one after the other, are a right order that has all that have to be taken.
     Right(Vec<u32>),
-    /// No right order has this line and all before it that have to be taken; one has all before it. Counted from 0.
-    Without(u32),
+    /// No right order has this line and all before it that have to be taken. These lines, one after the other, are a right order that has all before it. Counted from 0.
+    Without(u32, Vec<u32>),
     /// At this line more than 16 lines before it may still come after it, and it is the first such line. Counted from 0.
     Crowded(u32),
     /// Not known: there are more places than there is room for. No clause says when this is the answer.
@@ -60,14 +60,18 @@ fn first_without<P: Player + Drop>(
     ensures { IfOk result (SaysOrders P.plays (last_at lasts.now) (length lasts.now) (must_at musts.now) (P.begins player.now)) }
 {
     let mut bracket = Bracket::up_to(lasts.len() as u32, guess);
+    let mut before = Vec::new(alloc);
     while bracket.low + 1 < bracket.high {
         let goal = bracket.goal();
         let (answer, _reached) = search_goal(alloc, player, lasts, musts, goal, most)?;
         if !bracket.narrow(goal, &answer) {
             return Ok(Orders::NotKnown);
         }
+        if let Answer::Found(steps) = &answer {
+            before = order_of(alloc, lasts, steps)?;
+        }
     }
-    Ok(Orders::Without(bracket.low))
+    Ok(Orders::Without(bracket.low, before))
 }
 
 /// Searches for an order of lines within their bounds in which each line is right and which has all lines that have to be taken. Each line has the number of

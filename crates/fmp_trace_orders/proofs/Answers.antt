@@ -42,6 +42,7 @@ without_over p q s t last count must n same known =
 pub answer_over : {S T : Type 0} (p : S → ℕ → Option S) (q : T → ℕ → Option T) (s : S) (t : T) (last : ℕ → ℕ) (count : ℕ)
     (must : ℕ → Bool) → SameRuns p q s t → (answer : Orders) → SaysOrders p last count must s answer → SaysOrders q last count must t answer
 answer_over p q s t last count must same (orders.Right order) known = right_over p q s t last count must same count order.items known
-answer_over p q s t last count must same (orders.Without n) known = (known.0, without_over p q s t last count must n same known.1)
+answer_over p q s t last count must same (orders.Without n order) known =
+    (known.0, without_over p q s t last count must n same known.1, right_over p q s t last count must same n order.items known.2)
 answer_over p q s t last count must same (orders.Crowded j) known = known
 answer_over p q s t last count must same orders.NotKnown known = known

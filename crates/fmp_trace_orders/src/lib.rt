@@ -17,4 +17,4 @@ mod plays;
 pub use judging::judge_orders;
 pub use laws::orders_match;
 pub use lines::{Lines, read_lines};
-pub use player::LinePlayer;
+pub use player::{LinePlayer, line_from};

@@ -21,7 +21,6 @@ use fmp_text::{Names, TextFault, TextKind};
 use fmp_trace_partial::{Said, put_said};
 use std::alloc::AllocError;
 use std::marker::Model;
-use std::rc::Rc;
 
 // For how many lines there is room from boot.
 pub(crate) const MOST: u32 = 2_147_483_648;
@@ -34,7 +33,7 @@ pub struct LinePlayer<'a> {
     text: &'a [u8],
     pub(crate) lines: &'a Lines,
     /// The kernel at boot, which others that begin alike share.
-    pub(crate) start: Rc<Kernel>,
+    pub(crate) start: &'a Kernel,
     pub(crate) kernel: Kernel,
     pub(crate) left: u32,
     /// What the last event was told to have done.
@@ -60,12 +59,12 @@ impl<'a> Model for LinePlayer<'a> {
     } };
 
     ghost invariant = { λ w. (length w.lines.now.starts.items ≤ most_events) × (length w.kernel.processors ≡ w.config.now.processors)
-        × (w.start.value ≡ boot listed (no_queues w.config.now) w.config.now) × (length w.start.value.processors ≡ w.config.now.processors)
+        × (w.start.now ≡ boot listed (no_queues w.config.now) w.config.now) × (length w.start.now.processors ≡ w.config.now.processors)
         × AreEventsOf w.config.now.names (lines_from w.text.now w.lines.now.starts.items) w.lines.now.events.items };
 }
 
 /// The line that begins at a place of a text, without its line feed. Past its end there is an empty one.
-fn line_from(text: &[u8], start: u32) -> &[u8]
+pub fn line_from(text: &[u8], start: u32) -> &[u8]
     ensures { result.now ≡ spec.line_from text.now start }
 {
     let start = start as usize;
@@ -103,31 +102,17 @@ pub(crate) fn is_right_at(fault: TextFault) -> Result<bool, AllocError>
 }
 
 impl<'a> LinePlayer<'a> {
-    /// One at boot, for these lines of the text.
+    /// One at boot, for these lines of the text. The kernel at boot is given.
     pub fn new(
         config: &'a Config,
         text: &'a [u8],
         lines: &'a Lines,
+        start: &'a Kernel,
     ) -> Result<LinePlayer<'a>, AllocError>
         requires few { length lines.now.starts.items ≤ most_events }
         requires events { AreEventsOf config.now.names (spec.lines_from text.now lines.now.starts.items) lines.now.events.items }
-        ensures { IfOk result (λ w. w.state ≡ spec.at_boot config.entry.now (spec.lines_from text.entry.now lines.entry.now.starts.items)) }
-    {
-        let start = Rc::new(config.allocator(), Kernel::boot(config)?)?;
-        LinePlayer::starting(config, text, lines, start)
-    }
-
-    /// One at boot, with the kernel at boot given.
-    fn starting(
-        config: &'a Config,
-        text: &'a [u8],
-        lines: &'a Lines,
-        start: Rc<Kernel>,
-    ) -> Result<LinePlayer<'a>, AllocError>
-        requires few { length lines.now.starts.items ≤ most_events }
-        requires events { AreEventsOf config.now.names (spec.lines_from text.now lines.now.starts.items) lines.now.events.items }
-        requires boot { start.value ≡ boot listed (no_queues config.now) config.now }
-        requires processors { length start.value.processors ≡ config.now.processors }
+        requires boot { start.now ≡ boot listed (no_queues config.now) config.now }
+        requires processors { length start.now.processors ≡ config.now.processors }
         ensures { IfOk result (λ w. w.state ≡ spec.at_boot config.entry.now (spec.lines_from text.entry.now lines.entry.now.starts.items)) }
     {
         Ok(LinePlayer {
@@ -146,8 +131,7 @@ impl<'a> LinePlayer<'a> {
     pub(crate) fn twin(&self) -> Result<LinePlayer<'a>, AllocError>
         ensures { IfOk result (λ w. w.state ≡ begun self.now.state) }
     {
-        let start = self.start.clone()?;
-        LinePlayer::starting(self.config, self.text, self.lines, start)
+        LinePlayer::new(self.config, self.text, self.lines, self.start)
     }
 
     /// A line by its number from 0, without its line feed.

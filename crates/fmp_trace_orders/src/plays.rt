@@ -25,7 +25,7 @@ impl<'a> Player for LinePlayer<'a> {
 
     /// The error comes where the kernel has not the memory to become as it was at boot: kernels of one configuration have it, but no clause says so.
     fn restart(&mut self) -> Result<(), AllocError> {
-        if !self.kernel.copy_from(&self.start) {
+        if !self.kernel.copy_from(self.start) {
             return Err(AllocError);
         }
         self.left = MOST;

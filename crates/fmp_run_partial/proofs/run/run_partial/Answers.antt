@@ -43,3 +43,18 @@ returns-in_err-write_out-clause-partly g c = λ tells tells_too own.
 
 pub returns-clause-partly : goal.returns-clause-partly
 returns-clause-partly g c = λ tells tells_too own. c.in_ok-_config.ensures.accepted tells tells_too own.config own.says (inr (own.events, own.prints))
+
+pub returns-in_err-write_out-clause-writes : goal.returns-in_err-write_out-clause-writes
+returns-in_err-write_out-clause-writes g c =
+    let p = err_from_is_err_and c.from_residual-in_err-write_out.result c.from_residual-in_err-write_out.ensures.1 in
+    record {
+      checked = λ tells tells_too. rw p.1 tt;
+      written = λ known. rw p.1 tt;
+      passed = rw p.1 tt;
+      begun = λ tells tells_too known is. (
+        c.in_ok-_config.shown,
+        record { config = c.in_ok-_config._config; says = c.in_ok-_config.ensures.says tells; judges = c.in_ok-_config.ensures.made tells_too },
+        rw c.as_slice.ensures.value at (c.in_err-write_out.ensures.err known),
+      );
+      unwritten = λ known. rw (p.1, p.2) (λ other. absurd (other refl));
+    }

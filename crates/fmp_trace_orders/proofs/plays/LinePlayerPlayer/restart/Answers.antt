@@ -5,7 +5,7 @@ pub returns-then-not-copy_from-clause-begins : goal.returns-then-not-copy_from-c
 returns-then-not-copy_from-clause-begins c = rw (← c.self.view_is) refl
 
 pub returns-clause-there : goal.returns-clause-there
-returns-clause-there c = let same = c.if-not-copy_from.ensures.copied refl ∙ c.deref.ensures ∙ c.self.invariant.2 in rw (← c.self.view_is, same) refl
+returns-clause-there c = let same = c.if-not-copy_from.ensures.copied refl ∙ c.self.invariant.2 in rw (← c.self.view_is, same) refl
 
 pub returns-clause-begins : goal.returns-clause-begins
 returns-clause-begins c = rw (← c.self.view_is) refl

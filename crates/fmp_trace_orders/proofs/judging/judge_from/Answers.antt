@@ -3,20 +3,20 @@ use Rattle.std.proofs.lemmas.Result.{IfOk-weaker}
 use Rattle.fmp_names.specs.Names.{AreValid}
 use Rattle.fmp_search_lines.specs.Lasts.{last_at, must_at}
 use Rattle.fmp_trace_orders.proofs.Numbers.{few_starts, few_lasts, events_kept, judged}
-use Rattle.fmp_trace_orders.proofs.judging.judge_orders.Goals as goal
+use Rattle.fmp_trace_orders.proofs.judging.judge_from.Goals as goal
 
 pub new-requires-clause-few : goal.new-requires-clause-few
 new-requires-clause-few c =
-    few_starts c.args.config.now.names c.args.text.now c.args.lines.now (subst AreValid c.names.ensures.value c.validity.ensures) c.requires
+    few_starts c.args.config.now.names c.args.text.now c.args.lines.now (subst AreValid c.names.ensures.value c.validity.ensures) c.requires.lines
 
 pub new-requires-clause-events : goal.new-requires-clause-events
 new-requires-clause-events c =
-    events_kept c.args.config.now.names c.args.text.now c.args.lines.now (subst AreValid c.names.ensures.value c.validity.ensures) c.requires
+    events_kept c.args.config.now.names c.args.text.now c.args.lines.now (subst AreValid c.names.ensures.value c.validity.ensures) c.requires.lines
 
 pub search_orders-requires : goal.search_orders-requires
 search_orders-requires c =
     let value = c.deref.ensures.value in
-    rw value (few_lasts c.args.config.now.names c.args.text.now c.args.lines.now (subst AreValid c.names.ensures.value c.validity.ensures) c.requires)
+    rw value (few_lasts c.args.config.now.names c.args.text.now c.args.lines.now (subst AreValid c.names.ensures.value c.validity.ensures) c.requires.lines)
 
 pub returns : goal.returns
 returns c =
@@ -28,5 +28,5 @@ returns c =
     let says = rw (lasts_are, musts_are) at c.search_orders.ensures in
     IfOk-weaker c.search_orders.result _ _
     (λ answer known. judged config c.args.text.now lines c.in_ok-player.player.state (last_at lines.lasts.items) (length lines.lasts.items)
-    (must_at lines.musts.items) answer c.names.ensures.valid valid c.requires c.in_ok-player.ensures known)
+    (must_at lines.musts.items) answer c.names.ensures.valid valid c.requires.lines c.in_ok-player.ensures known)
     says
