@@ -1,0 +1,84 @@
+//! What is told of something that stays for ever.
+use crate::notes::{About, Notes, tell};
+use crate::patterns::{put_between, put_item};
+use crate::unmade::{note_calls_unmade, note_extent};
+use fmp_out::Text;
+use fmp_ranges::Bounds;
+use fmp_run_explore::{Orders, Progress};
+use fmp_run_forever::{Stayed, Staying};
+use fmp_search_pattern::Moment;
+use std::alloc::{AllocError, Global};
+
+/// The words of what is to stay, as a question has them: those of its only part.
+fn report_of(alloc: Global, lasting: &Moment) -> Result<Vec<u8>, AllocError> {
+    let mut text = Vec::new(alloc);
+    let Some(part) = lasting.parts().first() else {
+        return Ok(text);
+    };
+    for item in part.items() {
+        put_between(&mut text, b" & ")?;
+        if item.is_negated() {
+            text.extend_from_slice(b"not ")?;
+        }
+        put_item(alloc, &mut text, item)?;
+    }
+    Ok(text)
+}
+
+/// Tells from which line of the trace on something stays, and what.
+fn tell_from<N: Notes>(notes: &mut N, alloc: Global, stayed: &Stayed, number: u8, from: u32) {
+    let Some(lasting) = stayed.asked.question.get(usize::from(number)) else {
+        return;
+    };
+    let Ok(words) = report_of(alloc, lasting) else {
+        return;
+    };
+    let mut line = Text::new(alloc);
+    line.put(b"fmpsim: from line ");
+    line.put_number(u64::from(from));
+    line.put(b" on ");
+    line.put(words.as_slice());
+    line.put(b" for ever");
+    tell(notes, line);
+}
+
+/// Tells that the trace may be longer than one has to be.
+fn tell_longer<N: Notes>(notes: &mut N, alloc: Global) {
+    let mut line = Text::new(alloc);
+    line.put(b"fmpsim: a shorter one is not ruled out");
+    tell(notes, line);
+}
+
+/// Tells that nothing stays in any order, and which calls of the scripts no order makes.
+fn tell_never<N: Notes + Progress>(
+    notes: &mut N,
+    about: About<'_>,
+    stayed: &Stayed,
+    bounds: Bounds,
+) {
+    note_extent(notes, about, stayed.extent, true);
+    let orders = Orders {
+        config: &stayed.asked.config,
+        scripts: &stayed.asked.scripts,
+        rules: stayed.rules,
+    };
+    note_calls_unmade(notes, about, orders, stayed.extent, bounds);
+}
+
+/// Tells what is known beside the trace that was written, or beside `never` and `not within`.
+pub fn note_stayed<N: Notes + Progress>(
+    notes: &mut N,
+    about: About<'_>,
+    stayed: &Stayed,
+    bounds: Bounds,
+) {
+    match stayed.staying {
+        Staying::Shortest(number, line) => tell_from(notes, about.alloc, stayed, number, line),
+        Staying::Found(number, line) => {
+            tell_from(notes, about.alloc, stayed, number, line);
+            tell_longer(notes, about.alloc);
+        }
+        Staying::Never => tell_never(notes, about, stayed, bounds),
+        Staying::NotWithin(_) => note_extent(notes, about, stayed.extent, false),
+    }
+}

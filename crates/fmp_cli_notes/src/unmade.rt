@@ -1,0 +1,238 @@
+//! What is told beside `never` and `not within`: how far the search went, and which calls of the scripts no order makes. Where a call is never made, an
+//! answer `never` may say less than it seems to.
+use crate::notes::{About, Notes, tell};
+use fmp_cli_hints_config::{is_misplaced, put_misplaced};
+use fmp_codes::{Event, NameKind, Proc};
+use fmp_out::Text;
+use fmp_ranges::{Bounds, Turns};
+use fmp_run_explore::{Extent, Finding, Met, Orders, Outcome, Progress, is_made};
+use fmp_trace::put_event;
+use std::alloc::{AllocError, Global};
+
+// How many calls are told.
+const MOST_CALLS: usize = 8;
+
+// By which part of the lines to the farthest place most calls are made.
+const SOON: u32 = 4;
+
+// How many positions of a script are looked at: a script has no more steps.
+const POSITIONS: u32 = 256;
+
+/// Puts one call: which of its script it is, its text, and where it is refused what to write.
+fn put_call_line(
+    out: &mut Text,
+    alloc: Global,
+    orders: Orders<'_>,
+    place: (u8, u32),
+    is_refused: bool,
+) {
+    let (function, position) = place;
+    let names = orders.config.names();
+    if let Some(call) = orders.scripts.step(Some(function), position) {
+        out.put(b"call ");
+        out.put_number(u64::from(position.saturating_add(1)));
+        out.put(b" of ");
+        let name = names.name(NameKind::Function, usize::from(function));
+        out.put(name.unwrap_or(b"?"));
+        out.put(b": ");
+        let added = put_event(out.as_mut_vec(), names, Event::Call(Proc::new(1), call));
+        out.note(added);
+        if is_refused {
+            let added = put_misplaced(alloc, out.as_mut_vec(), call);
+            out.note(added);
+        }
+    }
+}
+
+/// Adds the calls of a function's script that have no mark, or without marks those that are always refused.
+fn add_calls(
+    calls: &mut Vec<(u8, u32)>,
+    orders: Orders<'_>,
+    met: Option<&Met>,
+    function: u8,
+) -> Result<(), AllocError> {
+    for position in 0..POSITIONS {
+        let is_one = match (orders.scripts.step(Some(function), position), met) {
+            (None, _) => false,
+            (Some(_), Some(met)) => !is_made(met, function, position),
+            (Some(call), None) => is_misplaced(orders.config, function, call),
+        };
+        if is_one {
+            calls.push((function, position))?;
+        }
+    }
+    Ok(())
+}
+
+/// The calls of all scripts that have no mark, or without marks those that are always refused: each its function and its position.
+fn calls_without(
+    alloc: Global,
+    orders: Orders<'_>,
+    met: Option<&Met>,
+) -> Result<Vec<(u8, u32)>, AllocError> {
+    let mut calls = Vec::new(alloc);
+    for function in 0..=u8::MAX {
+        add_calls(&mut calls, orders, met, function)?;
+    }
+    Ok(calls)
+}
+
+/// Puts that no order makes what follows, or no order of at most so many lines.
+fn put_unmade(out: &mut Text, met: &Met, turns: u32) {
+    if met.whole {
+        out.put(b"no order makes ");
+    } else {
+        out.put(b"no order of at most ");
+        out.put_number(u64::from(turns));
+        out.put(b" lines makes ");
+    }
+}
+
+/// Tells how many more calls there are.
+fn tell_more<N: Notes>(notes: &mut N, about: About<'_>, more: usize, met: Option<&Met>) {
+    let mut line = about.line();
+    line.put(if met.is_none() {
+        b"and ".as_slice()
+    } else {
+        b"nor ".as_slice()
+    });
+    line.put_number(more as u64);
+    line.put(b" more calls of the scripts");
+    tell(notes, line);
+}
+
+/// Tells of the first of these calls that they are always refused, or that no order makes them where there are marks, and how many more there are.
+fn tell_calls<N: Notes>(
+    notes: &mut N,
+    about: About<'_>,
+    orders: Orders<'_>,
+    calls: &[(u8, u32)],
+    met: Option<&Met>,
+    turns: u32,
+) {
+    for place in calls.iter().take(MOST_CALLS) {
+        let mut line = about.line();
+        if let Some(met) = met {
+            put_unmade(&mut line, met, turns);
+        }
+        put_call_line(&mut line, about.alloc, orders, *place, met.is_none());
+        tell(notes, line);
+    }
+    let more = calls.len().saturating_sub(MOST_CALLS);
+    if more > 0 {
+        tell_more(notes, about, more, met);
+    }
+}
+
+/// Tells how far a search went that found no order: through all places, or through those within so many lines.
+pub fn note_extent<N: Notes>(notes: &mut N, about: About<'_>, extent: Extent, all: bool) {
+    let mut line = about.line();
+    line.put(if all {
+        b"places gone through: ".as_slice()
+    } else {
+        b"places found: ".as_slice()
+    });
+    line.put_number(extent.places as u64);
+    if all {
+        line.put(b", all there are");
+    }
+    line.put(b"; lines to the farthest: ");
+    line.put_number(u64::from(extent.farthest));
+    tell(notes, line);
+}
+
+/// Tells of the calls that have no mark, or without marks of those that are always refused.
+fn tell_without<N: Notes>(
+    notes: &mut N,
+    about: About<'_>,
+    orders: Orders<'_>,
+    met: Option<&Met>,
+    turns: u32,
+) {
+    if let Ok(calls) = calls_without(about.alloc, orders, met) {
+        tell_calls(notes, about, orders, calls.as_slice(), met, turns);
+    }
+}
+
+/// Whether the search used up the room for places, and that for the calls would, too. A question of one step without `without` lets both go through the same places.
+fn has_no_room(outcome: &Outcome, room: u32) -> bool {
+    let is_full = match outcome.extent {
+        Some(extent) => extent.places >= room as usize,
+        None => false,
+    };
+    let is_one = match outcome.layer.question().steps() {
+        [step] => step.without.is_none(),
+        _ => false,
+    };
+    let is_ended = matches!(outcome.finding, Finding::NotWithin(_)) && outcome.layer.count() == 0;
+    is_ended && is_full && is_one
+}
+
+/// Which calls are made, where all of them are made by a part of the lines to the farthest place of a search. Few places are that near.
+fn all_met_soon<P: Progress>(
+    alloc: Global,
+    orders: Orders<'_>,
+    extent: Extent,
+    bounds: Bounds,
+    progress: &mut P,
+) -> Result<Option<Met>, AllocError> {
+    let lines = bounds.turns.count.min(extent.farthest / SOON);
+    let Some(turns) = Turns::new(lines.max(1)) else {
+        return Ok(None);
+    };
+    let places = bounds.places;
+    let Some(met) = orders.made(alloc, progress, Bounds { turns, places })? else {
+        return Ok(None);
+    };
+    let is_all = calls_without(alloc, orders, Some(&met))?.is_empty();
+    Ok(is_all.then_some(met))
+}
+
+/// Which calls are made, as far as that is known in time. The orders are not gone through to their ends where each call is made before.
+fn calls_met<P: Progress>(
+    alloc: Global,
+    orders: Orders<'_>,
+    extent: Extent,
+    bounds: Bounds,
+    progress: &mut P,
+) -> Result<Option<Met>, AllocError> {
+    match all_met_soon(alloc, orders, extent, bounds, progress)? {
+        Some(met) => Ok(Some(met)),
+        None => orders.made(alloc, progress, bounds),
+    }
+}
+
+/// Tells which calls of the scripts are always refused, and which no order makes, beside a question that no order shows. It says nothing that is not
+/// found in time.
+pub(crate) fn note_calls_unmade<N: Notes + Progress>(
+    notes: &mut N,
+    about: About<'_>,
+    orders: Orders<'_>,
+    extent: Extent,
+    bounds: Bounds,
+) {
+    let turns = bounds.turns.count;
+    tell_without(notes, about, orders, None, turns);
+    if notes.is_over() {
+        return;
+    }
+    let found = calls_met(about.alloc, orders, extent, bounds, notes);
+    notes.end();
+    if let Ok(Some(met)) = found {
+        tell_without(notes, about, orders, Some(&met), turns);
+    }
+}
+
+/// Likewise of what a search found, unless the room for places does not do.
+pub fn note_unmade<N: Notes + Progress>(
+    notes: &mut N,
+    about: About<'_>,
+    outcome: &Outcome,
+    bounds: Bounds,
+) {
+    if let Some(extent) = outcome.extent {
+        if !has_no_room(outcome, bounds.places.count) {
+            note_calls_unmade(notes, about, outcome.layer.orders(), extent, bounds);
+        }
+    }
+}
