@@ -32,8 +32,7 @@ rules_of r = record { ticks = r.ticks; prompt = r.prompt; drift = r.drift; pace 
 abbrev pub runs_of : SmpRequest → SeedRuns
 runs_of r = record {
   order = if r.late || r.stalls then Drawn (record { late = r.late; stalls = r.stalls }) else InTurn;
-  ticks = r.limits.ticks;
-  turns = r.limits.turns;
+  limits = r.limits;
 }
 
 -- what is looked for in them, where that is a question

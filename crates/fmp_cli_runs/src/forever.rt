@@ -12,7 +12,7 @@ use crate::orders::rules_of;
 use fmp_cli_explore::ExploreRequest;
 use fmp_run_devices::{Sink, Source};
 use fmp_run_events::RunFault;
-use fmp_run_explore::{ExploreFault, Progress};
+use fmp_run_explore::{ExploreFault, Progress, SearchRequest};
 use fmp_run_forever::{Stayed, run_forever};
 use std::alloc::Global;
 
@@ -35,16 +35,16 @@ pub fn search_forever<R: Source, S: Source, W: Sink, P: Progress>(
         (sink_ends W.written W.buffered W.failures output.old output.new) result }
 
     // What it writes: what is known of all orders by these rules.
-    ensures writes { WritesOut (λ c s old new found. IsExplored c s request.now.question.now (asked.rules_of request.now) request.now.bounds.turns old new found.asked.question.items found.staying)
-        (λ c s. IsBegun c s request.now.question.now (asked.rules_of request.now) request.now.bounds.turns) (ExploreFault.Run RunFault.Write)
+    ensures writes { WritesOut (λ c s old new found. IsExplored c s request.now.question.now
+        (asked.rules_of request.now) request.now.bounds.turns.count old new found.asked.question.items found.staying)
+        (λ c s. IsBegun c s request.now.question.now (asked.rules_of request.now) request.now.bounds.turns.count) (ExploreFault.Run RunFault.Write)
         (source_ends R.left R.failures config.old config.new) (source_ends S.left S.failures scripts.old scripts.new)
         (sink_ends W.written W.buffered W.failures output.old output.new) result }
 {
-    let question = request.question.as_bytes();
-    let rules = rules_of(request);
-    let turns = request.bounds.turns;
-    let places = request.bounds.places;
-    run_forever(
-        alloc, config, scripts, output, question, rules, progress, turns, places,
-    )
+    let asked = SearchRequest {
+        question: request.question.as_bytes(),
+        rules: rules_of(request),
+        bounds: request.bounds,
+    };
+    run_forever(alloc, config, scripts, output, &asked, progress)
 }

@@ -36,17 +36,14 @@ pub fn search_most<R: Source, S: Source, W: Sink, P: Progress>(
 
     // What it writes: how far everything goes in the orders by these rules. The status says of which orders that is known.
     ensures writes { WritesOut (λ c s old new status. (reach : AnyReach) × (status ≡ spec.status_of reach)
-        × IsTold c s (asked.rules_of request.now) request.now.bounds.turns old new reach)
-        (λ c s. IsBegun c s (asked.rules_of request.now) request.now.bounds.turns) RunFault.Write
+        × IsTold c s (asked.rules_of request.now) request.now.bounds.turns.count old new reach)
+        (λ c s. IsBegun c s (asked.rules_of request.now) request.now.bounds.turns.count) RunFault.Write
         (source_ends R.left R.failures config.old config.new) (source_ends S.left S.failures scripts.old scripts.new)
         (sink_ends W.written W.buffered W.failures output.old output.new) result }
 {
     let rules = rules_of(request);
-    let turns = request.bounds.turns;
-    let places = request.bounds.places;
-    match run_most(
-        alloc, config, scripts, output, rules, progress, turns, places,
-    ) {
+    let bounds = request.bounds;
+    match run_most(alloc, config, scripts, output, rules, bounds, progress) {
         Ok(reach) => Ok(reach.status()),
         Err(fault) => Err(fault),
     }

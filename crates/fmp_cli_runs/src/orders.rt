@@ -17,7 +17,7 @@ ghost use Rattle.fmp_cli_runs.specs.Asked as asked;
 use fmp_cli_explore::ExploreRequest;
 use fmp_run_devices::{Sink, Source};
 use fmp_run_events::{RunFault, Status};
-use fmp_run_explore::{ExploreFault, Outcome, Progress, Rules, run_explore};
+use fmp_run_explore::{ExploreFault, Outcome, Progress, Rules, SearchRequest, run_explore};
 use fmp_run_explore_from::{FromFault, run_explore_from};
 use std::alloc::Global;
 
@@ -53,8 +53,10 @@ pub fn search<R: Source, S: Source, W: Sink, P: Progress>(
         (sink_ends W.written W.buffered W.failures output.old output.new) result }
 
     // What it writes: what is known of all orders by these rules.
-    ensures writes { WritesOut (λ c s old new o. IsExplored c s request.now.question.now (asked.rules_of request.now) request.now.bounds.turns (request.now.bounds.places - 1) old new o.finding)
-        (λ c s. IsBegun c s request.now.question.now (asked.rules_of request.now) request.now.bounds.turns (request.now.bounds.places - 1)) (ExploreFault.Run RunFault.Write)
+    ensures writes { WritesOut (λ c s old new o. IsExplored c s request.now.question.now (asked.rules_of request.now) request.now.bounds.turns.count
+        (request.now.bounds.places.count - 1) old new o.finding)
+        (λ c s. IsBegun c s request.now.question.now (asked.rules_of request.now) request.now.bounds.turns.count (request.now.bounds.places.count - 1))
+        (ExploreFault.Run RunFault.Write)
         (source_ends R.left R.failures config.old config.new) (source_ends S.left S.failures scripts.old scripts.new)
         (sink_ends W.written W.buffered W.failures output.old output.new) result }
 
@@ -64,15 +66,14 @@ pub fn search<R: Source, S: Source, W: Sink, P: Progress>(
     // Beside that it gives the orders from which a search is to go on.
     ensures layer { IsKnown (R.left config.old) → IsKnown (S.left scripts.old)
         → IfOk result (λ o. LeavesLayer (bytes_of (R.left config.old)) (bytes_of (S.left scripts.old)) request.now.question.now
-        (asked.rules_of request.now) request.now.bounds.turns o.finding o.layer) }
+        (asked.rules_of request.now) request.now.bounds.turns.count o.finding o.layer) }
 {
-    let question = request.question.as_bytes();
-    let rules = rules_of(request);
-    let turns = request.bounds.turns;
-    let places = request.bounds.places;
-    run_explore(
-        alloc, config, scripts, output, question, rules, progress, turns, places,
-    )
+    let asked = SearchRequest {
+        question: request.question.as_bytes(),
+        rules: rules_of(request),
+        bounds: request.bounds,
+    };
+    run_explore(alloc, config, scripts, output, &asked, progress)
 }
 
 /// The same of the orders that go on from a trace.
@@ -96,8 +97,10 @@ pub fn search_from<R: Source, S: Source, W: Sink, P: Progress>(
 
     // What it writes: what is known of all orders by these rules that go on from the trace. The status says which that is.
     ensures writes { WritesOut (λ c s old new status. (finding : AnyFinding) × (status ≡ spec.status_of finding) × IsEndedBy (P.over progress.new) finding
-        × IsExploredFrom c s begun.now request.now.question.now (asked.rules_of request.now) request.now.bounds.turns (request.now.bounds.places - 1) old new finding)
-        (λ c s. IsBegunFrom c s begun.now request.now.question.now (asked.rules_of request.now) request.now.bounds.turns (request.now.bounds.places - 1)) (FromFault.Explore (ExploreFault.Run RunFault.Write))
+        × IsExploredFrom c s begun.now request.now.question.now (asked.rules_of request.now) request.now.bounds.turns.count
+        (request.now.bounds.places.count - 1) old new finding)
+        (λ c s. IsBegunFrom c s begun.now request.now.question.now (asked.rules_of request.now) request.now.bounds.turns.count
+        (request.now.bounds.places.count - 1)) (FromFault.Explore (ExploreFault.Run RunFault.Write))
         (source_ends R.left R.failures config.old config.new) (source_ends S.left S.failures scripts.old scripts.new)
         (sink_ends W.written W.buffered W.failures output.old output.new) result }
 
@@ -108,13 +111,12 @@ pub fn search_from<R: Source, S: Source, W: Sink, P: Progress>(
     // A trace is too long whatever the texts are.
     ensures long { (result ≡ Err FromFault.Long) ↔ (most_bytes < length begun.now) }
 {
-    let question = request.question.as_bytes();
-    let rules = rules_of(request);
-    let turns = request.bounds.turns;
-    let places = request.bounds.places;
-    match run_explore_from(
-        alloc, config, scripts, begun, output, question, rules, progress, turns, places,
-    ) {
+    let asked = SearchRequest {
+        question: request.question.as_bytes(),
+        rules: rules_of(request),
+        bounds: request.bounds,
+    };
+    match run_explore_from(alloc, config, scripts, begun, output, &asked, progress) {
         Ok(finding) => Ok(finding.status()),
         Err(fault) => Err(fault),
     }

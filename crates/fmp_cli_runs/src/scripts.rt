@@ -17,7 +17,9 @@ use fmp_cli_table::SmpRequest;
 use fmp_run_devices::{Sink, Source};
 use fmp_run_events::{RunFault, Status};
 use fmp_run_explore::ExploreFault;
-use fmp_run_seeds::{Drawing, SeedOrder, SeedProgress, SeedRuns, SeedSearch, run_seeds};
+use fmp_run_seeds::{
+    Drawing, SeedOrder, SeedProgress, SeedRequest, SeedRuns, SeedSearch, run_seeds,
+};
 use fmp_run_smp::run_scripts;
 use fmp_smp::Open;
 use std::alloc::Global;
@@ -54,18 +56,17 @@ pub fn play<T: Threads + Wait + Sync, R: Source, S: Source, W: Sink>(
     // What it writes: the trace of a run with the limits that were asked for, in the order of the seed where one was given. The status says how the run
     // ended, and the lines that are told are those of the tasks that wait there.
     ensures writes { WritesOut (λ c s old new played. (ended : AnyEnded) × (played.status ≡ spec.status_by request.now.strict ended played.waiting.items)
-        × IsPlayedToEnd request.now.seed c s request.now.limits.ticks request.now.limits.turns old new ended played.waiting.items)
-        (λ c s. IsPlayBegun c s request.now.limits.ticks request.now.limits.turns) RunFault.Write
+        × IsPlayedToEnd request.now.seed c s request.now.limits.ticks.count request.now.limits.turns.count old new ended played.waiting.items)
+        (λ c s. IsPlayBegun c s request.now.limits.ticks.count request.now.limits.turns.count) RunFault.Write
         (source_ends R.left R.failures config.old config.new) (source_ends S.left S.failures scripts.old scripts.new)
         (sink_ends W.written W.buffered W.failures trace.old trace.new) result }
 
     // Where a seed was given no thread was started.
     ensures no_thread_fault { IfSome request.now.seed (λ seed. IfErr result (λ fault. is_thread_fault fault ≡ false)) }
 {
-    let ticks = request.limits.ticks;
-    let turns = request.limits.turns;
+    let limits = request.limits;
     let seed = request.seed;
-    match run_scripts(rt, alloc, config, scripts, trace, ticks, turns, seed, &Open) {
+    match run_scripts(rt, alloc, config, scripts, trace, limits, seed, &Open) {
         Ok(end) => Ok(Played {
             status: end.status(request.strict),
             waiting: end.waiting,
@@ -89,8 +90,7 @@ fn runs_of(request: &SmpRequest<'_>) -> SeedRuns
     };
     SeedRuns {
         order,
-        ticks: request.limits.ticks,
-        turns: request.limits.turns,
+        limits: request.limits,
     }
 }
 
@@ -129,8 +129,11 @@ pub fn seek<R: Source, S: Source, W: Sink, P: SeedProgress>(
         Some(text) => Some(text.as_bytes()),
         None => None,
     };
-    let runs = runs_of(request);
-    run_seeds(
-        alloc, config, scripts, trace, question, runs, first, last, progress,
-    )
+    let asked = SeedRequest {
+        question,
+        runs: runs_of(request),
+        first,
+        last,
+    };
+    run_seeds(alloc, config, scripts, trace, &asked, progress)
 }
