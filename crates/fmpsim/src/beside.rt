@@ -9,7 +9,7 @@ use fmp_cli_hints_config::{config_context, config_spot, text_hint, thing_hint};
 use fmp_cli_hints_question::question_context;
 use fmp_config::{Config, ConfigFault, MOST_BYTES as MOST_CONFIG_BYTES, read_config};
 use fmp_run_events::{ReadSource, RunFault, read_up_to};
-use fmp_run_partial::judge_partial;
+use fmp_run_partial::{PartialShown, judge_partial};
 use fmp_search_question::QuestionFault;
 use fmp_text::{MOST_BYTES, TextFault, TextKind, read_events};
 use fmp_text_scripts::read_scripts;
@@ -70,7 +70,7 @@ fn text_fault(alloc: Global, form: TextForm, text: &[u8], config: &Config) -> Op
         TextForm::Events => read_events(alloc, text, names).err(),
         TextForm::Scripts => read_scripts(alloc, text, names).err(),
         TextForm::Trace => read_trace(alloc, text, names).err(),
-        TextForm::Partial => judge_partial(alloc, config, text).err(),
+        TextForm::Partial => { judge_partial(alloc, config, text, PartialShown::Verdict).err() }
     }
 }
 

@@ -1,9 +1,10 @@
 //! The lines that tell faults, in this program's own form or in that of compilers.
-use fmp_cli::{Asked, Paths};
+use fmp_cli::{Asked, Partly, Paths};
 use fmp_cli_diagnostics::{Diagnostic, LineForm, Spot};
 use fmp_cli_hints_question::{question_code, question_words};
 use fmp_run_events::{FaultLine, RunFault, Status};
 use fmp_run_explore::QuestionLine;
+use fmp_run_partial::{PartialVerdict, Shown};
 use fmp_search_question::QuestionFault;
 
 /// Tells the line of a fault in this program's own form.
@@ -50,6 +51,58 @@ pub fn tell_differs<R: Eprint>(rt: &R, form: LineForm, path: &str, asked: Asked,
         (_, Asked::Waveform | Asked::Page) => {
             eprintln!(rt; "fmpsim: {path}: line {line} differs: see fmpsim check --show")
         }
+        _ => return,
+    };
+}
+
+/// Tells the line of a partial trace that is not the machine's, with the machine's own where what stands beside a fault is to be shown. Where the
+/// verdict is asked for standard output has its number.
+fn tell_partly_differs<R: Eprint>(
+    rt: &R,
+    form: LineForm,
+    paths: &Paths<'_>,
+    asked: Partly,
+    line: u32,
+    pair: &[u8],
+) {
+    if form != LineForm::Gcc && matches!(asked, Partly::Order) {
+        let path = paths.text;
+        let _ = eprintln!(rt;
+            "fmpsim: {path}: line {line} differs: see fmpsim check --partial --show"
+        );
+    } else {
+        tell_differs(rt, form, paths.text, Asked::Verdict, line);
+    }
+    if paths.context.is_none() || matches!(asked, Partly::First) {
+        return;
+    }
+    if let Ok(pair) = str::from_utf8(pair) {
+        let _ = eprint!(rt; "{pair}");
+    }
+}
+
+/// Tells of a partial trace what is not written of it: that it has nothing to judge, the line that is not the machine's, and where the machine's own lines
+/// are asked for a verdict that is not `yes`.
+pub fn tell_partly<R: Eprint>(
+    rt: &R,
+    form: LineForm,
+    paths: &Paths<'_>,
+    asked: Partly,
+    shown: &Shown,
+) {
+    let path = paths.text;
+    let pair = shown.pair.as_slice();
+    let _ = match (shown.verdict, asked) {
+        (PartialVerdict::No(line), _) => {
+            return tell_partly_differs(rt, form, paths, asked, line, pair);
+        }
+        (PartialVerdict::Yes, _) if shown.is_empty => {
+            eprintln!(rt; "fmpsim: {path}: nothing to judge")
+        }
+        (PartialVerdict::YesTo(line), Partly::Order) => {
+            eprintln!(rt; "fmpsim: {path}: yes to {line}")
+        }
+        (PartialVerdict::NotKnown, Partly::Order) => eprintln!(rt; "fmpsim: {path}: not known"),
         _ => return,
     };
 }

@@ -8,33 +8,29 @@
 mod beside;
 mod layer;
 mod lines;
-mod never_so;
 mod output;
-mod patterns;
 mod progress;
 mod questions;
 mod scripts;
-mod staying;
 mod texts;
-mod unmade;
-mod unshown;
 mod values;
 mod waiting;
 mod words;
 
 use beside::Telling;
 use clap::error::ErrorKind;
-use fmp_cli::{Asked, Described, Paths, Report, Request};
+use fmp_cli::{Asked, Described, Partly, Paths, Report, Request};
 use fmp_cli_colour::ColourSink;
 use fmp_cli_diagnostics::{LineForm, line_form, without_option};
 use fmp_cli_explore::{ExploreRequest, ShrinkRequest};
 use fmp_cli_hints::TextForm;
+use fmp_cli_notes::{About, note_extent, note_stayed, note_unmade, note_unshown};
 use fmp_cli_runs::{answer, judge, search, search_forever, search_from, search_most, shrink};
 use fmp_cli_table::SmpRequest;
 use fmp_run_events::{MemSource, ReadSource, RunFault, Status, WriteSink, run_life};
 use fmp_run_explore::{Finding, Progress};
 use fmp_run_list::run_list;
-use fmp_run_partial::{PartialVerdict, run_partial};
+use fmp_run_partial::{PartialShown, run_partial};
 use fmp_run_seeds::SeedProgress;
 use fmp_run_wave::run_save;
 use fmp_search_question::is_lasting;
@@ -94,7 +90,13 @@ fn calls<R: Files + Input + Print + AllocGlobal>(
     let (config, events) = both_opened(rt, paths)?;
     let mut events = LineKeeper::new(rt.alloc(), events);
     let run = answered(rt, config.as_slice(), &mut events, report, coloured);
-    kept(run, Kept { config, text: events.into_last() })
+    kept(
+        run,
+        Kept {
+            config,
+            text: events.into_last(),
+        },
+    )
 }
 
 /// Writes what the events change of the things with these names, each change as its event comes.
@@ -135,7 +137,13 @@ fn life<R: Files + Input + Print + AllocGlobal>(
     let (config, events) = both_opened(rt, paths)?;
     let mut events = LineKeeper::new(rt.alloc(), events);
     let run = followed(rt, config.as_slice(), &mut events, names, coloured);
-    kept(run, Kept { config, text: events.into_last() })
+    kept(
+        run,
+        Kept {
+            config,
+            text: events.into_last(),
+        },
+    )
 }
 
 /// How a run that is asked for some things ends the program. A fault is told, and a name that names nothing.
@@ -189,10 +197,20 @@ fn trace<R: Files + Input + Print + Eprint + AllocGlobal>(
     Ok(Status::of_verdict(verdict))
 }
 
-/// Judges a partial trace, and reports the first line that is not the machine's where nothing that is written does.
+/// What is written of a partial trace of which this is asked.
+fn partly_shown(asked: Partly) -> PartialShown {
+    match asked {
+        Partly::Verdict => PartialShown::Verdict,
+        Partly::First => PartialShown::First,
+        Partly::Order => PartialShown::Order,
+    }
+}
+
+/// Judges a partial trace, writes what is asked of it, and reports what that does not tell.
 fn partial<R: Files + Input + Print + Eprint + AllocGlobal>(
     rt: &R,
     paths: &Paths<'_>,
+    asked: Partly,
     line: LineForm,
 ) -> Result<Status, Ending> {
     let alloc = rt.alloc();
@@ -203,12 +221,11 @@ fn partial<R: Files + Input + Print + Eprint + AllocGlobal>(
         &mut MemSource::new(texts.config.as_slice()),
         &mut trace,
         &mut sink,
+        partly_shown(asked),
     );
-    let verdict = kept(settled(run, sink.is_closed()), texts)?;
-    if let PartialVerdict::No(number) = verdict {
-        lines::tell_differs(rt, line, paths.text, Asked::Verdict, number);
-    }
-    Ok(verdict.status())
+    let shown = kept(settled(run, sink.is_closed()), texts)?;
+    lines::tell_partly(rt, line, paths, asked, &shown);
+    Ok(shown.verdict.status())
 }
 
 /// Writes GTKWave's save file for a configuration.
@@ -219,7 +236,11 @@ fn saved<R: Files + Input + Print + AllocGlobal>(
     let alloc = rt.alloc();
     let texts = config_alone(rt, paths)?;
     let mut sink = WriteSink::new(alloc, io::writer(rt))?;
-    let run = run_save(alloc, &mut MemSource::new(texts.config.as_slice()), &mut sink);
+    let run = run_save(
+        alloc,
+        &mut MemSource::new(texts.config.as_slice()),
+        &mut sink,
+    );
     kept(settled(run, sink.is_closed()), texts)?;
     Ok(Status::Done)
 }
@@ -250,13 +271,17 @@ fn explore<R: Files + Input + Print + Eprint + Clock + AllocGlobal>(
     if let Some(folder) = request.layer {
         layer::written(rt, folder, &outcome.layer)?;
     }
+    let about = About {
+        alloc,
+        asked: "question",
+    };
     if let Some(extent) = outcome.extent {
         let all = matches!(outcome.finding, Finding::Never);
-        unmade::tell_extent(rt, "question", extent, all);
+        note_extent(line, about, extent, all);
     }
     line.allow_as_much();
-    unshown::tell(rt, "question", &outcome, request, line);
-    unmade::tell_unmade_beside(rt, "question", &outcome, request.bounds, line);
+    note_unshown(line, about, &outcome, request);
+    note_unmade(line, about, &outcome, request.bounds);
     Ok(outcome.finding.status())
 }
 
@@ -291,7 +316,11 @@ fn explore_all<R: Files + Input + Print + Eprint + Clock + AllocGlobal>(
     );
     let stayed = kept(settled_search(run, output.is_closed()), texts)?;
     line.allow_as_much();
-    staying::tell_stayed(rt, &stayed, request.bounds, line);
+    let about = About {
+        alloc,
+        asked: "question",
+    };
+    note_stayed(line, about, &stayed, request.bounds);
     Ok(stayed.staying.status())
 }
 
@@ -480,7 +509,11 @@ fn configured<R: Files + Input + Print + AllocGlobal>(
     let alloc = rt.alloc();
     let texts = config_alone(rt, paths)?;
     let mut output = WriteSink::new(alloc, io::writer(rt))?;
-    let run = run_list(alloc, &mut MemSource::new(texts.config.as_slice()), &mut output);
+    let run = run_list(
+        alloc,
+        &mut MemSource::new(texts.config.as_slice()),
+        &mut output,
+    );
     kept(settled(run, output.is_closed()), texts)?;
     Ok(Status::Done)
 }
@@ -660,8 +693,8 @@ fn execute<R: Env + Files + Input + Print + Eprint + Clock + AllocGlobal + Threa
             let text = TextForm::Trace;
             ended(rt, &paths, Telling { line, text }, run)
         }
-        Ok(Request::Partial(paths)) => {
-            let run = partial(rt, &paths, line);
+        Ok(Request::Partial(paths, asked)) => {
+            let run = partial(rt, &paths, asked, line);
             let text = TextForm::Partial;
             ended(rt, &paths, Telling { line, text }, run)
         }

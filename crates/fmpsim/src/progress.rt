@@ -1,6 +1,7 @@
 //! How far a long run has come, on standard error, and whether its time is over.
 ghost use Rattle.std.specs.Prelude.{◌≡◌, Bool};
 
+use fmp_cli_notes::Notes;
 use fmp_run_explore::Progress;
 use fmp_run_seeds::SeedProgress;
 use std::rt::Clock;
@@ -147,6 +148,15 @@ impl<'a, R: Eprint + Clock> Progress for ProgressLine<'a, R> {
 
     fn end(&mut self) {
         self.erase();
+    }
+}
+
+impl<'a, R: Eprint + Clock> Notes for ProgressLine<'a, R> {
+    fn note(&mut self, line: &[u8]) {
+        self.erase();
+        if let Ok(line) = str::from_utf8(line) {
+            let _ = eprint!(self.rt; "{line}");
+        }
     }
 }
 

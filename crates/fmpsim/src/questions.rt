@@ -4,21 +4,20 @@ use crate::layer::folder_made;
 use crate::output::{Ending, settled_search};
 use crate::progress::ProgressLine;
 use crate::texts::{Kept, STANDARD_INPUT, both_opened, copy_of, text_read, trace_read};
-use crate::{beside, lines, unmade, unshown};
+use crate::{beside, lines};
 use fmp_cli::Paths;
 use fmp_cli_explore::{ExploreRequest, FEW_TICKS};
 use fmp_cli_hints_question::row_context;
+use fmp_cli_notes::{About, note_unmade, note_unshown};
 use fmp_cli_questions::{
-    Answer, Judgement, Reply, Row, RowKind, Rows, judgement_of, junit_text, plain_line, read_rows,
-    tap_head, tap_line,
+    Answer, Reply, Row, RowKind, Rows, judgement_of, junit_text, plain_line, read_rows, tap_head,
+    tap_line,
 };
-use fmp_cli_runs::{search, search_forever};
+use fmp_cli_runs::{reply_to, status_of};
 use fmp_config::Config;
-use fmp_run_devices::GrowingSink;
 use fmp_run_events::{MemSource, Status};
-use fmp_run_explore::{Finding, Outcome, Progress};
-use fmp_run_forever::Staying;
-use fmp_run_texts::{RunFault, ScriptReader, texts_from};
+use fmp_run_explore::{Outcome, Progress};
+use fmp_run_texts::{ScriptReader, texts_from};
 use fmp_search_question::{QuestionFault, ReadFault, is_lasting, read_lasting, read_question};
 use fmp_text::MOST_BYTES;
 use std::alloc::{AllocError, Global};
@@ -51,16 +50,6 @@ enum Misfit {
     Ticks,
     /// Its text has this fault, at the byte of this number from 0.
     Text(QuestionFault, usize),
-}
-
-/// What a search has found.
-#[derive(Drop)]
-struct Found {
-    answer: Answer,
-    /// What was written.
-    trace: Vec<u8>,
-    /// What was found of all orders, where something of it is told at the end.
-    outcome: Option<Outcome>,
 }
 
 /// Reads the configuration, the scripts and the questions to their ends.
@@ -196,81 +185,6 @@ fn misfits<R: Eprint + AllocGlobal>(
     Ok(None)
 }
 
-/// How many lines a trace has.
-fn lines_in(trace: &[u8]) -> usize {
-    trace.iter().filter(|byte| **byte == b'\n').count()
-}
-
-/// The answer that was found, where this trace was written.
-fn answer_of(finding: Finding, trace: &[u8]) -> Answer {
-    match finding {
-        Finding::Shown => Answer::Shown(lines_in(trace)),
-        Finding::Never => Answer::Never,
-        Finding::NotWithin(lines) | Finding::Ended(lines) => Answer::NotWithin(lines),
-    }
-}
-
-/// Likewise of a question of what stays for ever.
-fn lasting_answer_of(staying: Staying, trace: &[u8]) -> Answer {
-    match staying {
-        Staying::Shortest(..) | Staying::Found(..) => Answer::Shown(lines_in(trace)),
-        Staying::Never => Answer::Never,
-        Staying::NotWithin(lines) => Answer::NotWithin(lines),
-    }
-}
-
-/// Why a search ended before its time whose trace was written to memory.
-fn in_memory(ending: Ending) -> Ending {
-    match ending {
-        Ending::Fault(RunFault::Write) => Ending::Fault(RunFault::Memory),
-        ending => ending,
-    }
-}
-
-/// Searches for a question.
-fn searched<P: Progress>(
-    alloc: Global,
-    texts: &Texts,
-    request: &ExploreRequest<'_>,
-    progress: &mut P,
-) -> Result<Found, Ending> {
-    let mut config = MemSource::new(texts.config.as_slice());
-    let mut scripts = MemSource::new(texts.scripts.as_slice());
-    let mut output = GrowingSink::new(alloc);
-    if is_lasting(request.question.as_bytes()) {
-        let run = search_forever(
-            alloc,
-            &mut config,
-            &mut scripts,
-            &mut output,
-            request,
-            progress,
-        );
-        let stayed = settled_search(run, false).map_err(in_memory)?;
-        let answer = lasting_answer_of(stayed.staying, output.text());
-        return Ok(Found {
-            answer,
-            trace: output.into_text(),
-            outcome: None,
-        });
-    }
-    let run = search(
-        alloc,
-        &mut config,
-        &mut scripts,
-        &mut output,
-        request,
-        progress,
-    );
-    let outcome = settled_search(run, false).map_err(in_memory)?;
-    let answer = answer_of(outcome.finding, output.text());
-    Ok(Found {
-        answer,
-        trace: output.into_text(),
-        outcome: matches!(outcome.finding, Finding::Never).then_some(outcome),
-    })
-}
-
 /// Writes a text into the file at a path, which is made where there is none.
 fn put<R: Files + AllocGlobal>(rt: &R, path: &str, text: &[u8]) -> Result<(), Ending> {
     let written = match fs::create(rt, path) {
@@ -318,11 +232,18 @@ fn answered<'x, R: Files + Eprint + Clock + AllocGlobal>(
         question: str::from_utf8(row.question()).unwrap_or(""),
         ..asking.request
     };
-    let found = searched(rt.alloc(), texts, &request, progress)?;
-    if let (Answer::Shown(_), Some(folder)) = (found.answer, request.traces) {
-        put_trace(rt, folder, row, found.trace.as_slice())?;
+    let run = reply_to(
+        rt.alloc(),
+        texts.config.as_slice(),
+        texts.scripts.as_slice(),
+        &request,
+        progress,
+    );
+    let replied = settled_search(run, false)?;
+    if let (Answer::Shown(_), Some(folder)) = (replied.answer, request.traces) {
+        put_trace(rt, folder, row, replied.trace.as_slice())?;
     }
-    Ok((found.answer, found.outcome))
+    Ok((replied.answer, replied.outcome))
 }
 
 /// Puts a thing after the others.
@@ -374,9 +295,12 @@ fn tell_unmade<R: Eprint + Clock + AllocGlobal>(
     outcomes: &[Option<Outcome>],
     progress: &mut ProgressLine<'_, R>,
 ) {
+    let about = About {
+        alloc: rt.alloc(),
+        asked: "questions",
+    };
     for outcome in outcomes.iter().flatten().take(1) {
-        let bounds = asking.request.bounds;
-        unmade::tell_unmade_beside(rt, "questions", outcome, bounds, progress);
+        note_unmade(progress, about, outcome, asking.request.bounds);
     }
 }
 
@@ -392,19 +316,14 @@ fn tell_unshown<R: Eprint + Clock + AllocGlobal>(
     for (reply, outcome) in replies.iter().zip(outcomes.iter()) {
         let name = str::from_utf8(reply.row.name()).unwrap_or("");
         if let Some(outcome) = outcome {
-            unshown::tell(rt, name, outcome, &asking.request, progress);
+            let about = About {
+                alloc: rt.alloc(),
+                asked: name,
+            };
+            note_unshown(progress, about, outcome, &asking.request);
         }
     }
     tell_unmade(rt, asking, outcomes, progress);
-}
-
-/// How answers end the program.
-fn status_of(judgement: Judgement) -> Status {
-    match judgement {
-        Judgement::Right => Status::Done,
-        Judgement::Wrong => Status::Different,
-        Judgement::Unknown => Status::Limit,
-    }
 }
 
 /// Searches for each question of the text at a path, and tells the answers. All are judged before the first search, and what is to be written is

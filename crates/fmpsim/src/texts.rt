@@ -1,5 +1,5 @@
 //! The texts that a run reads: a configuration, and beside it another text. One of them may come from standard input.
-ghost use Rattle.std.specs.Prelude.{◌≡◌, IfOk};
+ghost use Rattle.std.specs.Prelude.{◌≡◌, ◌≤◌, length, IfOk};
 ghost use Rattle.fmp_run_devices.specs.Either.{of_either};
 
 use crate::output::Ending;
@@ -56,6 +56,8 @@ pub struct LineKeeper<T> {
     text: T,
     /// There is none where a line is too long, or memory was wanting.
     last: Option<Vec<u8>>,
+    /// How many bytes of it were read last. Before these there is no end of a line.
+    piece: usize,
 }
 
 impl<T: Read + Drop> LineKeeper<T> {
@@ -64,6 +66,7 @@ impl<T: Read + Drop> LineKeeper<T> {
         LineKeeper {
             text,
             last: Some(Vec::new(alloc)),
+            piece: 0,
         }
     }
 
@@ -73,20 +76,25 @@ impl<T: Read + Drop> LineKeeper<T> {
     }
 }
 
-/// Where the line begins that is not at its end yet.
-fn last_line(text: &[u8]) -> usize {
-    match text.iter().rev().position(|byte| *byte == b'\n') {
+/// Where the line begins that is not at its end yet, of a text with line ends in its last bytes alone, which are so many.
+fn last_line(text: &[u8], piece: usize) -> usize
+    ensures { result ≤ length text.now }
+{
+    let from = text.len().saturating_sub(piece);
+    match text[from..].iter().rev().position(|byte| *byte == b'\n') {
         Some(after) => text.len().saturating_sub(after),
         None => 0,
     }
 }
 
-/// The line that is not at its end yet, and what was read after it.
-fn with_piece(mut last: Vec<u8>, piece: &[u8]) -> Option<Vec<u8>> {
-    let begun = last_line(last.as_slice());
-    let rest = last.len().saturating_sub(begun);
-    last.copy_within(begun.., 0);
-    last.truncate(rest);
+/// The line that is not at its end yet, and what was read after it. Of what was there before so many bytes were read last.
+fn with_piece(mut last: Vec<u8>, before: usize, piece: &[u8]) -> Option<Vec<u8>> {
+    let begun = last_line(last.as_slice(), before);
+    if begun > 0 {
+        let rest = last.len().saturating_sub(begun);
+        last.copy_within(begun.., 0);
+        last.truncate(rest);
+    }
     if last.len().saturating_add(piece.len()) > MOST_KEPT {
         return None;
     }
@@ -98,8 +106,9 @@ impl<T: Read> Read for LineKeeper<T> {
     fn read(&mut self, buffer: &mut [u8]) -> io::Result<usize> {
         let count = self.text.read(buffer)?;
         if let Some(last) = self.last.take() {
-            self.last = with_piece(last, &buffer[..count]);
+            self.last = with_piece(last, self.piece, &buffer[..count]);
         }
+        self.piece = count;
         Ok(count)
     }
 }
@@ -208,13 +217,20 @@ pub fn both_read<R: Files + Input + AllocGlobal>(
     let (config, text) = both_opened(rt, paths)?;
     let is_file = is_file(rt, paths.text);
     if !is_file && is_refused(rt, config.as_slice()) {
-        return Ok((Kept { config, text: None }, TextOr::Other(ReadSource::new(text))));
+        return Ok((
+            Kept { config, text: None },
+            TextOr::Other(ReadSource::new(text)),
+        ));
     }
     match read_up_to(alloc, &mut ReadSource::new(text), MOST_BYTES) {
         Ok(text) => {
             let kept = Kept {
                 config,
-                text: if is_file { None } else { copy_of(alloc, text.as_slice()) },
+                text: if is_file {
+                    None
+                } else {
+                    copy_of(alloc, text.as_slice())
+                },
             };
             Ok((kept, TextOr::Text(TextSource::new(alloc, text))))
         }
