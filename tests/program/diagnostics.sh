@@ -33,6 +33,8 @@ traces_and_questions() {
     run 1 /dev/null "$(as_file echo word.txt:2:9: error: E2 bad word)" check --all "$machine" word.txt --diagnostics=gcc
     run 1 /dev/null "$(as_file echo word.txt:2:9: error: E2 bad word)" wave "$machine" word.txt --diagnostics=gcc
     run 1 /dev/null "$(as_file echo word.txt:2:9: error: E2 bad word)" check --partial "$machine" word.txt --diagnostics=gcc
+    printf 'P1 tick taken\nP1 tick ? by=1\n' > bound.txt
+    run 1 /dev/null "$(as_file echo bound.txt:2:11: error: E2 bad word)" check --partial "$machine" bound.txt --diagnostics=gcc
     run 1 /dev/null "$(as_file echo '--find:1:10: error: E2 bad word')" shrink "$machine" "$late/events.txt" --find 'tick then' --diagnostics=gcc
 }
 
@@ -61,7 +63,12 @@ differences_and_waits() {
     read -r _ _ seed < dead.seed
     run 7 dead.trace dead.errors "${words[@]}" --seed "$seed" --strict
     run 0 dead.trace "$(as_file sed 's/error/warning/' dead.errors)" "${words[@]}" --seed "$seed"
-    from=dead.txt run 0 dead.trace "$(as_file sed 's/dead.txt:[0-9]*: error/-: warning/' dead.errors)" "${words[@]/dead.txt/-}" --seed "$seed"
+    sed 's/dead.txt:[0-9]*: error/-: warning/' dead.errors > unplaced.errors
+    from=dead.txt run 0 dead.trace unplaced.errors "${words[@]/dead.txt/-}" --seed "$seed"
+    # nor is one looked for in a file that is called so
+    cp dead.txt ./-
+    from=dead.txt run 0 dead.trace unplaced.errors "${words[@]/dead.txt/-}" --seed "$seed"
+    rm ./-
 }
 
 # The place of the token at fault, or of what is missing before it; the line alone where there is no token; and no line at all.

@@ -285,52 +285,36 @@ fn bounds_of<'a>(matches: &ArgMatches<'a>) -> Option<Bounds>
 fn request_of<'a>(matches: &ArgMatches<'a>) -> Option<ExploreRequest<'a>>
     ensures { IfSome result (Asks (rows_in matches.now)) }
 {
-    let config = text_in(matches, "CFG");
-    let scripts = text_in(matches, "SCRIPTS");
     let find = option_in(matches, "find");
-    let question = question_in(find);
-    let most = flag_in(matches, "most");
     let limit = option_in(matches, "ticks");
     let ticks = tick_limit_in(limit)?;
-    let says_ticks = limit.is_some();
-    let says_turns = option_in(matches, "turns").is_some();
-    let prompt = flag_in(matches, "prompt");
     let drift = bound_in(option_in(matches, "drift"))?;
     let pace = bound_in(option_in(matches, "pace"))?;
-    let spurious = flag_in(matches, "spurious");
     let bounds = bounds_of(matches)?;
-    let from = option_in(matches, "from");
-    let layer = option_in(matches, "layer");
     let seconds = bound_in(option_in(matches, "seconds"))?;
-    let questions = option_in(matches, "questions");
-    let tap = flag_in(matches, "tap");
-    let junit = option_in(matches, "junit");
-    let traces = option_in(matches, "traces");
-    let progress = flag_in(matches, "progress");
-    let context = flag_in(matches, "context");
     Some(ExploreRequest {
-        config,
-        scripts,
-        question,
+        config: text_in(matches, "CFG"),
+        scripts: text_in(matches, "SCRIPTS"),
+        question: question_in(find),
         find,
-        most,
+        most: flag_in(matches, "most"),
         ticks,
-        says_ticks,
-        prompt,
+        says_ticks: limit.is_some(),
+        prompt: flag_in(matches, "prompt"),
         drift,
         pace,
-        spurious,
+        spurious: flag_in(matches, "spurious"),
         bounds,
-        says_turns,
-        from,
-        layer,
+        says_turns: option_in(matches, "turns").is_some(),
+        from: option_in(matches, "from"),
+        layer: option_in(matches, "layer"),
         seconds,
-        questions,
-        tap,
-        junit,
-        traces,
-        progress,
-        context,
+        questions: option_in(matches, "questions"),
+        tap: flag_in(matches, "tap"),
+        junit: option_in(matches, "junit"),
+        traces: option_in(matches, "traces"),
+        progress: flag_in(matches, "progress"),
+        context: flag_in(matches, "context"),
     })
 }
 

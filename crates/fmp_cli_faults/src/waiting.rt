@@ -1,12 +1,10 @@
-//! The tasks that wait at the end of a run, on standard error: in this program's own form, or in that of compilers at the script of each.
-use crate::beside::whole;
-use fmp_cli::Paths;
-use fmp_cli_diagnostics::{LineForm, Spot};
+//! The tasks that wait at the end of a run: in this program's own form, or in that of compilers at the script of each.
+use fmp_cli_diagnostics::LineForm;
 use fmp_codes::{NameKind, ObjectKind};
 use fmp_config::{Config, MOST_BYTES as MOST_CONFIG_BYTES, read_config};
-use fmp_run_events::Status;
-use fmp_text::MOST_BYTES;
-use std::rt::Files;
+use fmp_out::Text;
+use fmp_run_texts::Status;
+use std::alloc::Global;
 
 /// A run that has ended with tasks that wait.
 #[derive(Clone, Copy)]
@@ -43,53 +41,55 @@ fn function_of<'a>(config: &'a Config, task: &str) -> Option<&'a [u8]> {
         .name(NameKind::Function, usize::from(setup.main))
 }
 
-/// Where the script begins that the task of such a line runs.
-fn spot_of(config: Option<&Config>, scripts: &str, line: &str) -> Spot {
+/// The line at which the script begins that the task of such a line runs.
+fn line_of(config: Option<&Config>, scripts: &str, line: &str) -> Option<usize> {
     let task = line.split_whitespace().next().unwrap_or("");
-    let Some(config) = config else {
-        return Spot::Nowhere;
-    };
-    match function_of(config, task) {
-        Some(function) => match script_line(scripts, function) {
-            Some(number) => Spot::Line(number),
-            None => Spot::Nowhere,
-        },
-        None => Spot::Nowhere,
-    }
+    script_line(scripts, function_of(config?, task)?)
 }
 
-/// Reports the tasks as compilers do: as errors where they are why the run ends the program so.
-fn tell_placed<R: Files + Eprint + AllocGlobal>(rt: &R, paths: &Paths<'_>, waiting: Waiting<'_>) {
-    let path = paths.text;
+/// The tasks as compilers have them: as errors where they are why the run ends the program so.
+fn placed_lines(alloc: Global, path: &str, waiting: Waiting<'_>, scripts: &[u8]) -> Text {
     let grade = if waiting.status == Status::Waiting {
-        "error"
+        b": error: ".as_slice()
     } else {
-        "warning"
+        b": warning: ".as_slice()
     };
     let config = if waiting.config.len() <= MOST_CONFIG_BYTES {
-        read_config(rt.alloc(), waiting.config).ok()
+        read_config(alloc, waiting.config).ok()
     } else {
         None
     };
-    let scripts = whole(rt, path, MOST_BYTES).unwrap_or(Vec::new(rt.alloc()));
-    let scripts = str::from_utf8(scripts.as_slice()).unwrap_or("");
+    let scripts = str::from_utf8(scripts).unwrap_or("");
+    let mut text = Text::new(alloc);
     for line in waiting.lines.lines() {
-        let spot = spot_of(config.as_ref(), scripts, line);
-        let _ = eprintln!(rt; "{path}{spot}: {grade}: {line}");
+        text.put(path.as_bytes());
+        if let Some(number) = line_of(config.as_ref(), scripts, line) {
+            text.put_byte(b':');
+            text.put_number(number as u64);
+        }
+        text.put(grade);
+        text.put(line.as_bytes());
+        text.put_byte(b'\n');
     }
+    text
 }
 
-/// Reports the tasks, a line each.
-pub fn tell<R: Files + Eprint + AllocGlobal>(
-    rt: &R,
-    paths: &Paths<'_>,
+/// The tasks, a line each. The scripts are those at this path, or empty where they cannot be read again.
+pub fn waiting_lines(
+    alloc: Global,
     form: LineForm,
+    path: &str,
     waiting: Waiting<'_>,
-) {
-    if form == LineForm::Gcc {
-        return tell_placed(rt, paths, waiting);
+    scripts: &[u8],
+) -> Text {
+    if matches!(form, LineForm::Gcc) {
+        return placed_lines(alloc, path, waiting, scripts);
     }
+    let mut text = Text::new(alloc);
     for line in waiting.lines.lines() {
-        let _ = eprintln!(rt; "fmpsim: {line}");
+        text.put(b"fmpsim: ");
+        text.put(line.as_bytes());
+        text.put_byte(b'\n');
     }
+    text
 }

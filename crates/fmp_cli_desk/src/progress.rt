@@ -1,19 +1,22 @@
 //! How far a long run has come, on standard error, and whether its time is over.
 ghost use Rattle.std.specs.Prelude.{◌≡◌, Bool};
 
+use crate::desk::{Desk, put_lines};
 use fmp_cli_notes::Notes;
+use fmp_out::Text;
 use fmp_run_explore::Progress;
 use fmp_run_seeds::SeedProgress;
-use std::rt::Clock;
-use std::time::Instant;
 
-/// From when on it is told, in tenths of a second.
-const FIRST: u128 = 10;
+/// From when on it is reported, in tenths of a second.
+const FIRST: u64 = 10;
 
 /// How many seconds more a run may take at least that goes on beside its answer.
 const LEAST_MORE: u64 = 10;
 
-/// How it is told.
+/// What takes the line of a terminal away.
+const ERASED: &[u8] = b"\r\x1b[K";
+
+/// How it is reported.
 #[derive(Clone, Copy, PartialEq, Eq)]
 pub enum ProgressForm {
     Hidden,
@@ -34,7 +37,7 @@ impl ProgressForm {
     }
 
     /// How many tenths of a second are between two times.
-    fn pause(self) -> u128 {
+    fn pause(self) -> u64 {
         match self {
             ProgressForm::InOneLine => 2,
             _ => 10,
@@ -42,28 +45,28 @@ impl ProgressForm {
     }
 }
 
-/// One who tells it.
+/// One who reports it.
 #[derive(Drop)]
-pub struct ProgressLine<'a, R> {
-    rt: &'a R,
+pub struct ProgressLine<'a, D> {
+    desk: &'a D,
     form: ProgressForm,
-    /// When the run began.
-    begun: Option<Instant>,
-    /// When it is told next, in tenths of a second from then.
-    next: u128,
+    /// When the run began, in thousandths of a second.
+    begun: Option<u64>,
+    /// When it is reported next, in tenths of a second from then.
+    next: u64,
     is_shown: bool,
     /// After how many seconds the run is to end, if it is.
     limit: Option<u64>,
     is_over: bool,
 }
 
-impl<'a, R: Eprint + Clock> ProgressLine<'a, R> {
-    /// That of a run that begins, and may take so many seconds.
-    pub fn new(rt: &'a R, form: ProgressForm, limit: Option<u64>) -> ProgressLine<'a, R> {
+impl<'a, D: Desk> ProgressLine<'a, D> {
+    /// That of a run that begins, and may take so many seconds. It is reported at a terminal, and elsewhere where that is asked for.
+    pub fn new(desk: &'a D, is_asked: bool, limit: Option<u64>) -> ProgressLine<'a, D> {
         ProgressLine {
-            rt,
-            form,
-            begun: Instant::now(rt).ok(),
+            desk,
+            form: ProgressForm::at(desk.is_error_terminal(), is_asked),
+            begun: desk.thousandths(),
             next: FIRST,
             is_shown: false,
             limit,
@@ -71,32 +74,28 @@ impl<'a, R: Eprint + Clock> ProgressLine<'a, R> {
         }
     }
 
-    /// How many seconds the run takes already, where it is time to tell of it.
-    fn seconds_due(&mut self) -> Option<u64> {
+    /// How many thousandths of a second the run takes already. Where the clock says nothing there are none.
+    pub fn thousandths(&self) -> u64 {
+        match (self.begun, self.desk.thousandths()) {
+            (Some(begun), Some(now)) => now.saturating_sub(begun),
+            _ => 0,
+        }
+    }
+
+    /// How many seconds the run takes already, where it is time to report it.
+    fn seconds_due(&mut self) -> Option<u64>
+        ensures { self.new.is_over ≡ self.old.is_over }
+    {
         if self.form == ProgressForm::Hidden {
             return None;
         }
-        let past = self.begun?.elapsed(self.rt).ok()?;
-        let tenths = past.as_millis() / 100;
+        let past = self.thousandths();
+        let tenths = past / 100;
         if tenths < self.next {
             return None;
         }
         self.next = tenths.saturating_add(self.form.pause());
-        Some(past.as_secs())
-    }
-
-    /// How many thousandths of a second the run takes already. Where the clock says nothing there are none.
-    pub fn thousandths(&self) -> u64 {
-        let Some(begun) = self.begun else {
-            return 0;
-        };
-        match begun.elapsed(self.rt) {
-            Ok(past) => past
-                .as_secs()
-                .saturating_mul(1000)
-                .saturating_add(u64::from(past.subsec_millis())),
-            Err(_) => 0,
-        }
+        Some(past / 1000)
     }
 
     /// Whether the run has taken as long as it may.
@@ -121,13 +120,38 @@ impl<'a, R: Eprint + Clock> ProgressLine<'a, R> {
         ensures { self.new.is_over ≡ self.old.is_over }
     {
         if self.is_shown {
-            let _ = eprint!(self.rt; "\r\x1b[K");
+            self.desk.note(ERASED);
             self.is_shown = false;
         }
     }
+
+    /// The beginning of what is reported.
+    fn beginning(&self) -> Text {
+        let mut text = Text::new(self.desk.alloc());
+        text.put(match self.form {
+            ProgressForm::InLines => b"fmpsim: ".as_slice(),
+            _ => ERASED,
+        });
+        text
+    }
+
+    /// Reports how far the run is, after so many seconds.
+    fn show(&mut self, mut text: Text, seconds: u64)
+        ensures { self.new.is_over ≡ self.old.is_over }
+    {
+        text.put(b", ");
+        text.put_number(seconds);
+        text.put(b" s");
+        if self.form == ProgressForm::InLines {
+            text.put_byte(b'\n');
+        } else {
+            self.is_shown = true;
+        }
+        put_lines(self.desk, text);
+    }
 }
 
-impl<'a, R: Eprint + Clock> Progress for ProgressLine<'a, R> {
+impl<'a, D: Desk> Progress for ProgressLine<'a, D> {
     ghost over = { λ line. line.is_over };
 
     fn is_over(&mut self) -> bool {
@@ -138,12 +162,11 @@ impl<'a, R: Eprint + Clock> Progress for ProgressLine<'a, R> {
         let Some(seconds) = self.seconds_due() else {
             return;
         };
-        if self.form == ProgressForm::InLines {
-            let _ = eprintln!(self.rt; "fmpsim: {places} places, line {depth}, {seconds} s");
-            return;
-        }
-        let _ = eprint!(self.rt; "\r\x1b[K{places} places, line {depth}, {seconds} s");
-        self.is_shown = true;
+        let mut text = self.beginning();
+        text.put_number(places as u64);
+        text.put(b" places, line ");
+        text.put_number(u64::from(depth));
+        self.show(text, seconds);
     }
 
     fn end(&mut self) {
@@ -151,16 +174,14 @@ impl<'a, R: Eprint + Clock> Progress for ProgressLine<'a, R> {
     }
 }
 
-impl<'a, R: Eprint + Clock> Notes for ProgressLine<'a, R> {
+impl<'a, D: Desk> Notes for ProgressLine<'a, D> {
     fn note(&mut self, line: &[u8]) {
         self.erase();
-        if let Ok(line) = str::from_utf8(line) {
-            let _ = eprint!(self.rt; "{line}");
-        }
+        self.desk.note(line);
     }
 }
 
-impl<'a, R: Eprint + Clock> SeedProgress for ProgressLine<'a, R> {
+impl<'a, D: Desk> SeedProgress for ProgressLine<'a, D> {
     ghost over = { λ line. line.is_over };
 
     fn is_over(&mut self) -> bool {
@@ -171,12 +192,10 @@ impl<'a, R: Eprint + Clock> SeedProgress for ProgressLine<'a, R> {
         let Some(seconds) = self.seconds_due() else {
             return;
         };
-        if self.form == ProgressForm::InLines {
-            let _ = eprintln!(self.rt; "fmpsim: at seed {seed}, {seconds} s");
-            return;
-        }
-        let _ = eprint!(self.rt; "\r\x1b[Kat seed {seed}, {seconds} s");
-        self.is_shown = true;
+        let mut text = self.beginning();
+        text.put(b"at seed ");
+        text.put_number(seed);
+        self.show(text, seconds);
     }
 
     fn end(&mut self) {

@@ -1,18 +1,11 @@
-//! The words of the command line.
+//! Whether what stands beside a fault is shown, by the words of the command line.
 use fmp_cli_diagnostics::LineForm;
 use std::alloc::{AllocError, Global};
-use std::rt::Env;
-use std::{env, io};
 
 /// The words after the program's name that begin a command of which each may show the line of a fault.
 const COMMANDS: [&str; 8] = [
     "calls", "check", "smp", "explore", "shrink", "wave", "view", "list",
 ];
-
-/// The words, with the program's name.
-pub fn words_of<R: Env + AllocGlobal>(rt: &R) -> io::Result<Vec<String>> {
-    Ok(env::args(rt)?.collect(rt.alloc())?)
-}
 
 /// Whether a word is this one.
 fn is(word: &String, wanted: &str) -> bool {
@@ -36,7 +29,7 @@ fn is_by_itself(words: &[String], line: LineForm, is_terminal: bool) -> bool {
     is_terminal && matches!(line, LineForm::Plain) && !is_said && has_command(words)
 }
 
-/// Settles whether the line of a fault is shown: `--no-context` takes `--context` away, and where standard error is a terminal
+/// Settles whether the line of a fault is shown, by the words with the program's name: `--no-context` takes `--context` away, and where standard error is a terminal
 /// `--context` goes after the command by itself. The error is want of memory.
 pub fn settle_context(
     alloc: Global,

@@ -1,17 +1,18 @@
 //! The texts that a run reads: a configuration, and beside it another text. One of them may come from standard input.
-ghost use Rattle.std.specs.Prelude.{◌≡◌, ◌≤◌, length, IfOk};
+ghost use Rattle.std.specs.Prelude.{◌≡◌, ◌≤◌, length, IfErr, IfOk, IfSome};
 ghost use Rattle.fmp_run_devices.specs.Either.{of_either};
+ghost use Rattle.fmp_cli_desk.specs.declared.ending.Ending.TheVariants.{OneInput};
 
-use crate::output::Ending;
+use crate::desk::Desk;
+use crate::ending::Ending;
 use fmp_cli::Paths;
 use fmp_config::{MOST_BYTES as MOST_CONFIG_BYTES, read_config};
 use fmp_run_devices::{ReadFault, TextOr, TextSource};
 use fmp_run_events::{ReadSource, RunFault, read_up_to};
 use fmp_text::MOST_BYTES;
 use std::alloc::Global;
-use std::io::{ErrorKind, Input, Read};
-use std::rt::Files;
-use std::{fs, io};
+use std::io;
+use std::io::{ErrorKind, Read};
 
 /// The path in whose place a text is read from standard input.
 pub const STANDARD_INPUT: &str = "-";
@@ -27,24 +28,21 @@ pub struct Kept {
     pub text: Option<Vec<u8>>,
 }
 
-/// A text that is read as it comes: from a file, or from standard input.
+/// A text that was opened, or one that could not be read.
 #[derive(Drop)]
-pub enum Text<F, I> {
-    File(F),
-    Input(I),
-    /// What could not be read.
+pub enum Opened<T> {
+    Text(T),
     Unreadable,
 }
 
 /// A text for a run that reads it whole.
-pub type WholeText<F, I> = TextOr<ReadSource<Text<F, I>>>;
+pub type WholeText<T> = TextOr<ReadSource<Opened<T>>>;
 
-impl<F: Read, I: Read> Read for Text<F, I> {
+impl<T: Read> Read for Opened<T> {
     fn read(&mut self, buffer: &mut [u8]) -> io::Result<usize> {
         match self {
-            Text::File(file) => file.read(buffer),
-            Text::Input(input) => input.read(buffer),
-            Text::Unreadable => Err(io::Error::from(ErrorKind::Other)),
+            Opened::Text(text) => text.read(buffer),
+            Opened::Unreadable => Err(io::Error::from(ErrorKind::Other)),
         }
     }
 }
@@ -113,48 +111,28 @@ impl<T: Read> Read for LineKeeper<T> {
     }
 }
 
-/// Whether there is a file of bytes at a path, and no pipe or device.
-pub fn is_file<R: Files>(rt: &R, path: &str) -> bool {
-    match fs::metadata(rt, path) {
-        Ok(kind) => kind.is_file(),
-        Err(_) => false,
-    }
-}
-
-/// The text at a path, opened to be read, or standard input where the path says so.
-fn opened<R: Files + Input>(rt: &R, path: &str) -> io::Result<Text<R::File, R::Reader>> {
-    if path == STANDARD_INPUT {
-        return Ok(Text::Input(rt.reader()));
-    }
-    let file = fs::open(rt, path)?;
-    Ok(Text::File(file))
-}
-
 /// A configuration, read to its end, or beyond its greatest length. It is kept for what stands beside a fault, since a pipe cannot be
 /// read twice.
-fn config_read<R: AllocGlobal, T: Read + Drop>(rt: &R, text: T) -> Result<Vec<u8>, Ending> {
-    match read_up_to(rt.alloc(), &mut ReadSource::new(text), MOST_CONFIG_BYTES) {
+fn config_read<T: Read + Drop>(alloc: Global, text: T) -> Result<Vec<u8>, Ending> {
+    match read_up_to(alloc, &mut ReadSource::new(text), MOST_CONFIG_BYTES) {
         Ok(text) => Ok(text),
         Err(fault) => Err(Ending::Fault(RunFault::from(fault))),
     }
 }
 
 /// Another text, read to its end, or beyond its greatest length.
-pub fn text_read<R: AllocGlobal, T: Read + Drop>(rt: &R, text: T) -> Result<Vec<u8>, RunFault> {
-    match read_up_to(rt.alloc(), &mut ReadSource::new(text), MOST_BYTES) {
+pub fn text_read<T: Read + Drop>(alloc: Global, text: T) -> Result<Vec<u8>, RunFault> {
+    match read_up_to(alloc, &mut ReadSource::new(text), MOST_BYTES) {
         Ok(text) => Ok(text),
         Err(fault) => Err(RunFault::from(fault)),
     }
 }
 
 /// The configuration, read where no other text is.
-pub fn config_alone<R: Files + Input + AllocGlobal>(
-    rt: &R,
-    paths: &Paths<'_>,
-) -> Result<Kept, Ending> {
-    match opened(rt, paths.config) {
+pub fn config_alone<D: Desk>(desk: &D, paths: &Paths<'_>) -> Result<Kept, Ending> {
+    match desk.open(paths.config) {
         Ok(text) => Ok(Kept {
-            config: config_read(rt, text)?,
+            config: config_read(desk.alloc(), text)?,
             text: None,
         }),
         Err(error) => Err(Ending::NoConfig(error)),
@@ -162,66 +140,66 @@ pub fn config_alone<R: Files + Input + AllocGlobal>(
 }
 
 /// The trace with which a search begins, or the text of many questions, read to its end, or beyond its greatest length.
-pub fn trace_read<R: Files + Input + AllocGlobal>(rt: &R, path: &str) -> Result<Vec<u8>, Ending> {
-    let Ok(text) = opened(rt, path) else {
+pub fn trace_read<D: Desk>(desk: &D, path: &str) -> Result<Vec<u8>, Ending> {
+    let Ok(text) = desk.open(path) else {
         return Err(Ending::NoTrace);
     };
-    match text_read(rt, text) {
+    match text_read(desk.alloc(), text) {
         Ok(text) => Ok(text),
         Err(fault) => Err(Ending::of_trace(fault)),
     }
 }
 
+/// Whether a third text may come from this path: not where it is standard input, and another text comes from there. The error says so.
+pub fn third_allowed(paths: &Paths<'_>, third: &str) -> Result<(), Ending>
+    ensures { IfErr result (λ ending. ending ≡ OneInput) }
+{
+    if third == STANDARD_INPUT && (paths.config == third || paths.text == third) {
+        return Err(Ending::OneInput);
+    }
+    Ok(())
+}
+
 /// The configuration, read, and the other text, opened. Both are opened before either is read.
-pub fn both_opened<R: Files + Input + AllocGlobal>(
-    rt: &R,
-    paths: &Paths<'_>,
-) -> Result<(Vec<u8>, Text<R::File, R::Reader>), Ending> {
+pub fn both_opened<D: Desk>(desk: &D, paths: &Paths<'_>) -> Result<(Vec<u8>, D::Text), Ending> {
     if paths.config == STANDARD_INPUT && paths.text == STANDARD_INPUT {
         return Err(Ending::OneInput);
     }
-    let config = match opened(rt, paths.config) {
+    let config = match desk.open(paths.config) {
         Ok(config) => config,
         Err(error) => return Err(Ending::NoConfig(error)),
     };
-    let text = match opened(rt, paths.text) {
+    let text = match desk.open(paths.text) {
         Ok(text) => text,
         Err(error) => return Err(Ending::NoText(error)),
     };
-    Ok((config_read(rt, config)?, text))
+    Ok((config_read(desk.alloc(), config)?, text))
 }
 
 /// Whether a configuration has a fault, so that a run over it wants no other text.
-fn is_refused<R: AllocGlobal>(rt: &R, config: &[u8]) -> bool {
-    read_config(rt.alloc(), config).is_err()
+fn is_refused(alloc: Global, config: &[u8]) -> bool {
+    read_config(alloc, config).is_err()
 }
 
 /// A copy of a text, unless it is too long, or memory is wanting.
-pub fn copy_of(alloc: Global, text: &[u8]) -> Option<Vec<u8>> {
+pub fn copy_of(alloc: Global, text: &[u8]) -> Option<Vec<u8>>
+    ensures { IfSome result (λ copy. copy.items ≡ text.now) }
+{
     if text.len() > MOST_KEPT {
         return None;
     }
     Vec::from_slice(alloc, text).ok()
 }
 
-/// The configuration, read, and the other text for a run that reads it whole. That is read now: then its bytes are known, and what the run promises of such
-/// a text it promises of this one. Where it cannot be read, the run says so when it comes to it, behind a fault of the configuration. Standard input and a
-/// pipe may be long in coming: they are read only where the configuration has no fault, which is told at once, and kept, since they cannot be read twice.
-pub fn both_read<R: Files + Input + AllocGlobal>(
-    rt: &R,
-    paths: &Paths<'_>,
-) -> Result<(Kept, WholeText<R::File, R::Reader>), Ending>
+/// The other text, read whole, with what is kept of both.
+fn whole_read<T: Read + Drop>(
+    alloc: Global,
+    config: Vec<u8>,
+    text: T,
+    is_file: bool,
+) -> Result<(Kept, WholeText<T>), Ending>
     ensures { IfOk result (λ both. of_either (λ _. 0) (λ source. source.failures) both.1 ≡ 0) }
 {
-    let alloc = rt.alloc();
-    let (config, text) = both_opened(rt, paths)?;
-    let is_file = is_file(rt, paths.text);
-    if !is_file && is_refused(rt, config.as_slice()) {
-        return Ok((
-            Kept { config, text: None },
-            TextOr::Other(ReadSource::new(text)),
-        ));
-    }
     match read_up_to(alloc, &mut ReadSource::new(text), MOST_BYTES) {
         Ok(text) => {
             let kept = Kept {
@@ -235,9 +213,25 @@ pub fn both_read<R: Files + Input + AllocGlobal>(
             Ok((kept, TextOr::Text(TextSource::new(alloc, text))))
         }
         Err(ReadFault::Failed) => {
-            let unreadable = ReadSource::new(Text::Unreadable);
+            let unreadable = ReadSource::new(Opened::Unreadable);
             Ok((Kept { config, text: None }, TextOr::Other(unreadable)))
         }
         Err(ReadFault::Memory) => Err(Ending::Fault(RunFault::Memory)),
     }
+}
+
+/// The configuration, read, and the other text for a run that reads it whole. That is read now: then its bytes are known, and what the run promises of such
+/// a text it promises of this one. Where it cannot be read, the run says so when it comes to it, behind a fault of the configuration. Standard input and a
+/// pipe may be long in coming: they are read only where the configuration has no fault, which is reported at once, and kept, since they cannot be read twice.
+pub fn both_read<D: Desk>(desk: &D, paths: &Paths<'_>) -> Result<(Kept, WholeText<D::Text>), Ending>
+    ensures { IfOk result (λ both. of_either (λ _. 0) (λ source. source.failures) both.1 ≡ 0) }
+{
+    let alloc = desk.alloc();
+    let (config, text) = both_opened(desk, paths)?;
+    let is_file = desk.is_file(paths.text);
+    if !is_file && is_refused(alloc, config.as_slice()) {
+        let unread = ReadSource::new(Opened::Text(text));
+        return Ok((Kept { config, text: None }, TextOr::Other(unread)));
+    }
+    whole_read(alloc, config, text, is_file)
 }

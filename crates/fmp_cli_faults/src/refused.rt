@@ -1,8 +1,10 @@
-//! The words of a command line that clap refuses, told in other words than clap's: numbers of `smp`, options that are near or of another command, and
+//! The words of a command line that clap refuses, reported in other words than clap's: numbers of `smp`, options that are near or of another command, and
 //! questions without quotation marks.
 use clap::error::ErrorKind;
+use fmp_out::Text;
+use std::alloc::Global;
 
-/// What is told of a word of a command line that clap refuses: the command with which it stands, if it is about one, the word, and what is told.
+/// What is reported of a word of a command line that clap refuses: the command with which it stands, if it is about one, the word, and what is reported.
 const WORDS: [(&str, &str, &str); 17] = [
     ("", "-v", "near: -V, which prints the version"),
     ("", "run", RUNS),
@@ -88,13 +90,21 @@ pub struct WrongNumber<'a> {
 }
 
 impl WrongNumber<'_> {
-    /// Tells which number is expected.
-    pub fn tell<R: Eprint>(&self, rt: &R) {
+    /// The line that reports which number is expected.
+    pub fn line(&self, alloc: Global) -> Text {
         let NumberOption { name, least, most } = self.option;
-        let _ = eprintln!(rt; "fmpsim: {name}: a number from {least} to {most} is expected");
+        let mut text = Text::new(alloc);
+        text.put(b"fmpsim: ");
+        text.put(name.as_bytes());
+        text.put(b": a number from ");
+        text.put_number(least);
+        text.put(b" to ");
+        text.put_number(most);
+        text.put(b" is expected\n");
         if name == "--ticks" && self.value == "any" {
-            let _ = eprintln!(rt; "  `any` goes with explore alone");
+            text.put(b"  `any` goes with explore alone\n");
         }
+        text
     }
 }
 
@@ -133,40 +143,56 @@ pub fn refused_number<'a>(words: &'a [String], error: &clap::Error) -> Option<Wr
         .find_map(|option| wrong_number(words, *option))
 }
 
-/// Tells what is known of a word that may be refused, of a line with this command.
-fn tell_word<R: Eprint>(rt: &R, command: &str, word: &str) {
+/// Puts a line of what is reported below another.
+fn put_below(text: &mut Text, reported: &str) {
+    text.put(b"  ");
+    text.put(reported.as_bytes());
+    text.put_byte(b'\n');
+}
+
+/// Puts what is known of a word that may be refused, of a line with this command.
+fn put_word(text: &mut Text, command: &str, word: &str) {
     let (name, _value) = word.split_once('=').unwrap_or((word, ""));
-    for (with, other, told) in &WORDS {
-        if name == *other && (with.is_empty() || command == *with) {
-            let _ = eprintln!(rt; "  {told}");
+    for row in &WORDS {
+        let (with, other, reported) = *row;
+        if name == other && (with.is_empty() || command == with) {
+            put_below(text, reported);
         }
     }
     if let [b'-', digit, ..] = word.as_bytes()
         && digit.is_ascii_digit()
     {
-        let _ = eprintln!(rt;
-            "  no number has a sign: the least is 0 for --ticks and --seed, and 1 for any other option"
+        put_below(
+            text,
+            "no number has a sign: the least is 0 for --ticks and --seed, and 1 for any other option",
         );
     }
 }
 
-/// Tells what is known of the words of a line that is refused: of an option that is near, or is another command's, and of a question of several
-/// words without quotation marks.
-pub fn tell_near_option<R: Eprint>(rt: &R, words: &[String]) {
+/// Whether the question after the word of this number, from 0, may be one of several words without quotation marks.
+fn is_unquoted(words: &[String], index: usize) -> bool {
+    match words.get(index.saturating_add(2)) {
+        Some(next) => index > 3 && !next.as_str().starts_with('-'),
+        None => false,
+    }
+}
+
+/// What is known of the words of a line that is refused: of an option that is near, or is another command's, and of a question of several words without
+/// quotation marks.
+pub fn near_option_lines(alloc: Global, words: &[String]) -> Text {
     let command = match words {
         [_, command, ..] => command.as_str(),
         _ => "",
     };
+    let mut text = Text::new(alloc);
     for (index, word) in words.iter().enumerate() {
-        tell_word(rt, command, word.as_str());
-        if word.as_str() == "--find" && index > 3 {
-            if let Some(next) = words.get(index.saturating_add(2))
-                && !next.as_str().starts_with('-')
-            {
-                let _ = eprintln!(rt;
-                    "  a question of several words stands in quotation marks: --find 'T1 waits'"
-                );
-            }
+        put_word(&mut text, command, word.as_str());
+        if word.as_str() == "--find" && is_unquoted(words, index) {
+            put_below(
+                &mut text,
+                "a question of several words stands in quotation marks: --find 'T1 waits'",
+            );
         }
     }
+    text
 }

@@ -1,17 +1,19 @@
-//! Many questions about the orders of scripts: each is searched for by itself, and a line tells its answer.
-use crate::beside::Telling;
-use crate::layer::folder_made;
-use crate::output::{Ending, settled_search};
-use crate::progress::ProgressLine;
-use crate::texts::{Kept, STANDARD_INPUT, both_opened, copy_of, text_read, trace_read};
-use crate::{beside, lines};
+//! Many questions about the orders of scripts: each is searched for by itself, and a line reports its answer.
+use crate::lists::put_out;
 use fmp_cli::Paths;
+use fmp_cli_desk::{
+    Desk, Ending, FaultForm, Kept, ProgressLine, both_opened, copy_of, file_put, folder_made,
+    put_lines, report_beside, report_question_beside, settled_search, text_read, third_allowed,
+    trace_put, trace_read,
+};
+use fmp_cli_diagnostics::{LineForm, Spot};
 use fmp_cli_explore::{ExploreRequest, FEW_TICKS};
+use fmp_cli_faults::{asked_line, question_diagnostic, row_line};
 use fmp_cli_hints_question::row_context;
 use fmp_cli_notes::{About, note_unmade, note_unshown};
 use fmp_cli_questions::{
-    Answer, Reply, Row, RowKind, Rows, judgement_of, junit_text, plain_line, read_rows, tap_head,
-    tap_line,
+    Answer, Reply, Row, RowFault, RowKind, Rows, judgement_of, junit_text, plain_line, read_rows,
+    tap_head, tap_line,
 };
 use fmp_cli_runs::{reply_to, status_of};
 use fmp_config::Config;
@@ -21,9 +23,6 @@ use fmp_run_texts::{ScriptReader, texts_from};
 use fmp_search_question::{QuestionFault, ReadFault, is_lasting, read_lasting, read_question};
 use fmp_text::MOST_BYTES;
 use std::alloc::{AllocError, Global};
-use std::io::{Input, Write};
-use std::rt::{Clock, Files};
-use std::{fs, io};
 
 /// The texts, all read.
 #[derive(Drop)]
@@ -37,7 +36,7 @@ struct Texts {
 #[derive(Clone, Copy)]
 struct Asking<'a> {
     paths: Paths<'a>,
-    telling: Telling,
+    fault_form: FaultForm,
     request: ExploreRequest<'a>,
     /// The path of their text.
     file: &'a str,
@@ -53,15 +52,11 @@ enum Misfit {
 }
 
 /// Reads the configuration, the scripts and the questions to their ends.
-fn texts_of<R: Files + Input + AllocGlobal>(rt: &R, asking: &Asking<'_>) -> Result<Texts, Ending> {
-    let paths = &asking.paths;
-    let file = asking.file;
-    if file == STANDARD_INPUT && (paths.config == file || paths.text == file) {
-        return Err(Ending::OneInput);
-    }
-    let (config, scripts) = both_opened(rt, paths)?;
-    let questions = trace_read(rt, file)?;
-    match text_read(rt, scripts) {
+fn texts_of<D: Desk>(desk: &D, asking: &Asking<'_>) -> Result<Texts, Ending> {
+    third_allowed(&asking.paths, asking.file)?;
+    let (config, scripts) = both_opened(desk, &asking.paths)?;
+    let questions = trace_read(desk, asking.file)?;
+    match text_read(desk.alloc(), scripts) {
         Ok(scripts) => Ok(Texts {
             config,
             scripts,
@@ -121,109 +116,102 @@ fn column_of(text: &[u8], row: &Row) -> Option<usize> {
         .checked_sub(row.question().len())
 }
 
-/// Tells what is wrong with a question, and how that ends the program.
-fn tell_misfit<R: Eprint + AllocGlobal>(
-    rt: &R,
+/// Reports the fault of the question of a row, which begins at this byte of the question, counted from 0.
+fn report_asked<D: Desk>(
+    desk: &D,
+    asking: &Asking<'_>,
+    texts: &Texts,
+    row: &Row,
+    fault: QuestionFault,
+    place: usize,
+) {
+    let path = asking.file;
+    let number = place.saturating_add(1);
+    if !matches!(asking.fault_form.line, LineForm::Gcc) {
+        put_lines(
+            desk,
+            asked_line(desk.alloc(), path, row.line(), fault, number),
+        );
+        return;
+    }
+    let spot = match column_of(texts.questions.as_slice(), row) {
+        Some(column) => Spot::Column(row.line(), column.saturating_add(number)),
+        None => Spot::Line(row.line()),
+    };
+    desk.put_line(question_diagnostic(path, spot, fault));
+}
+
+/// Reports what is wrong with a question, and how that ends the program.
+fn report_misfit<D: Desk>(
+    desk: &D,
     asking: &Asking<'_>,
     texts: &Texts,
     row: &Row,
     misfit: Misfit,
 ) -> Status {
-    let form = asking.telling.line;
     match misfit {
         Misfit::Ticks => {
-            lines::tell_row(rt, form, asking.file, row.line(), FEW_TICKS);
+            let form = asking.fault_form.line;
+            let lines = row_line(desk.alloc(), form, asking.file, row.line(), FEW_TICKS);
+            put_lines(desk, lines);
             Status::Usage
         }
         Misfit::Text(fault, place) => {
-            let column = column_of(texts.questions.as_slice(), row);
-            let asked = lines::AskedLine {
-                path: asking.file,
-                line: row.line(),
-                column,
-            };
-            lines::tell_asked(rt, form, asked, fault, place);
+            report_asked(desk, asking, texts, row, fault, place);
             if let Ok(question) = str::from_utf8(row.question()) {
                 let config = texts.config.as_slice();
-                beside::tell_question(rt, &asking.paths, config, question, fault, place);
+                report_question_beside(desk, &asking.paths, config, question, fault, place);
             }
             Status::Faulty
         }
     }
 }
 
-/// Judges all questions before the first is searched for. Tells the first fault of their text, and how that ends the program, if there is one.
-fn misfits<R: Eprint + AllocGlobal>(
-    rt: &R,
+/// Reports the fault of a row that is no question.
+fn report_row<D: Desk>(desk: &D, asking: &Asking<'_>, texts: &Texts, fault: RowFault) {
+    let alloc = desk.alloc();
+    let form = asking.fault_form.line;
+    put_lines(
+        desk,
+        row_line(alloc, form, asking.file, fault.line, fault.words()),
+    );
+    if asking.paths.context.is_some() && matches!(fault.kind, RowKind::Form) {
+        let line = u32::try_from(fault.line).unwrap_or(u32::MAX);
+        report_beside(
+            desk,
+            row_context(alloc, texts.questions.as_slice(), line).ok(),
+        );
+    }
+}
+
+/// Judges all questions before the first is searched for. Reports the first fault of their text, and how that ends the program, if there is one.
+fn misfits<D: Desk>(
+    desk: &D,
     asking: &Asking<'_>,
     texts: &Texts,
     rows: &Rows,
 ) -> Result<Option<Status>, Ending> {
-    let alloc = rt.alloc();
+    let alloc = desk.alloc();
     let config = config_of(alloc, texts)?;
     for row in rows.rows.iter() {
         if let Some(misfit) = misfit_of(alloc, &config, &asking.request, row.question())? {
-            return Ok(Some(tell_misfit(rt, asking, texts, row, misfit)));
+            return Ok(Some(report_misfit(desk, asking, texts, row, misfit)));
         }
     }
     if let Some(fault) = rows.fault {
-        lines::tell_row(
-            rt,
-            asking.telling.line,
-            asking.file,
-            fault.line,
-            fault.words(),
-        );
-        if asking.paths.context.is_some() && matches!(fault.kind, RowKind::Form) {
-            let line = u32::try_from(fault.line).unwrap_or(u32::MAX);
-            if let Ok(text) = row_context(alloc, texts.questions.as_slice(), line) {
-                beside::tell_beside(rt, text.as_slice());
-            }
-        }
+        report_row(desk, asking, texts, fault);
         return Ok(Some(Status::Faulty));
     }
     Ok(None)
 }
 
-/// Writes a text into the file at a path, which is made where there is none.
-fn put<R: Files + AllocGlobal>(rt: &R, path: &str, text: &[u8]) -> Result<(), Ending> {
-    let written = match fs::create(rt, path) {
-        Ok(mut file) => file.write_all(text),
-        Err(error) => Err(error),
-    };
-    match written {
-        Ok(()) => Ok(()),
-        Err(error) => Err(Ending::Unmade(error, format!(in rt.alloc(); "{path}")?)),
-    }
-}
-
-/// Writes the trace of a question that was shown into the folder for it.
-fn put_trace<R: Files + AllocGlobal>(
-    rt: &R,
-    folder: &str,
-    row: &Row,
-    trace: &[u8],
-) -> Result<(), Ending> {
-    let name = str::from_utf8(row.name()).unwrap_or("");
-    let path = format!(in rt.alloc(); "{folder}/{name}.trace")?;
-    put(rt, path.as_str(), trace)
-}
-
-/// Writes bytes to standard output.
-fn put_out<R: Print>(rt: &R, text: &[u8]) -> Result<(), Ending> {
-    match io::writer(rt).write_all(text) {
-        Ok(()) => Ok(()),
-        Err(error) => Err(Ending::of_write(&error)),
-    }
-}
-
 /// The answer to a question, whose trace is written where that is asked for. A question that is not begun in time is not searched for.
-fn answered<'x, R: Files + Eprint + Clock + AllocGlobal>(
-    rt: &R,
+fn answered<'x, D: Desk>(
+    desk: &D,
     asking: &Asking<'x>,
     texts: &Texts,
     row: &'x Row,
-    progress: &mut ProgressLine<'_, R>,
+    progress: &mut ProgressLine<'_, D>,
 ) -> Result<(Answer, Option<Outcome>), Ending> {
     if Progress::is_over(progress) {
         return Ok((Answer::NotWithin(0), None));
@@ -233,7 +221,7 @@ fn answered<'x, R: Files + Eprint + Clock + AllocGlobal>(
         ..asking.request
     };
     let run = reply_to(
-        rt.alloc(),
+        desk.alloc(),
         texts.config.as_slice(),
         texts.scripts.as_slice(),
         &request,
@@ -241,7 +229,8 @@ fn answered<'x, R: Files + Eprint + Clock + AllocGlobal>(
     );
     let replied = settled_search(run, false)?;
     if let (Answer::Shown(_), Some(folder)) = (replied.answer, request.traces) {
-        put_trace(rt, folder, row, replied.trace.as_slice())?;
+        let name = str::from_utf8(row.name()).unwrap_or("");
+        trace_put(desk, folder, name, replied.trace.as_slice())?;
     }
     Ok((replied.answer, replied.outcome))
 }
@@ -252,24 +241,24 @@ fn keep<T: Drop>(things: &mut Vec<T>, thing: T) -> Result<(), AllocError> {
     Ok(())
 }
 
-/// Searches for each question, and tells its answer when it is known. Of each it puts what was found of all orders, where something of it is told at
+/// Searches for each question, and reports its answer when it is known. Of each it puts what was found of all orders, where something of it is reported at
 /// the end.
-fn replies_to<R: Files + Print + Eprint + Clock + AllocGlobal>(
-    rt: &R,
+fn replies_to<D: Desk>(
+    desk: &D,
     asking: &Asking<'_>,
     texts: &Texts,
     rows: Vec<Row>,
     outcomes: &mut Vec<Option<Outcome>>,
-    progress: &mut ProgressLine<'_, R>,
+    progress: &mut ProgressLine<'_, D>,
 ) -> Result<Vec<Reply>, Ending> {
-    let alloc = rt.alloc();
+    let alloc = desk.alloc();
     if asking.request.tap {
-        put_out(rt, tap_head(alloc, rows.len())?.as_slice())?;
+        put_out(desk, tap_head(alloc, rows.len())?.as_slice())?;
     }
     let mut replies = Vec::new(alloc);
     for row in rows {
         let begun = progress.thousandths();
-        let (answer, outcome) = answered(rt, asking, texts, &row, progress)?;
+        let (answer, outcome) = answered(desk, asking, texts, &row, progress)?;
         let thousandths = progress.thousandths().saturating_sub(begun);
         let reply = Reply {
             row,
@@ -281,22 +270,22 @@ fn replies_to<R: Files + Print + Eprint + Clock + AllocGlobal>(
         } else {
             plain_line(alloc, &reply)?
         };
-        put_out(rt, line.as_slice())?;
+        put_out(desk, line.as_slice())?;
         keep(&mut replies, reply)?;
         keep(outcomes, outcome)?;
     }
     Ok(replies)
 }
 
-/// Tells which calls of the scripts no order makes, where some question is shown by none: that is the same beside each of them.
-fn tell_unmade<R: Eprint + Clock + AllocGlobal>(
-    rt: &R,
+/// Reports which calls of the scripts no order makes, where some question is shown by none: that is the same beside each of them.
+fn report_unmade<D: Desk>(
+    desk: &D,
     asking: &Asking<'_>,
     outcomes: &[Option<Outcome>],
-    progress: &mut ProgressLine<'_, R>,
+    progress: &mut ProgressLine<'_, D>,
 ) {
     let about = About {
-        alloc: rt.alloc(),
+        alloc: desk.alloc(),
         asked: "questions",
     };
     for outcome in outcomes.iter().flatten().take(1) {
@@ -304,69 +293,72 @@ fn tell_unmade<R: Eprint + Clock + AllocGlobal>(
     }
 }
 
-/// Tells of each question that no order shows how much of it comes, after all answers: these searches are not to take the time of others.
-fn tell_unshown<R: Eprint + Clock + AllocGlobal>(
-    rt: &R,
+/// Reports of each question that no order shows how much of it comes, after all answers: these searches are not to take the time of others.
+fn report_unshown<D: Desk>(
+    desk: &D,
     asking: &Asking<'_>,
     replies: &[Reply],
     outcomes: &[Option<Outcome>],
-    progress: &mut ProgressLine<'_, R>,
+    progress: &mut ProgressLine<'_, D>,
 ) {
     progress.allow_as_much();
     for (reply, outcome) in replies.iter().zip(outcomes.iter()) {
         let name = str::from_utf8(reply.row.name()).unwrap_or("");
         if let Some(outcome) = outcome {
             let about = About {
-                alloc: rt.alloc(),
+                alloc: desk.alloc(),
                 asked: name,
             };
             note_unshown(progress, about, outcome, &asking.request);
         }
     }
-    tell_unmade(rt, asking, outcomes, progress);
+    report_unmade(desk, asking, outcomes, progress);
 }
 
-/// Searches for each question of the text at a path, and tells the answers. All are judged before the first search, and what is to be written is
+/// Makes what is to be written beside the answers, so that no search is made for nothing.
+fn make_room<D: Desk>(desk: &D, request: &ExploreRequest<'_>) -> Result<(), Ending> {
+    if let Some(folder) = request.traces {
+        folder_made(desk, folder)?;
+    }
+    if let Some(path) = request.junit {
+        file_put(desk, path, b"")?;
+    }
+    Ok(())
+}
+
+/// Searches for each question of the text at a path, and reports the answers. All are judged before the first search, and what is to be written is
 /// made then.
-pub fn asked<R: Files + Input + Print + Eprint + Clock + AllocGlobal>(
-    rt: &R,
+pub fn asked<D: Desk>(
+    desk: &D,
     paths: &Paths<'_>,
-    telling: Telling,
+    fault_form: FaultForm,
     request: &ExploreRequest<'_>,
     file: &str,
-    progress: &mut ProgressLine<'_, R>,
+    progress: &mut ProgressLine<'_, D>,
 ) -> Result<Status, Ending> {
     let asking = Asking {
         paths: *paths,
-        telling,
+        fault_form,
         request: *request,
         file,
     };
-    let texts = texts_of(rt, &asking)?;
+    let texts = texts_of(desk, &asking)?;
     if texts.questions.len() > MOST_BYTES {
         return Err(Ending::LongTrace);
     }
-    let rows = read_rows(rt.alloc(), texts.questions.as_slice())?;
-    if let Some(status) = misfits(rt, &asking, &texts, &rows)? {
+    let rows = read_rows(desk.alloc(), texts.questions.as_slice())?;
+    if let Some(status) = misfits(desk, &asking, &texts, &rows)? {
         return Ok(status);
     }
-    if let Some(folder) = request.traces {
-        folder_made(rt, folder)?;
-    }
+    make_room(desk, request)?;
+    let mut outcomes = Vec::new(desk.alloc());
+    let replies = replies_to(desk, &asking, &texts, rows.rows, &mut outcomes, progress)?;
     if let Some(path) = request.junit {
-        put(rt, path, b"")?;
+        let text = junit_text(desk.alloc(), replies.as_slice())?;
+        file_put(desk, path, text.as_slice())?;
     }
-    let mut outcomes = Vec::new(rt.alloc());
-    let replies = replies_to(rt, &asking, &texts, rows.rows, &mut outcomes, progress)?;
-    if let Some(path) = request.junit {
-        put(
-            rt,
-            path,
-            junit_text(rt.alloc(), replies.as_slice())?.as_slice(),
-        )?;
-    }
-    tell_unshown(
-        rt,
+    report_unshown(
+        desk,
         &asking,
         replies.as_slice(),
         outcomes.as_slice(),

@@ -1,0 +1,221 @@
+//! How a run ends, if not by its end.
+ghost use Rattle.std.specs.Prelude.{◌≡◌, ◌≢◌, Ok, Err, IfOk, IfErr};
+ghost use Rattle.std.specs.IoError.{error_kind};
+ghost use Rattle.std.specs.declared.io.ErrorKind.TheVariants as kind;
+ghost use Rattle.fmp_run_texts.specs.declared.fault.RunFault.TheVariants as run;
+ghost use Rattle.fmp_cli_desk.specs.declared.ending.Ending.TheVariants as ending;
+ghost use Rattle.fmp_cli_desk.specs.Endings as spec;
+
+use crate::texts::Kept;
+use fmp_run_events::{LifeFault, RunFault, Status};
+use fmp_run_explore::ExploreFault;
+use fmp_run_explore_from::FromFault;
+use fmp_search_question::QuestionFault;
+use std::alloc::AllocError;
+use std::io;
+
+/// Why a run ended before its time.
+#[derive(Drop)]
+pub enum Ending {
+    /// This is reported.
+    Fault(RunFault),
+    /// This is reported of a run that has read these texts.
+    Faulty(RunFault, Kept),
+    /// The configuration cannot be opened, for this cause.
+    NoConfig(io::Error),
+    /// The other text cannot be opened, for this cause.
+    NoText(io::Error),
+    /// More than one text was to come from standard input.
+    OneInput,
+    /// Nobody reads the output any more, as after `head`. Nothing is reported of that.
+    Unread,
+    /// The question has this fault, at the byte of this number from 0.
+    Question(QuestionFault, usize),
+    /// The trace with which a search begins cannot be read.
+    NoTrace,
+    /// It is too long.
+    LongTrace,
+    /// Its line of this number, from 1, is the first that no order has there.
+    Stray(u32),
+    /// That of a run that has read this configuration.
+    Asked(QuestionFault, usize, Vec<u8>),
+    /// The name of this number, from 0, names nothing in the configuration.
+    Name(usize),
+    /// That of a run that has read this configuration.
+    Unnamed(usize, Vec<u8>),
+    /// The file or folder at this path cannot be made or written, for this cause.
+    Unmade(io::Error, String),
+}
+
+impl From<RunFault> for Ending {
+    fn from(fault: RunFault) -> Ending {
+        Ending::Fault(fault)
+    }
+}
+
+impl From<AllocError> for Ending {
+    fn from(_error: AllocError) -> Ending {
+        Ending::Fault(RunFault::Memory)
+    }
+}
+
+impl Ending {
+    /// How it ends the program.
+    pub fn status(&self) -> Status
+        ensures { result ≡ spec.status_of self.now }
+    {
+        match self {
+            Ending::Fault(fault) | Ending::Faulty(fault, _) => fault.status(),
+            Ending::NoConfig(_)
+            | Ending::NoText(_)
+            | Ending::Unread
+            | Ending::NoTrace
+            | Ending::Unmade(..) => Status::Device,
+            Ending::OneInput | Ending::Name(_) | Ending::Unnamed(..) => Status::Usage,
+            Ending::Question(..) | Ending::LongTrace | Ending::Stray(_) | Ending::Asked(..) => {
+                Status::Faulty
+            }
+        }
+    }
+
+    /// That of a trace with which a search was to begin, where this happened when it was read.
+    pub fn of_trace(fault: RunFault) -> Ending
+        ensures { result ≡ spec.of_trace fault }
+    {
+        match fault {
+            RunFault::Read => Ending::NoTrace,
+            fault => Ending::Fault(fault),
+        }
+    }
+
+    /// That of a run with this fault, where its output was closed when the last write failed, or was not.
+    fn of_run(fault: RunFault, is_closed: bool) -> Ending
+        ensures { result ≡ spec.of_run fault is_closed }
+    {
+        match fault {
+            RunFault::Write if is_closed => Ending::Unread,
+            fault => Ending::Fault(fault),
+        }
+    }
+
+    /// That of a text which could not be written.
+    fn of_write(error: &io::Error) -> Ending
+        ensures unread { error_kind error.now ≡ kind.BrokenPipe → result ≡ ending.Unread }
+        ensures fault { error_kind error.now ≢ kind.BrokenPipe → result ≡ ending.Fault run.Write }
+    {
+        if matches!(error.kind(), io::ErrorKind::BrokenPipe) {
+            Ending::Unread
+        } else {
+            Ending::Fault(RunFault::Write)
+        }
+    }
+
+    /// Likewise of a search.
+    fn of_search(fault: ExploreFault, is_closed: bool) -> Ending
+        ensures { result ≡ spec.of_search fault is_closed }
+    {
+        match fault {
+            ExploreFault::Run(fault) => Ending::of_run(fault, is_closed),
+            ExploreFault::Question(fault, place) => Ending::Question(fault, place),
+        }
+    }
+
+    /// Likewise of a search that begins where a trace ends.
+    fn of_begun(fault: FromFault, is_closed: bool) -> Ending
+        ensures { result ≡ spec.of_begun fault is_closed }
+    {
+        match fault {
+            FromFault::Explore(fault) => Ending::of_search(fault, is_closed),
+            FromFault::Long => Ending::LongTrace,
+            FromFault::Stray(line) => Ending::Stray(line),
+        }
+    }
+
+    /// Likewise of a run that is asked for some things.
+    fn of_life(fault: LifeFault, is_closed: bool) -> Ending
+        ensures { result ≡ spec.of_life fault is_closed }
+    {
+        match fault {
+            LifeFault::Run(fault) => Ending::of_run(fault, is_closed),
+            LifeFault::Name(index) => Ending::Name(index),
+        }
+    }
+
+    /// That of a run that has read these texts, which are kept for what stands beside a fault.
+    fn with_texts(self, texts: Kept) -> Ending
+        ensures { result ≡ spec.with_texts self texts }
+    {
+        match self {
+            Ending::Fault(fault) => Ending::Faulty(fault, texts),
+            Ending::Question(fault, place) => Ending::Asked(fault, place, texts.config),
+            Ending::Name(index) => Ending::Unnamed(index, texts.config),
+            ending => ending,
+        }
+    }
+}
+
+/// What became of a run that has read these texts.
+pub fn kept<T: Drop>(run: Result<T, Ending>, texts: Kept) -> Result<T, Ending>
+    ensures done { IfOk run (λ done. result ≡ Ok done) }
+    ensures ended { IfErr run (λ ending. result ≡ Err (spec.with_texts ending texts)) }
+{
+    match run {
+        Ok(done) => Ok(done),
+        Err(ending) => Err(ending.with_texts(texts)),
+    }
+}
+
+/// What became of a run, where it is known whether its output was closed when the last write failed.
+pub fn settled<T: Drop>(run: Result<T, RunFault>, is_closed: bool) -> Result<T, Ending>
+    ensures done { IfOk run (λ done. result ≡ Ok done) }
+    ensures ended { IfErr run (λ fault. result ≡ Err (spec.of_run fault is_closed)) }
+{
+    match run {
+        Ok(done) => Ok(done),
+        Err(fault) => Err(Ending::of_run(fault, is_closed)),
+    }
+}
+
+/// What became of a search, likewise.
+pub fn settled_search<T: Drop>(run: Result<T, ExploreFault>, is_closed: bool) -> Result<T, Ending>
+    ensures done { IfOk run (λ done. result ≡ Ok done) }
+    ensures ended { IfErr run (λ fault. result ≡ Err (spec.of_search fault is_closed)) }
+{
+    match run {
+        Ok(done) => Ok(done),
+        Err(fault) => Err(Ending::of_search(fault, is_closed)),
+    }
+}
+
+/// What became of a search that begins where a trace ends, likewise.
+pub fn settled_begun<T: Drop>(run: Result<T, FromFault>, is_closed: bool) -> Result<T, Ending>
+    ensures done { IfOk run (λ done. result ≡ Ok done) }
+    ensures ended { IfErr run (λ fault. result ≡ Err (spec.of_begun fault is_closed)) }
+{
+    match run {
+        Ok(done) => Ok(done),
+        Err(fault) => Err(Ending::of_begun(fault, is_closed)),
+    }
+}
+
+/// What became of a run that is asked for some things, likewise.
+pub fn settled_life<T: Drop>(run: Result<T, LifeFault>, is_closed: bool) -> Result<T, Ending>
+    ensures done { IfOk run (λ done. result ≡ Ok done) }
+    ensures ended { IfErr run (λ fault. result ≡ Err (spec.of_life fault is_closed)) }
+{
+    match run {
+        Ok(done) => Ok(done),
+        Err(fault) => Err(Ending::of_life(fault, is_closed)),
+    }
+}
+
+/// What became of a text that was written to standard output.
+pub fn settled_write(write: io::Result<()>) -> Result<(), Ending>
+    ensures unread { IfErr write (λ error. error_kind error ≡ kind.BrokenPipe → result ≡ Err ending.Unread) }
+    ensures fault { IfErr write (λ error. error_kind error ≢ kind.BrokenPipe → result ≡ Err (ending.Fault run.Write)) }
+{
+    match write {
+        Ok(()) => Ok(()),
+        Err(error) => Err(Ending::of_write(&error)),
+    }
+}

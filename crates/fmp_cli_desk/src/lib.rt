@@ -1,0 +1,28 @@
+//! The desk at which the program works, and what it does there whatever is asked: it opens texts, says how a run ends, reports why it ended before its time,
+//! and how far it has come.
+//!
+//! A [`Desk`] is all that the program has of the system that it runs on, so that no other crate of it opens a file or prints but the one that makes the
+//! desk. How a run ends is an [`Ending`], or a status where it went to its end: [`Ending::status`] says by definition how each ends the program
+//! (`specs/Endings`), and [`ended`] does so of every run, whatever it reports.
+#![tactic(auto)]
+
+mod desk;
+mod ending;
+mod faults;
+mod files;
+mod outcome;
+mod progress;
+mod texts;
+
+pub use desk::{Desk, FaultForm, put_lines};
+pub use ending::{
+    Ending, kept, settled, settled_begun, settled_life, settled_search, settled_write,
+};
+pub use faults::{report_beside, report_name, report_question_beside, whole};
+pub use files::{file_put, folder_made, layer_put, trace_put};
+pub use outcome::{NO_PATHS, ended, replied, report_begun, report_memory};
+pub use progress::ProgressLine;
+pub use texts::{
+    Kept, LineKeeper, STANDARD_INPUT, both_opened, both_read, config_alone, copy_of, text_read,
+    third_allowed, trace_read,
+};

@@ -1,0 +1,86 @@
+//! What may be written in the texts, what is reported of a name, and what was read of a configuration.
+use fmp_cli::{Described, Paths};
+use fmp_cli_desk::{
+    Desk, Ending, FaultForm, NO_PATHS, config_alone, ended, kept, put_lines, settled, settled_write,
+};
+use fmp_cli_diagnostics::LineForm;
+use fmp_cli_help::{about, everything, near_word};
+use fmp_cli_hints::TextForm;
+use fmp_out::Text;
+use fmp_run_events::{MemSource, Status, WriteSink};
+use fmp_run_list::run_list;
+use std::alloc::{AllocError, Global};
+use std::io::Write;
+
+/// Writes a text to standard output.
+pub fn put_out<D: Desk>(desk: &D, text: &[u8]) -> Result<(), Ending> {
+    settled_write(desk.output().write_all(text))
+}
+
+/// What is reported of a name that nothing has.
+fn unknown_lines(alloc: Global, name: &str) -> Result<Text, AllocError> {
+    let near = near_word(alloc, name.as_bytes())?;
+    let mut text = Text::new(alloc);
+    text.put(b"fmpsim: nothing is called ");
+    text.put(name.as_bytes());
+    text.put(b": see fmpsim list\n");
+    if let Some(near) = near {
+        text.put(b"  near: ");
+        text.put(near);
+        text.put_byte(b'\n');
+    }
+    Ok(text)
+}
+
+/// Writes what may be written in the texts, or what is reported of a name.
+fn list<D: Desk>(desk: &D, name: Option<&str>) -> Result<Status, Ending> {
+    let alloc = desk.alloc();
+    let Some(name) = name else {
+        put_out(desk, everything(alloc)?.as_slice())?;
+        return Ok(Status::Done);
+    };
+    let Some(text) = about(alloc, name.as_bytes())? else {
+        put_lines(desk, unknown_lines(alloc, name)?);
+        return Ok(Status::Usage);
+    };
+    put_out(desk, text.as_slice())?;
+    Ok(Status::Done)
+}
+
+/// How reporting what may be written ends the program.
+pub fn listed<D: Desk>(desk: &D, name: Option<&str>, line: LineForm) -> Status {
+    // No text is read, so that of their forms any will do.
+    let text = TextForm::Events;
+    ended(desk, &NO_PATHS, FaultForm { line, text }, list(desk, name))
+}
+
+/// Writes what was read of a configuration.
+fn configured<D: Desk>(desk: &D, paths: &Paths<'_>) -> Result<Status, Ending> {
+    let alloc = desk.alloc();
+    let texts = config_alone(desk, paths)?;
+    let mut output = WriteSink::new(alloc, desk.output())?;
+    let run = run_list(
+        alloc,
+        &mut MemSource::new(texts.config.as_slice()),
+        &mut output,
+    );
+    kept(settled(run, output.is_closed()), texts)?;
+    Ok(Status::Done)
+}
+
+/// How reporting what was read of a configuration ends the program. A fault is reported.
+pub fn described<D: Desk>(desk: &D, request: &Described<'_>, line: LineForm) -> Status {
+    // No other text is read, so that of its forms any will do.
+    let text = TextForm::Events;
+    let paths = Paths {
+        config: request.config,
+        text: "",
+        context: request.context.then_some(text),
+    };
+    ended(
+        desk,
+        &paths,
+        FaultForm { line, text },
+        configured(desk, &paths),
+    )
+}

@@ -1,0 +1,286 @@
+//! Processors that follow scripts: their trace on standard output, and who waits at the end on standard error.
+ghost use Rattle.std.specs.Prelude.{◌-◌, ◌<◌, ◌^◌};
+
+use crate::colours::{is_coloured, uncoloured};
+use fmp_cli::Paths;
+use fmp_cli_colour::ColourSink;
+use fmp_cli_desk::{
+    Desk, Ending, FaultForm, ProgressLine, both_read, kept, put_lines, replied, settled_search,
+    whole,
+};
+use fmp_cli_diagnostics::LineForm;
+use fmp_cli_faults::{LASTING, SeedMisfit, Waiting, waiting_lines};
+use fmp_cli_hints::TextForm;
+use fmp_cli_runs::{Played, play, seek};
+use fmp_cli_table::{Seeds, SmpRequest};
+use fmp_out::Text;
+use fmp_run_events::{MemSource, Sink, Source, Status, WriteSink};
+use fmp_run_explore::ExploreFault;
+use fmp_run_seeds::{SeedProgress, SeedSearch};
+use fmp_search_question::is_lasting;
+use fmp_text::MOST_BYTES;
+use std::alloc::Global;
+use std::sync::Wait;
+use std::thread::Threads;
+
+/// What is reported of a run beside its trace.
+#[derive(Drop)]
+struct Outcome {
+    status: Status,
+    seed: SeedReported,
+    /// A line for each task that waits at the end of what is written.
+    waiting: Vec<u8>,
+}
+
+/// What is reported of seeds.
+#[derive(Clone, Copy)]
+enum SeedReported {
+    Nothing,
+    /// This one was found.
+    Found(u64),
+    /// This one was found, and shows at this line what is asked.
+    Shown(u64, usize),
+    /// The search was ended after this one.
+    Ended(u64),
+}
+
+impl SeedReported {
+    /// The line that reports it.
+    fn line(self, alloc: Global) -> Text {
+        let mut text = Text::new(alloc);
+        let (words, seed) = match self {
+            SeedReported::Nothing => return text,
+            SeedReported::Found(seed) | SeedReported::Shown(seed, _) => {
+                (b"fmpsim: seed ".as_slice(), seed)
+            }
+            SeedReported::Ended(seed) => (
+                b"fmpsim: ended by --seconds after seed ".as_slice(),
+                seed,
+            ),
+        };
+        text.put(words);
+        text.put_number(seed);
+        if let SeedReported::Shown(_, line) = self {
+            text.put(b", line ");
+            text.put_number(line as u64);
+        }
+        text.put_byte(b'\n');
+        text
+    }
+}
+
+impl Outcome {
+    /// That of one run.
+    fn of_run(played: Played) -> Outcome {
+        Outcome {
+            status: played.status,
+            seed: SeedReported::Nothing,
+            waiting: played.waiting,
+        }
+    }
+
+    /// That of the runs of many seeds, where a question was asked or was not.
+    fn of_seeds(alloc: Global, search: SeedSearch, asked: bool) -> Outcome {
+        let status = search.status(asked);
+        let (seed, waiting) = match search {
+            SeedSearch::Found(found) if asked => {
+                (SeedReported::Shown(found.seed, found.line), found.waiting)
+            }
+            SeedSearch::Found(found) => (SeedReported::Found(found.seed), found.waiting),
+            SeedSearch::Passed => (SeedReported::Nothing, Vec::new(alloc)),
+            SeedSearch::Ended(seed) => (SeedReported::Ended(seed), Vec::new(alloc)),
+        };
+        Outcome {
+            status,
+            seed,
+            waiting,
+        }
+    }
+}
+
+/// Reports what became of a run: the seed, with the line that shows what is asked, and then the tasks that wait. As compilers have them each is reported at its
+/// script, for which the scripts are read again.
+fn report_outcome<D: Desk>(desk: &D, path: &str, form: LineForm, config: &[u8], outcome: &Outcome) {
+    let alloc = desk.alloc();
+    put_lines(desk, outcome.seed.line(alloc));
+    let waiting = Waiting {
+        lines: str::from_utf8(outcome.waiting.as_slice()).unwrap_or(""),
+        status: outcome.status,
+        config,
+    };
+    let scripts = match form {
+        LineForm::Gcc if !waiting.lines.is_empty() => whole(desk, path, MOST_BYTES),
+        _ => None,
+    };
+    let scripts = scripts.unwrap_or(Vec::new(alloc));
+    let lines = waiting_lines(alloc, form, path, waiting, scripts.as_slice());
+    put_lines(desk, lines);
+}
+
+/// Writes the trace of the first seed whose run is looked for: that shows what is asked, or at whose end a task waits.
+fn sought<R: Source, S: Source, W: Sink, P: SeedProgress>(
+    alloc: Global,
+    config: &mut R,
+    scripts: &mut S,
+    trace: &mut W,
+    request: &SmpRequest<'_>,
+    first: u64,
+    last: u64,
+    progress: &mut P,
+) -> Result<Outcome, ExploreFault>
+    requires config_calls { R.failures config.old < 2 ^ 64 - 1 }
+    requires script_calls { S.failures scripts.old < 2 ^ 64 - 1 }
+    requires trace_calls { W.failures trace.old < 2 ^ 64 - 1 }
+{
+    let search = seek(
+        alloc, config, scripts, trace, request, first, last, progress,
+    )?;
+    Ok(Outcome::of_seeds(alloc, search, request.find.is_some()))
+}
+
+/// Writes the trace of what is asked for: of one run, or of the first of many that is looked for.
+fn made<T: Threads + Wait + Sync, S: Source, W: Sink, P: SeedProgress>(
+    threads: &T,
+    alloc: Global,
+    config: &[u8],
+    scripts: &mut S,
+    trace: &mut W,
+    request: &SmpRequest<'_>,
+    progress: &mut P,
+) -> Result<Outcome, ExploreFault>
+    requires script_calls { S.failures scripts.old < 2 ^ 64 - 1 }
+    requires trace_calls { W.failures trace.old < 2 ^ 64 - 1 }
+{
+    let mut config = MemSource::new(config);
+    if let Seeds::Range(first, last) = request.seeds {
+        return sought(
+            alloc,
+            &mut config,
+            scripts,
+            trace,
+            request,
+            first,
+            last,
+            progress,
+        );
+    }
+    let played = play(threads, alloc, &mut config, scripts, trace, request)?;
+    Ok(Outcome::of_run(played))
+}
+
+/// Writes the trace, in colours or not.
+fn written<D, T, S, P>(
+    desk: &D,
+    threads: &T,
+    config: &[u8],
+    scripts: &mut S,
+    request: &SmpRequest<'_>,
+    coloured: bool,
+    progress: &mut P,
+) -> Result<Outcome, Ending>
+where
+    D: Desk,
+    T: Threads + Wait + Sync,
+    S: Source,
+    P: SeedProgress,
+    requires { S.failures scripts.old < 2 ^ 64 - 1 }
+{
+    let alloc = desk.alloc();
+    let mut trace = WriteSink::new(alloc, desk.output())?;
+    if coloured {
+        let mut colours = ColourSink::new(trace);
+        let run = made(
+            threads,
+            alloc,
+            config,
+            scripts,
+            &mut colours,
+            request,
+            progress,
+        );
+        return settled_search(run, colours.below().is_closed());
+    }
+    let run = made(
+        threads, alloc, config, scripts, &mut trace, request, progress,
+    );
+    settled_search(run, trace.is_closed())
+}
+
+/// Reads both texts, and has processors follow the scripts. What is reported beside the trace has this form, and which seed is played is reported.
+fn followed<D: Desk, T: Threads + Wait + Sync, P: SeedProgress>(
+    desk: &D,
+    threads: &T,
+    paths: &Paths<'_>,
+    request: &SmpRequest<'_>,
+    coloured: bool,
+    form: LineForm,
+    progress: &mut P,
+) -> Result<Status, Ending> {
+    let (texts, mut scripts) = both_read(desk, paths)?;
+    let config = texts.config.as_slice();
+    match written(
+        desk,
+        threads,
+        config,
+        &mut scripts,
+        request,
+        coloured,
+        progress,
+    ) {
+        Ok(outcome) => {
+            report_outcome(desk, paths.text, form, texts.config.as_slice(), &outcome);
+            Ok(outcome.status)
+        }
+        Err(ending) => kept(Err(ending), texts),
+    }
+}
+
+/// How a run of processors that follow scripts ends the program, in colours or not. A fault is reported.
+fn played<D: Desk, T: Threads + Wait + Sync>(
+    desk: &D,
+    threads: &T,
+    request: &SmpRequest<'_>,
+    coloured: bool,
+    line: LineForm,
+) -> Status {
+    let text = TextForm::Scripts;
+    let paths = Paths {
+        config: request.config,
+        text: request.scripts,
+        context: request.context.then_some(text),
+    };
+    let mut progress = ProgressLine::new(desk, request.progress, request.seconds);
+    let run = followed(
+        desk,
+        threads,
+        &paths,
+        request,
+        coloured,
+        line,
+        &mut progress,
+    );
+    SeedProgress::end(&mut progress);
+    let question = request.find.unwrap_or("");
+    replied(desk, &paths, FaultForm { line, text }, question, run)
+}
+
+/// How a run of processors that follow scripts ends the program. A fault is reported, and what is wrong with the request.
+pub fn scripted<D: Desk, T: Threads + Wait + Sync>(
+    desk: &D,
+    threads: &T,
+    request: &SmpRequest<'_>,
+    line: LineForm,
+) -> Status {
+    let Some(coloured) = is_coloured(desk, request.colour) else {
+        return uncoloured(desk);
+    };
+    if let Some(misfit) = SeedMisfit::of_request(request) {
+        put_lines(desk, misfit.line(desk.alloc()));
+        return Status::Usage;
+    }
+    if is_lasting(request.find.unwrap_or("").as_bytes()) {
+        desk.note(LASTING.as_bytes());
+        return Status::Usage;
+    }
+    played(desk, threads, request, coloured, line)
+}
