@@ -6,7 +6,7 @@ ghost use Rattle.fmp_cli_hints.specs.Hints as spec;
 ghost use Rattle.fmp_cli_help.specs.Near.{nearest};
 ghost use Rattle.fmp_names.specs.Names.{names_of};
 
-use crate::rows::{CALL_ROWS, JUMP_ROWS, foreign_words, report_of};
+use crate::rows::{CALL_ROWS, FIELD_ROWS, FIRST_ROWS, JUMP_ROWS, foreign_words, report_of};
 use crate::wanted::Wanted;
 use crate::way::is_code;
 use fmp_bytes::{Class, spelled_number, split_prefix};
@@ -300,6 +300,10 @@ const RUNNER: &[u8] = b"  `fmpsim check --partial` reads a trace that leaves it 
 /// What is told of a comment in a trace.
 const NO_COMMENT: &[u8] = b"  A trace has no comments: leave the line out.\n";
 
+/// What is told of a `*` in place of an answer.
+const NO_ANSWER: &[u8] =
+    b"  `*` stands for a value alone: `?` is an answer of which nothing is told\n";
+
 /// Adds what is told of the word that begins the text at a place, where this is wanted.
 pub(crate) fn put_hint(
     alloc: Global,
@@ -313,7 +317,10 @@ pub(crate) fn put_hint(
         Wanted::Happening | Wanted::Step => put_call_hint(alloc, out, names, wanted, text)?,
         Wanted::Jumps => out.put(report_of(&JUMP_ROWS, word)),
         Wanted::Runner if is_event(word) => out.put(RUNNER),
-        Wanted::LineNumber(_) if text.starts_with(b"#") => out.put(NO_COMMENT),
+        Wanted::LineNumber(_) | Wanted::Processor if text.starts_with(b"#") => out.put(NO_COMMENT),
+        Wanted::Processor => out.put(report_of(&FIRST_ROWS, word)),
+        Wanted::PartAnswer if text.starts_with(b"*") => out.put(NO_ANSWER),
+        Wanted::PartTail => out.put(report_of(&FIELD_ROWS, word)),
         Wanted::Argument(_, kind) => {
             let (word, _rest) = split_prefix(Class::Argument, text);
             put_argument_hint(alloc, out, names, kind, word)?;

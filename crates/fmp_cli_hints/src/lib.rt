@@ -15,6 +15,7 @@ mod labels;
 mod laws;
 mod likeness;
 mod line;
+mod partial;
 mod rows;
 mod text;
 mod things;

@@ -43,6 +43,33 @@ pub const JUMP_ROWS: [(&[u8], &[u8]); 1] = [(
     b"  A task ends at the end of its script, and before by `ext_tsk()`; a handler returns at the end of its own.\n",
 )];
 
+/// What is told of the fields behind an answer in a trace that may leave out parts.
+pub const FIELD_ROWS: [(&[u8], &[u8]); 5] = [
+    (
+        b"rel",
+        b"  rel: a task, `:` and the code of its wait with its value, as `rel=T2:E_OK:1`; `rel=T2:E_OK:*` leaves out the value, `rel=T2:*` the code too\n",
+    ),
+    (
+        b"lost",
+        b"  lost: the value that was overwritten, a number of 64 bits with a sign\n",
+    ),
+    (b"run", b"  run: a task, or `idle`\n"),
+    (
+        b"ipi",
+        b"  ipi: numbers of processors in ascending order, as `ipi=1,2`\n",
+    ),
+    (
+        b"by",
+        b"  by: the number of this line or of a later one, within 32 bits\n",
+    ),
+];
+
+/// What is told of a word in the place of a processor.
+pub const FIRST_ROWS: [(&[u8], &[u8]); 1] = [(
+    b"refused",
+    b"  `tools/from-log` refused its log: this is all that it writes then, and standard error says why\n",
+)];
+
 /// What is told of characters that stand in no line: some that are not ASCII, those of a text in UTF-16, and some that are ASCII.
 pub const FOREIGN_ROWS: [(&[u8], &[u8]); 10] = [
     (b"\"", QUOTED),

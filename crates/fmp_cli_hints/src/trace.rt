@@ -3,9 +3,10 @@ ghost use Rattle.std.specs.Prelude.{◌≡◌, ◌≤◌, ◌+◌, length, IfOk}
 ghost use Rattle.std.specs.Option.{option_copied, option_map_or};
 ghost use Rattle.fmp_bytes.specs.Bytes.{cut_at};
 
+use crate::partial::is_told;
 use crate::walk::{Walk, after_name};
 use crate::wanted::Wanted;
-use fmp_bytes::{Class, are_digits, cut, following, skip, split_prefix};
+use fmp_bytes::{Class, cut, following, skip, split_prefix};
 use fmp_calls::{find_call, form};
 use fmp_codes::{Call, Event, NameKind, ObjectKind, Proc, Record};
 use fmp_text::{Names, TextKind, processor_in, read_call};
@@ -44,7 +45,7 @@ fn spaced<'a>(wanted: Wanted, text: &'a [u8]) -> Walk<'a> {
 }
 
 /// The number of the line.
-fn numbered<'a>(n: u32, line: &'a [u8]) -> Walk<'a> {
+pub(crate) fn numbered<'a>(n: u32, line: &'a [u8]) -> Walk<'a> {
     let mut buffer = Buffer::new();
     let number = buffer.format(n).as_bytes();
     let (word, _after) = cut(b' ', line);
@@ -71,7 +72,7 @@ fn is_object(names: &Names, kind: ObjectKind, word: &[u8]) -> bool {
 }
 
 /// Whether a word tells who runs: the name of a task or a handler, or a sign for nobody.
-fn is_runner(names: &Names, word: &[u8]) -> bool {
+pub(crate) fn is_runner(names: &Names, word: &[u8]) -> bool {
     word == b"-".as_slice()
         || is_object(names, ObjectKind::Task, word)
         || is_object(names, ObjectKind::Alarm, word)
@@ -177,7 +178,11 @@ fn called<'a>(
 }
 
 /// Goes on over what happens.
-fn happened<'a>(alloc: Global, names: &Names, text: &'a [u8]) -> Result<Walk<'a>, AllocError>
+pub(crate) fn happened<'a>(
+    alloc: Global,
+    names: &Names,
+    text: &'a [u8],
+) -> Result<Walk<'a>, AllocError>
     ensures within { IfOk result (λ w. length w.rest ≤ length text.now) }
 {
     let (word, rest) = split_prefix(Class::Word, text);
@@ -212,11 +217,49 @@ fn is_printed(alloc: Global, names: &Names, text: &[u8]) -> Result<bool, AllocEr
     Ok(printed.as_slice() == text)
 }
 
-/// Goes on over words, each after a blank, that follow so many bytes from the event on: up to the first with which that is not
-/// printed so.
+/// How a line is read so far, of which more is to be read.
+#[derive(Clone, Copy)]
+pub(crate) enum Reading {
+    /// From its event on, as that of a trace.
+    FromEvent,
+    /// As a whole, with this number in a trace that may leave out parts.
+    Partly(u32),
+}
+
+/// Whether a text is read so without a fault.
+fn is_read(
+    alloc: Global,
+    names: &Names,
+    reading: Reading,
+    text: &[u8],
+) -> Result<bool, AllocError> {
+    match reading {
+        Reading::FromEvent => is_printed(alloc, names, text),
+        Reading::Partly(n) => is_told(alloc, names, n, text),
+    }
+}
+
+/// What is wanted in place of an answer.
+fn answer_wanted(reading: Reading) -> Wanted {
+    match reading {
+        Reading::FromEvent => Wanted::Answer,
+        Reading::Partly(_) => Wanted::PartAnswer,
+    }
+}
+
+/// What is wanted in place of a word behind the answer.
+fn tail_wanted(reading: Reading) -> Wanted {
+    match reading {
+        Reading::FromEvent => Wanted::Tail,
+        Reading::Partly(_) => Wanted::PartTail,
+    }
+}
+
+/// Goes on over words, each after a blank, that follow so many bytes of a text: up to the first with which that is not read so.
 fn words_from<'a>(
     alloc: Global,
     names: &Names,
+    reading: Reading,
     text: &'a [u8],
     start: usize,
     words: &[u8],
@@ -224,34 +267,37 @@ fn words_from<'a>(
     requires { start + 1 + length words.now ≤ length text.now }
 {
     let mut count = start;
-    let mut wanted = Wanted::Answer;
+    let mut wanted = answer_wanted(reading);
     let mut rest = Some(words);
     while let Some(words) = rest {
         let (word, after) = cut_whole(b' ', words);
         let end = count + 1 + word.len();
-        let printed = is_printed(alloc, names, &text[..end])?;
-        if !printed {
+        let fits = is_read(alloc, names, reading, &text[..end])?;
+        if !fits {
             return Ok(Walk::stuck(&text[count + 1..], wanted));
         }
         count = end;
-        wanted = Wanted::Tail;
+        wanted = tail_wanted(reading);
         rest = after;
     }
     Ok(Walk::going(&[]))
 }
 
-/// Goes on over what follows the event in a text that begins with it.
-fn answered<'a>(
+/// Goes on over what follows the event in a text.
+pub(crate) fn answered<'a>(
     alloc: Global,
     names: &Names,
+    reading: Reading,
     text: &'a [u8],
     rest: &'a [u8],
 ) -> Result<Walk<'a>, AllocError>
     requires { length rest.now ≤ length text.now }
 {
     match rest {
-        [b' ', words @ ..] => words_from(alloc, names, text, text.len() - rest.len(), words),
-        _ => Ok(Walk::stuck(rest, Wanted::Answer)),
+        [b' ', words @ ..] => {
+            words_from(alloc, names, reading, text, text.len() - rest.len(), words)
+        }
+        _ => Ok(Walk::stuck(rest, answer_wanted(reading))),
     }
 }
 
@@ -271,11 +317,11 @@ fn printed_place<'a>(
     if event.wanted().is_some() {
         return Ok(event);
     }
-    answered(alloc, names, text, event.rest())
+    answered(alloc, names, Reading::FromEvent, text, event.rest())
 }
 
 /// Where a byte is not printed, or the carriage return at the end was left out.
-fn byte_place<'a>(rest: &'a [u8]) -> Walk<'a> {
+pub(crate) fn byte_place<'a>(rest: &'a [u8]) -> Walk<'a> {
     let wanted = if rest.is_empty() {
         Wanted::NoReturn
     } else {
@@ -295,66 +341,6 @@ pub(crate) fn trace_place<'a>(
     match kind {
         TextKind::BadByte => Ok(byte_place(skip(Class::Printed, line))),
         TextKind::BadWord => printed_place(alloc, names, n, line),
-        _ => Ok(Walk::going(line)),
-    }
-}
-
-/// Goes on over a word and the blank after it, where it passes, and else not at all.
-fn past<'a>(passes: bool, word: &[u8], text: &'a [u8]) -> &'a [u8] {
-    if passes && word.len() <= text.len() {
-        following(b' ', &text[word.len()..]).unwrap_or(text)
-    } else {
-        text
-    }
-}
-
-/// Goes on over all that stands before the event in a line that may leave out parts, with the blank after it.
-fn partly_headed<'a>(names: &Names, n: u32, line: &'a [u8]) -> Walk<'a> {
-    let (number, _after) = cut(b' ', line);
-    let counts = are_digits(10, number);
-    let walk = numbered(n, line);
-    if counts && walk.wanted().is_some() {
-        return walk;
-    }
-    let text = past(counts, number, line);
-    let (processor, _after) = cut(b' ', text);
-    if processor_in(names, processor).is_err() {
-        return Walk::stuck(text, Wanted::Processor);
-    }
-    let text = past(true, processor, text);
-    let (runner, _after) = cut(b' ', text);
-    Walk::going(past(is_runner(names, runner), runner, text))
-}
-
-/// How far a line that may leave out parts is printed so, up to its event. What stands after that is told as a whole.
-fn partial_line_place<'a>(
-    alloc: Global,
-    names: &Names,
-    n: u32,
-    line: &'a [u8],
-) -> Result<Walk<'a>, AllocError> {
-    let head = partly_headed(names, n, line);
-    if head.wanted().is_some() {
-        return Ok(head);
-    }
-    let event = happened(alloc, names, head.rest())?;
-    if event.wanted().is_some() {
-        return Ok(event);
-    }
-    Ok(Walk::stuck(event.rest(), Wanted::PartialLine))
-}
-
-/// Where a line of a trace that may leave out parts is at fault, by the kind of the fault.
-pub(crate) fn partial_place<'a>(
-    alloc: Global,
-    names: &Names,
-    n: u32,
-    line: &'a [u8],
-    kind: TextKind,
-) -> Result<Walk<'a>, AllocError> {
-    match kind {
-        TextKind::BadByte => Ok(byte_place(skip(Class::Printed, line))),
-        TextKind::BadWord => partial_line_place(alloc, names, n, line),
         _ => Ok(Walk::going(line)),
     }
 }

@@ -72,8 +72,16 @@ pub enum Wanted {
     PrintedByte,
     /// A line feed without a carriage return before it.
     NoReturn,
-    /// A line of a trace that may leave out parts.
-    PartialLine,
+    /// As much of an answer as a trace that may leave out parts tells.
+    PartAnswer,
+    /// What may follow that.
+    PartTail,
+    /// The last line of such a trace.
+    LastLine,
+    /// The line of a log at which such a trace ends.
+    LogLine,
+    /// Fewer lines before this one that may come after it.
+    FewUnderWay,
 }
 
 /// What stands before what is wanted.
@@ -113,6 +121,26 @@ fn script_words(wanted: Wanted) -> &'static [u8] {
     }
 }
 
+/// What is wanted in a trace that may leave out parts, where a whole one has something else.
+fn partial_words(wanted: Wanted) -> &'static [u8] {
+    match wanted {
+        Wanted::PartAnswer => {
+            b"a blank and the answer: a code, as `E_OK`, `:` and its value where it has one, or `:*`; `wait`, `spin`, `gone`, `idle`, `held`, `taken` or `none`; `?` for any; or `open` where its end is not told\n"
+        }
+        Wanted::PartTail => {
+            b"the end of the line, or in this order ` rel=<task>:<code>[:<value>]`.., ` lost=<value>`, ` run=<task>` or ` run=idle`, ` ipi=<p>[,<p>]..`, ` by=<line>`\n"
+        }
+        Wanted::LastLine => b"the end of the text below this line: `ends` is the last one\n",
+        Wanted::LogLine => {
+            b"a blank and the line of the log at which the trace ends, within 32 bits and without a leading zero\n"
+        }
+        Wanted::FewUnderWay => {
+            b"at most 16 lines before this one that may still come after it, by their `by=` or since they are `open`\n"
+        }
+        _ => script_words(wanted),
+    }
+}
+
 /// What is wanted where no call and no processor is.
 fn words(wanted: Wanted) -> &'static [u8] {
     match wanted {
@@ -135,10 +163,7 @@ fn words(wanted: Wanted) -> &'static [u8] {
         }
         Wanted::PrintedByte => b"printed ASCII, from the blank to `~`\n",
         Wanted::NoReturn => b"a line feed without a carriage return before it\n",
-        Wanted::PartialLine => {
-            b"`[<n> ]P<p> [<runner> ]<event> <answer>` and fields after it, each as a trace has it, and the line's own number\n"
-        }
-        _ => script_words(wanted),
+        _ => partial_words(wanted),
     }
 }
 
