@@ -7,7 +7,7 @@ _fmpsim() {
         *,calls,-*) words='--state --changes --of --context --color --help --diagnostics=gcc' ;;
         *,check,-*) words='--show --all --partial --order --context --help --diagnostics=gcc' ;;
         *,wave,-*) words='--gtkw --context --help --diagnostics=gcc' ;;
-        *,view,-*) words='--differences --context --help --diagnostics=gcc' ;;
+        *,view,-*) words='--differences --partial --context --help --diagnostics=gcc' ;;
         *,smp,-*) words='--ticks --turns --seed --seeds --find --late --stalls --seconds --strict --progress --context --color --help --diagnostics=gcc' ;;
         *,explore,-*) words='--ticks --turns --find --most --prompt --drift --pace --spurious --places --from --layer --seconds --questions --tap --junit --traces --progress --context --help --diagnostics=gcc' ;;
         *,shrink,-*) words='--find --runs --context --help --diagnostics=gcc' ;;

@@ -19,6 +19,7 @@ complete -c fmpsim -n '__fish_seen_subcommand_from wave' -l context -d 'Shows be
 complete -c fmpsim -n '__fish_seen_subcommand_from wave' -l help -d 'Print help'
 complete -c fmpsim -n __fish_use_subcommand -f -a view -d 'Writes a page that shows a trace in a browser'
 complete -c fmpsim -n '__fish_seen_subcommand_from view' -l differences -d 'Shows any trace, with each line that differs from the machine'
+complete -c fmpsim -n '__fish_seen_subcommand_from view' -l partial -d 'Shows a trace that leaves out parts as the machine'\''s own'
 complete -c fmpsim -n '__fish_seen_subcommand_from view' -l context -d 'Shows below a fault its line, its place and what is expected there; at a terminal by itself, unless there is --no-context'
 complete -c fmpsim -n '__fish_seen_subcommand_from view' -l help -d 'Print help'
 complete -c fmpsim -n __fish_use_subcommand -f -a smp -d 'Runs processors that follow scripts, each in a thread of its own'

@@ -38,7 +38,7 @@ refused_lines() {
 	check machine.cfg
 	check machine.cfg trace.txt more
 	check --show --all machine.cfg trace.txt
-	check --all --partial machine.cfg trace.txt
+	check --all --partial --order machine.cfg trace.txt
 	check --partial --partial machine.cfg trace.txt
 	check --order --all machine.cfg trace.txt
 	check --show --order machine.cfg trace.txt
@@ -62,6 +62,9 @@ refused_lines() {
 	view --all machine.cfg trace.txt
 	view --differences machine.cfg
 	view --differences --differences machine.cfg trace.txt
+	view --partial machine.cfg
+	view --partial --partial machine.cfg trace.txt
+	view --partial --order machine.cfg trace.txt
 	wave --differences machine.cfg trace.txt
 	list act_tsk sig_sem
 	list machine.cfg events.txt

@@ -31,6 +31,7 @@ views() {
     unwritten view "$late/machine.cfg" "$late/trace.txt"
     half_a_page
     differences
+    partial_traces
     in_a_browser
 }
 
@@ -183,6 +184,44 @@ shown_instead() {
     done
     awk 'NR == FNR { own[FNR] = $0; next } own[FNR] != $0 { print FNR " " $0 }' "$2" "$3" > wanted
     [ -s wanted ] && part_of output given | diff wanted - && cmp "$(as_file frame_of output)" "$(as_file frame_of own.html)"
+}
+
+# A partial trace is shown as the machine's own lines, in a right order within its bounds. Where the verdict is `no` only the differences have a page: up to
+# that line, and beside it what the line says, with the rest as the machine answers.
+partial_traces() {
+    local folder line well
+    for folder in "$late" "$top/examples/producer-consumer"; do
+        play view "$folder/machine.cfg" "$folder/trace.txt"
+        mv output own.html
+        # of each line the number and who could make a call are left out, and all behind the answer
+        sed -E 's/^[0-9]+ (P[0-9]+) [^ ]+ ((tick|ipi|ret_hdr|[a-z_]+\([^)]*\)) [^ ]+).*/\1 \2/' "$folder/trace.txt" > part.txt
+        run 0 own.html /dev/null view --partial "$folder/machine.cfg" part.txt
+        run 0 own.html /dev/null view --differences --partial "$folder/machine.cfg" part.txt
+        { cat part.txt && echo ends 99; } > cut.txt
+        run 6 own.html "$(as_file echo fmpsim: cut.txt: yes to 99)" view --partial "$folder/machine.cfg" cut.txt
+    done
+    printf '%s\n' 'PROCESSORS(2);' 'DEF_CLASS(C1, 1, {1, 2});' 'DEF_CLASS(C2, 2, {1, 2});' 'CLASS(C1) {' \
+        'CRE_TSK(T1, {TA_ACT, 0, main1, 10, 4096, NULL});' 'CRE_SEM(S, {TA_NULL, 0, 1});' 'CRE_DTQ(D, {TA_NULL, 1, NULL});' '}' \
+        'CLASS(C2) {' 'CRE_TSK(T2, {TA_ACT, 0, main2, 10, 4096, NULL});' '}' > two.cfg
+    # the lines of a trace, those of the page, and what stands beside the last of these
+    while IFS='|' read -r line own given; do
+        tr ';' '\n' <<< "$line" > x.txt
+        tr ';' '\n' <<< "$own" > wanted
+        well=no
+        play view --partial --differences two.cfg x.txt
+        [ $? = 5 ] && [ ! -s errors ] && part_of output trace | diff wanted - && part_of output given | diff "$(as_file echo "$given")" - && well=yes
+        count "$well" view --partial --differences two.cfg "# $line"
+        run 5 /dev/null "$(as_file echo "fmpsim: x.txt: line $(wc -l < wanted) differs: see fmpsim check --partial --show")" view --partial two.cfg x.txt
+    done << 'end of traces'
+P2 pol_sem(S) E_OK by=2;P1 sig_sem(S) E_OK;P2 pol_sem(S) E_OK:*;P2 get_tid() ?|1 P1 T1 sig_sem(S) E_OK;2 P2 T2 pol_sem(S) E_OK;3 P2 T2 pol_sem(S) E_TMOUT|3 3 P2 T2 pol_sem(S) E_OK
+P2 wai_sem(S) wait;P1 sig_sem(S) ? rel=T1:*|1 P2 T2 wai_sem(S) wait run=idle;2 P1 T1 sig_sem(S) E_OK rel=T2:E_OK ipi=2|2 2 P1 T1 sig_sem(S) E_OK rel=T1:E_OK ipi=2
+P2 rcv_dtq(D) wait;P1 psnd_dtq(D, 5) E_OK rel=T2:E_OK:* run=T1|1 P2 T2 rcv_dtq(D) wait run=idle;2 P1 T1 psnd_dtq(D, 5) E_OK rel=T2:E_OK:5 ipi=2|2 2 P1 T1 psnd_dtq(D, 5) E_OK rel=T2:E_OK:5 run=T1 ipi=2
+P2 rcv_dtq(D) wait;P1 psnd_dtq(D, 5) E_OK rel=T2:E_RLWAI:*|1 P2 T2 rcv_dtq(D) wait run=idle;2 P1 T1 psnd_dtq(D, 5) E_OK rel=T2:E_OK:5 ipi=2|2 2 P1 T1 psnd_dtq(D, 5) E_OK rel=T2:E_RLWAI ipi=2
+P1 psnd_dtq(D, 5) E_OK;P1 fsnd_dtq(D, 6) E_OK lost=7|1 P1 T1 psnd_dtq(D, 5) E_OK;2 P1 T1 fsnd_dtq(D, 6) E_OK lost=5|2 2 P1 T1 fsnd_dtq(D, 6) E_OK lost=7
+P2 - tick taken;P1 tick ?|1 P2 T2 tick taken|1 1 P2 - tick taken
+end of traces
+    unread view --partial two.cfg missing
+    unwritten view --partial two.cfg "$(as_file echo P1 tick taken)"
 }
 
 # The room on the disk is over behind half of such a page.

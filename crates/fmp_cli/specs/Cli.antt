@@ -20,7 +20,7 @@ use Rattle.fmp_cli.specs.declared.Request.TheVariants as request
 use Rattle.fmp_cli.specs.declared.Subcommand.{Subcommand}
 use Rattle.fmp_cli.specs.declared.Subcommand.TheVariants as subcommand
 use Rattle.fmp_cli.specs.declared.Report.{Report}
-use Rattle.fmp_cli.specs.Flags.{report_by, asked_by, is_path, page_by, partly_by, subcommand_by}
+use Rattle.fmp_cli.specs.Flags.{report_by, asked_by, is_path, page_by, partly_by, partly_page_by, subcommand_by}
 
 -- each command line, as a parse reads it
 abbrev pub calls_line : App
@@ -39,7 +39,7 @@ wave_line = line_of (codes "wave") (
 
 abbrev pub view_line : App
 view_line = line_of (codes "view") (
-    path_rule (codes "CFG") ∷ path_rule (codes "TRACE") ∷ flag_rule (codes "differences") ∷ flag_rule (codes "context") ∷ [])
+    path_rule (codes "CFG") ∷ path_rule (codes "TRACE") ∷ flag_rule (codes "differences") ∷ flag_rule (codes "partial") ∷ flag_rule (codes "context") ∷ [])
 
 abbrev pub list_line : App
 list_line = line_of (codes "list") (name_rule (codes "NAME") ∷ flag_rule (codes "context") ∷ [])
@@ -82,13 +82,15 @@ pub record AsksCheck (rows : List Row) (p : Paths) (a : Asked) : Type 0 where
 pub record AsksPartial (rows : List Row) (p : Paths) (a : Partly) : Type 0 where
   pub partial : Bool
   pub show : Bool
+  pub all : Bool
   pub order : Bool
   pub partial_flag : IsFlag (one_of (codes "partial") rows) partial
   pub show_flag : IsFlag (one_of (codes "show") rows) show
+  pub all_flag : IsFlag (one_of (codes "all") rows) all
   pub order_flag : IsFlag (one_of (codes "order") rows) order
   pub either : (partial || order) ≡ true
   pub paths : NamesPaths rows (codes "TRACE") form.Partial p
-  pub asked : a ≡ partly_by show order
+  pub asked : a ≡ partly_by show all order
 
 -- the waveform is asked for
 pub record AsksWave (rows : List Row) (p : Paths) (a : Asked) : Type 0 where
@@ -103,8 +105,15 @@ pub record AsksSave (rows : List Row) (p : Paths) : Type 0 where
 
 -- the page is asked for, with the lines that differ where the flag stands
 pub record AsksView (rows : List Row) (p : Paths) (a : Asked) : Type 0 where
+  pub whole : IsFlag (one_of (codes "partial") rows) false
   pub paths : NamesPaths rows (codes "TRACE") form.Trace p
   pub asked : (b : Bool) × IsFlag (one_of (codes "differences") rows) b × (a ≡ page_by b)
+
+-- the same of a partial trace
+pub record AsksPartialView (rows : List Row) (p : Paths) (a : Partly) : Type 0 where
+  pub partial : IsFlag (one_of (codes "partial") rows) true
+  pub paths : NamesPaths rows (codes "TRACE") form.Partial p
+  pub asked : (b : Bool) × IsFlag (one_of (codes "differences") rows) b × (a ≡ partly_page_by b)
 
 -- what the word after `list` asks for, if there is one: of a path what was read of that configuration, with what stands beside a fault
 -- where the flag asks for it, and else what is called so, or all that may be written
@@ -134,6 +143,7 @@ IsWave rows _ = ⊥
 
 abbrev pub IsView : List Row → Request → Type 0
 IsView rows (request.Trace p a) = AsksView rows p a
+IsView rows (request.Partial p a) = AsksPartialView rows p a
 IsView rows _ = ⊥
 
 -- what is asked for by the words of each, its name among them

@@ -30,14 +30,19 @@ asked_by false true = Differences Each
 asked_by false false = Verdict
 
 -- what is written of a partial trace, by the flags: the machine's own lines, or else the first that differs, or else the verdict alone
-abbrev pub partly_by : Bool → Bool → Partly
-partly_by show true = partly.Order
-partly_by true false = partly.First
-partly_by false false = partly.Verdict
+abbrev pub partly_by : Bool → Bool → Bool → Partly
+partly_by show all true = partly.Order
+partly_by true all false = partly.First
+partly_by false true false = partly.Each
+partly_by false false false = partly.Verdict
 
 -- which page is asked for, by the flag
 abbrev pub page_by : Bool → Asked
 page_by differences = if differences then DifferencesPage else Page
+
+-- which page of a partial trace
+abbrev pub partly_page_by : Bool → Partly
+partly_page_by differences = if differences then partly.DifferencesPage else partly.Page
 
 -- a word after `list` is the path of a configuration: a `.` or a `/` is in it
 abbrev pub is_path : List ℕ → Bool

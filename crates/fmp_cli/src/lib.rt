@@ -7,7 +7,9 @@ ghost use Rattle.std.specs.Prelude.{◌≡◌, ◌≤◌, IfOk, IsErr, codes, dr
 ghost use Rattle.fmp_cli_table.specs.Found.{found_by, rows_in};
 ghost use Rattle.fmp_cli.specs.Cli.{AsksFor, AsksList, IsAsked, IsCalls, IsCheck, IsListedBy, IsView, IsWave, NamesPaths};
 ghost use Rattle.fmp_cli.specs.Cli.{calls_line, check_line, list_line, view_line, wave_line};
-ghost use Rattle.fmp_cli.specs.Flags.{asked_by, is_path, page_by, partly_by, report_by, subcommand_by};
+ghost use Rattle.fmp_cli.specs.Flags.{asked_by, is_path, page_by, partly_by, partly_page_by, report_by, subcommand_by};
+
+mod traces;
 
 use clap::error::ErrorKind;
 use clap::{Arg, ArgAction, ArgMatches, Command, Error};
@@ -22,6 +24,7 @@ use fmp_cli_table::{
 };
 use fmp_trace_check::Shown;
 use std::alloc::{AllocError, Global};
+use traces::{CHECK_HELP, VIEW_HELP, WAVE_HELP};
 
 const ABOUT: &str = "Simulates a multiprocessor real-time kernel in the manner of TOPPERS/FMP";
 
@@ -103,116 +106,9 @@ const OF: &str = "of";
 
 const CHECK_ABOUT: &str = "Says whether a trace is what the machine answers to its events";
 
-const CHECK_HELP: &str = "\
-CFG is a configuration, and TRACE a trace as `fmpsim calls` writes it: one line for each
-event, with its number, its processor, who made the call, the event, the answer, and what
-it changed:
-
-  1 P1 T1 act_tsk(T2) E_OK run=T2
-
-The machine of the configuration answers the events of the trace. The verdict, on standard
-output, is `yes` where these answers are the trace, and else `no` and the number of the
-first line that differs.
-
-With --show the machine's state before that line stands under the verdict, then the line, and
-below it the machine's own:
-
-  no 57
-    P1 run=T1
-    end
-  - 57 P1 T1 act_tsk(T2) E_OK
-  + 57 P1 T1 act_tsk(T2) E_OK run=T2
-
-With --all there is a unified diff in place of the verdict, which `patch TRACE` reads. It has
-every line that differs; after one the machine goes on with its own answers. Where none does
-it is empty.
-
-With --partial each line may leave out its number, who made the call, and each field after its
-answer; `*` stands for a value or a code that is not told, and `?` for such an answer. What is not
-written is not judged, and what is written is judged exactly:
-
-  P1 act_tsk(T2) E_OK
-  P1 get_tid() E_OK:*
-
-Where calls of two processors overlap, ` by=9` at the end of a line says that line 9 is the last
-that may take effect before it, and the answer `open` that its end is not told. Then the verdict
-is `yes` if some order within these bounds is the machine's, `no 57` if none has line 57 and all
-before it, and `not known` if there are too many. With --show the state is then that after such an
-order of the lines before it.
-
-With --order, which goes with --partial and stands for it, the machine's own lines are written in
-place of a `yes`, in the order in which it plays them. So a partial trace becomes a whole one,
-which `fmpsim view` and `fmpsim wave` draw. Where the verdict is another nothing is written.
-
-Its last line may be `ends 812`: the trace ends at line 812 of its log, before that. Then the
-verdict is `yes to 812` in place of `yes`.
-
-Exit status:
-  0  yes
-  1  a fault in a text, reported on standard error with its line
-  2  the command line is wrong
-  3  a file could not be read, or the output not be written
-  4  want of memory
-  5  no
-  6  yes to a line of the log, and the trace has no more of it; or not known";
-
 const WAVE_ABOUT: &str = "Writes the waveform of a trace, for GTKWave and other viewers";
 
-const WAVE_HELP: &str = "\
-CFG is a configuration, and TRACE a trace as `fmpsim calls` or `fmpsim smp` writes it. The machine
-of the configuration answers the events of the trace, and what its processors and tasks did
-is written to standard output as a Value Change Dump (IEEE 1364). Each event is a unit of
-time: line 57 of the trace is drawn at 57.
-
-  fmpsim wave machine.cfg trace.txt > trace.vcd
-  fmpsim wave machine.cfg --gtkw > trace.gtkw
-  gtkwave trace.vcd trace.gtkw
-
-For each processor there are the task that runs, the last call with its answer, whether it is
-locked or its dispatching disabled, its latch, the handler that is due, and its ticks; for each
-task its state, what it waits for, its priority, and the activations and wakeups that are queued
-for it; for each semaphore, eventflag, data queue and pool its count, its pattern, its values, and
-how many blocks are free; and who holds each spin lock. Of a trace that is not the machine's own
-nothing is written.
-
-With --gtkw TRACE is left out, and GTKWave's save file for the configuration is written, by which
-it shows all these signals at once.
-
-Exit status:
-  0  done
-  1  a fault in a text, reported on standard error with its line
-  2  the command line is wrong
-  3  a file could not be read, or the output not be written
-  4  want of memory
-  5  the trace is not the machine's own: the first line that differs is reported on standard error";
-
 const VIEW_ABOUT: &str = "Writes a page that shows a trace in a browser";
-
-const VIEW_HELP: &str = "\
-CFG is a configuration, and TRACE a trace as `fmpsim calls` or `fmpsim smp` writes it. The machine
-of the configuration answers the events of the trace, and one HTML file is written to
-standard output, which a browser opens from the disk, without a network:
-
-  fmpsim view machine.cfg trace.txt > timeline.html
-
-The page has lanes of processors, tasks and objects over the lines of the trace, and beside them
-what each line changed, why it could happen and what came of it. It holds the trace, so that
-whoever gets the page can save and replay it. Of a trace that is not the machine's own nothing is
-written. The key `?` shows the keys of the page: `m` measures lines and ticks between two lines,
-`p` shows the share of the lines that each task ran, its longest wait and the longest time it was
-ready, and `h` hides a lane.
-
-With --differences any trace is shown as the machine would have it, with each line of TRACE
-that is not the machine's own in red below the machine's: a log of a target, say. After such
-a line the machine goes on with its own answers.
-
-Exit status:
-  0  done
-  1  a fault in a text, reported on standard error with its line
-  2  the command line is wrong
-  3  a file could not be read, or the output not be written
-  4  want of memory
-  5  the trace is not the machine's own: the first line that differs is told, or with --differences all";
 
 const LIST_ABOUT: &str = "Lists the calls, statements and faults, or what a configuration says";
 
@@ -307,7 +203,7 @@ const CHECK_PARTS: &[Part<'static>] = &[
     },
     Part {
         id: ALL,
-        form: Form::OneOfThree(PARTIAL, ORDER),
+        form: Form::OneOfThree(SHOW, ORDER),
         about: "Shows each line that differs, as a unified diff",
     },
     Part {
@@ -355,6 +251,11 @@ const VIEW_PARTS: &[Part<'static>] = &[
         id: DIFFERENCES,
         form: Form::Flag,
         about: "Shows any trace, with each line that differs from the machine",
+    },
+    Part {
+        id: PARTIAL,
+        form: Form::Flag,
+        about: "Shows a trace that leaves out parts as the machine's own",
     },
     CONTEXT_PART,
 ];
@@ -447,8 +348,14 @@ pub enum Partly {
     Verdict,
     /// That, and the first line that is not the machine's.
     First,
+    /// Each line that is not the machine's.
+    Each,
     /// The machine's own lines, in the order in which it plays them.
     Order,
+    /// A page of these, where the lines are the machine's.
+    Page,
+    /// That, or a page of the machine's own lines up to the first that is not, beside that line.
+    DifferencesPage,
 }
 
 /// A configuration of which is listed what was read.
@@ -565,13 +472,14 @@ fn asked_for(show: bool, all: bool) -> Asked
 }
 
 /// What is written of a partial trace by these flags.
-fn partly_for(show: bool, order: bool) -> Partly
-    ensures { result ≡ partly_by show order }
+fn partly_for(show: bool, all: bool, order: bool) -> Partly
+    ensures { result ≡ partly_by show all order }
 {
-    match (show, order) {
-        (_, true) => Partly::Order,
-        (true, false) => Partly::First,
-        (false, false) => Partly::Verdict,
+    match (show, all, order) {
+        (_, _, true) => Partly::Order,
+        (true, _, false) => Partly::First,
+        (false, true, false) => Partly::Each,
+        (false, false, false) => Partly::Verdict,
     }
 }
 
@@ -594,13 +502,13 @@ fn check_in<'a>(matches: &ArgMatches<'a>) -> Request<'a>
     ensures { IsCheck (rows_in matches.now) result }
 {
     let show = flag_in(matches, SHOW);
+    let all = flag_in(matches, ALL);
     let order = flag_in(matches, ORDER);
     if flag_in(matches, PARTIAL) || order {
         let paths = named_paths(matches, TRACE, TextForm::Partial);
-        return Request::Partial(paths, partly_for(show, order));
+        return Request::Partial(paths, partly_for(show, all, order));
     }
     let paths = named_paths(matches, TRACE, TextForm::Trace);
-    let all = flag_in(matches, ALL);
     Request::Trace(paths, asked_for(show, all))
 }
 
@@ -627,12 +535,27 @@ fn page_for(differences: bool) -> Asked
     }
 }
 
-/// What `view` is asked for: the lines that differ too where `--differences` stands.
+/// Which page of a partial trace is asked for, by the flag.
+fn partly_page_for(differences: bool) -> Partly
+    ensures { result ≡ partly_page_by differences }
+{
+    if differences {
+        Partly::DifferencesPage
+    } else {
+        Partly::Page
+    }
+}
+
+/// What `view` is asked for: the lines that differ too where `--differences` stands, and of a partial trace where `--partial` does.
 fn view_in<'a>(matches: &ArgMatches<'a>) -> Request<'a>
     ensures { IsView (rows_in matches.now) result }
 {
-    let paths = named_paths(matches, TRACE, TextForm::Trace);
     let differences = flag_in(matches, DIFFERENCES);
+    if flag_in(matches, PARTIAL) {
+        let paths = named_paths(matches, TRACE, TextForm::Partial);
+        return Request::Partial(paths, partly_page_for(differences));
+    }
+    let paths = named_paths(matches, TRACE, TextForm::Trace);
     Request::Trace(paths, page_for(differences))
 }
 

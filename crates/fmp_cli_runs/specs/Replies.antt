@@ -5,7 +5,6 @@ use Rattle.fmp_names.specs.Names.{NameLists}
 use Rattle.fmp_search_orders.specs.declared.rules.Rules.{Rules}
 use Rattle.fmp_search_question.specs.declared.fault.QuestionFault.{QuestionFault}
 use Rattle.fmp_search_question.specs.Lasting.{is_lasting}
-use Rattle.fmp_run_texts.specs.declared.fault.RunFault.{RunFault}
 use Rattle.fmp_run_texts.specs.declared.fault.RunFault.TheVariants.{Memory, Write}
 use Rattle.fmp_run_texts.specs.declared.status.Status.{Status}
 use Rattle.fmp_run_texts.specs.declared.status.Status.TheVariants as status

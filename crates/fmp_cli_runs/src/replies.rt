@@ -1,5 +1,5 @@
 //! What `fmpsim explore --questions` does of each question.
-ghost use Rattle.std.specs.Prelude.{◌≡◌, ◌-◌, false, true, None, IfErr, IfOk};
+ghost use Rattle.std.specs.Prelude.{◌≡◌, ◌-◌, false, true, IfErr, IfOk};
 ghost use Rattle.fmp_search_question.specs.Lasting.{is_lasting as asks_of_what_stays};
 ghost use Rattle.fmp_cli_runs.specs.Asked as asked;
 ghost use Rattle.fmp_cli_runs.specs.Replies as spec;

@@ -7,3 +7,5 @@ pub mod Few  -- An order of lines has no more of them than there are.
 pub mod Played  -- The events that are played of lines.
 pub mod Judged  -- The verdict on a text that may say that it ends before its log.
 pub mod PartialTexts  -- The verdict on a partial trace that was read up to its limit is the verdict on its text.
+pub mod Hunks  -- Each line that is not the machine's, as the loop adds them.
+pub mod FilledReleases  -- The ends of waits from one on, as the loop puts in what is left out of them.

@@ -85,7 +85,7 @@ module _ (c : Setup) (text : List ℕ) (lines : Lines) (are : AreLinesOf c.names
 
 -- where nothing is written after it, and no line is told
 pub bare_shown : (asked : PartialShown) (c : Setup) (body : List ℕ) (lines : List (List ℕ)) (events : List Event) (order : Option (List ℕ)) (f : Found) (verdict : PartialVerdict)
-    (s : Shown) → rest_text asked c lines events order f ≡ [] → pair_shown c lines events order f ≡ [] → IsBare asked body verdict s
+    (s : Shown) → rest_text asked c body lines events order f ≡ [] → pair_shown c lines events order f ≡ [] → IsBare asked body verdict s
     → IsShown asked c body lines events order f verdict s
 bare_shown asked c body lines events order f verdict s rest pair is =
     record {

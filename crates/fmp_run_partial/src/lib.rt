@@ -9,7 +9,9 @@
 //! in `specs/Partials`.
 #![tactic(auto)]
 
+mod differing;
 mod ending;
+mod filling;
 mod following;
 mod judging;
 mod playing;

@@ -99,7 +99,9 @@ pub(crate) fn put_answers(
     events: &[Event],
 ) -> Result<(), AllocError>
     requires { plain.old.steps + length events.now ≤ most_events }
-    ensures { OnOk result (out.new.items ≡ out.old.items ++ lines_from names.now 1 (answers numbered plain.old.state events.now)) }
+    ensures text { OnOk result (out.new.items ≡ out.old.items ++ lines_from names.now 1 (answers numbered plain.old.state events.now)) }
+    ensures state { OnOk result (plain.new.state ≡ replay numbered plain.old.state events.now) }
+    ensures steps { OnOk result (plain.new.steps ≡ plain.old.steps + length events.now) }
 {
     let mut report = blank();
     let mut number: u32 = 0;

@@ -4,14 +4,17 @@ ghost use Rattle.std.specs.Option.{option_copied};
 ghost use Rattle.fmp_rules.specs.Arrivals.{numbered};
 ghost use Rattle.fmp_rules.specs.Boot.{booted};
 ghost use Rattle.fmp_show_state.specs.States.{state_text};
-ghost use Rattle.fmp_text.specs.Limits.{most_events};
+ghost use Rattle.fmp_text.specs.Limits.{most_bytes, most_events};
 ghost use Rattle.fmp_trace.specs.Lines.{line_text};
 ghost use Rattle.fmp_trace_orders.specs.Lines.{AreLinesOf, lines_of};
 ghost use Rattle.fmp_trace_orders.specs.Playing.{lines_from};
 ghost use Rattle.fmp_trace_partial.specs.Saying.{said_in};
 ghost use Rattle.fmp_trace_partial.specs.declared.telling.Said.{Said as AnySaid};
+ghost use Rattle.fmp_run_partial.specs.Differing.{hunk_of};
 ghost use Rattle.fmp_run_partial.specs.Showing as spec;
 
+use crate::differing::{put_diff_head, put_differences, put_hunk_of};
+use crate::filling::put_filled_line;
 use crate::playing::{blank, event_at, play, played, put_answers};
 use crate::verdict::{Finding, Found, PartialVerdict};
 use fmp_codes::Record;
@@ -32,6 +35,11 @@ pub enum PartialShown {
     First,
     /// Where the verdict is `yes` the machine's own lines, in the order in which the events took effect, and else nothing.
     Order,
+    /// Each line that is not what the machine answers, as a unified diff. Where lines come in another order, it is the line with which there is none.
+    Each,
+    /// As for `Order`; and where the verdict is `no` the machine's own lines up to that line, and this as a whole line: what it says, and the rest as the machine
+    /// answers.
+    Filled,
 }
 
 /// The verdict on a partial trace, and what is shown of it.
@@ -121,9 +129,7 @@ fn differing_at(
     let names = config.names();
     let alloc = config.allocator();
     names.validity();
-    let events = played(alloc, lines.events.as_slice(), n as usize - 1, order)?;
-    let mut plain = Plain::boot(config)?;
-    play(&mut plain, events.as_slice());
+    let mut plain = machine_before(config, lines, n, order)?;
     let mut state = Vec::new(alloc);
     put_state(&mut state, names, plain.machine())?;
     let mut pair = Vec::new(alloc);
@@ -143,7 +149,7 @@ fn put_head(
         PartialShown::Verdict | PartialShown::First => {
             out.extend_from_slice(verdict.text().as_str().as_bytes())
         }
-        PartialShown::Order => Ok(()),
+        PartialShown::Order | PartialShown::Each | PartialShown::Filled => Ok(()),
     }
 }
 
@@ -157,9 +163,141 @@ fn lines_again(config: &Config, body: &[u8]) -> Result<Lines, AllocError>
     }
 }
 
-/// Adds what is written below a `no`.
-fn put_below(out: &mut Vec<u8>, asked: PartialShown, found: &Differing) -> Result<(), AllocError>
-    ensures { OnOk result (out.new.items ≡ out.old.items ++ spec.below_no asked found.now.state.items found.now.pair.items) }
+/// A machine after what is played before line n, counted from 1: all lines before it as they stand, or those of an order.
+fn machine_before(
+    config: &Config,
+    lines: &Lines,
+    n: u32,
+    order: &Option<Vec<u32>>,
+) -> Result<Plain, AllocError>
+    requires line { 0 < n }
+    requires few { length lines.now.events.items ≤ most_events }
+    requires few_in_order { spec.HasFew (option_map (λ v. v.items) order.now) }
+    ensures state { IfOk result (λ plain. plain.state ≡ spec.state_before config.now lines.now.events.items (option_map (λ v. v.items) order.now) n) }
+    ensures steps { IfOk result (λ plain. plain.steps ≤ most_events) }
+{
+    let alloc = config.allocator();
+    let events = played(alloc, lines.events.as_slice(), n as usize - 1, order)?;
+    let mut plain = Plain::boot(config)?;
+    play(&mut plain, events.as_slice());
+    Ok(plain)
+}
+
+/// Plays the event of line n, counted from 1, and adds the line with what the machine answers, as a hunk.
+fn put_hunk_at(
+    out: &mut Vec<u8>,
+    config: &Config,
+    plain: &mut Plain,
+    text: &[u8],
+    lines: &Lines,
+    n: u32,
+) -> Result<(), AllocError>
+    requires steps { plain.old.steps < 4294967295 }
+    requires line { 0 < n }
+    ensures { OnOk result (out.new.items ≡ out.old.items ++ hunk_of config.now.names n plain.old.state
+        (slice_get (lines_from text.now lines.now.starts.items) (n - 1)) (slice_get lines.now.events.items (n - 1))) }
+{
+    let line = line_at(text, lines, n - 1);
+    let event = event_at(lines.events.as_slice(), n - 1);
+    put_hunk_of(out, plain, config.names(), n, line, event)
+}
+
+/// Adds the lines that differ: each, as they stand, or where they come in an order line n alone.
+fn put_diff_lines(
+    out: &mut Vec<u8>,
+    config: &Config,
+    text: &[u8],
+    lines: &Lines,
+    n: u32,
+    order: &Option<Vec<u32>>,
+) -> Result<(), AllocError>
+    requires line { 0 < n }
+    requires few { length lines.now.events.items ≤ most_events }
+    requires few_in_order { spec.HasFew (option_map (λ v. v.items) order.now) }
+    requires short { length text.now ≤ most_bytes }
+    ensures { OnOk result (out.new.items ≡ out.old.items ++ spec.diff_lines config.now text.now (lines_from text.now lines.now.starts.items)
+        lines.now.events.items (option_map (λ v. v.items) order.now) n) }
+{
+    match order {
+        None => put_differences(out, config, text),
+        Some(_) => {
+            let mut plain = machine_before(config, lines, n, order)?;
+            put_hunk_at(out, config, &mut plain, text, lines, n)
+        }
+    }
+}
+
+/// Adds these lines as a unified diff.
+fn put_diff(
+    out: &mut Vec<u8>,
+    config: &Config,
+    text: &[u8],
+    lines: &Lines,
+    n: u32,
+    order: &Option<Vec<u32>>,
+) -> Result<(), AllocError>
+    requires line { 0 < n }
+    requires few { length lines.now.events.items ≤ most_events }
+    requires few_in_order { spec.HasFew (option_map (λ v. v.items) order.now) }
+    requires short { length text.now ≤ most_bytes }
+    ensures { OnOk result (out.new.items ≡ out.old.items ++ spec.diff_text config.now text.now (lines_from text.now lines.now.starts.items)
+        lines.now.events.items (option_map (λ v. v.items) order.now) n) }
+{
+    put_diff_head(out)?;
+    put_diff_lines(out, config, text, lines, n, order)
+}
+
+/// Adds the machine's own lines up to line n, and that line with what it leaves out put in.
+fn put_up_to(
+    out: &mut Vec<u8>,
+    config: &Config,
+    text: &[u8],
+    lines: &Lines,
+    n: u32,
+    order: &Option<Vec<u32>>,
+) -> Result<(), AllocError>
+    requires line { 0 < n }
+    requires few { length lines.now.events.items ≤ most_events }
+    requires few_in_order { spec.HasFew (option_map (λ v. v.items) order.now) }
+    ensures { OnOk result (out.new.items ≡ out.old.items ++ spec.up_to_text config.now (lines_from text.now lines.now.starts.items)
+        lines.now.events.items (option_map (λ v. v.items) order.now) n) }
+{
+    let names = config.names();
+    names.validity();
+    let alloc = config.allocator();
+    let before = n as usize - 1;
+    let events = played(alloc, lines.events.as_slice(), before, order)?;
+    let mut plain = Plain::boot(config)?;
+    put_answers(out, &mut plain, names, events.as_slice())?;
+    let number = events.len() as u32 + 1;
+    put_filled_line(
+        out,
+        config,
+        &mut plain,
+        n,
+        number,
+        line_at(text, lines, n - 1),
+    )
+}
+
+/// Adds what is written of a `no` at line n, beside the verdict.
+fn put_below(
+    out: &mut Vec<u8>,
+    config: &Config,
+    text: &[u8],
+    lines: &Lines,
+    n: u32,
+    order: &Option<Vec<u32>>,
+    asked: PartialShown,
+    found: &Differing,
+) -> Result<(), AllocError>
+    requires line { 0 < n }
+    requires few { length lines.now.events.items ≤ most_events }
+    requires few_in_order { spec.HasFew (option_map (λ v. v.items) order.now) }
+    requires short { length text.now ≤ most_bytes }
+    ensures { OnOk result (out.new.items ≡ out.old.items ++ spec.below_no asked found.now.state.items found.now.pair.items
+        (spec.diff_text config.now text.now (lines_from text.now lines.now.starts.items) lines.now.events.items (option_map (λ v. v.items) order.now) n)
+        (spec.up_to_text config.now (lines_from text.now lines.now.starts.items) lines.now.events.items (option_map (λ v. v.items) order.now) n)) }
 {
     match asked {
         PartialShown::Verdict => Ok(()),
@@ -168,6 +306,8 @@ fn put_below(out: &mut Vec<u8>, asked: PartialShown, found: &Differing) -> Resul
             out.extend_from_slice(found.pair.as_slice())
         }
         PartialShown::Order => Ok(()),
+        PartialShown::Each => put_diff(out, config, text, lines, n, order),
+        PartialShown::Filled => put_up_to(out, config, text, lines, n, order),
     }
 }
 
@@ -182,6 +322,7 @@ fn show_no(
 ) -> Result<Shown, AllocError>
     requires line { 0 < n }
     requires few_in_order { spec.HasFew (option_map (λ v. v.items) order.now) }
+    requires short { length body.now ≤ most_bytes }
     ensures { IfOk result (λ s. (said : List AnySaid) → said_in config.now.names body.now ≡ Ok said
         → spec.IsShown asked config.now body.now (lines_of body.now) (spec.events_of said) (option_map (λ v. v.items) order.now) (Found.No n) verdict s) }
 {
@@ -190,7 +331,7 @@ fn show_no(
     let found = differing_at(config, body, &lines, n, order)?;
     let mut text = Vec::new(config.allocator());
     put_head(&mut text, asked, verdict)?;
-    put_below(&mut text, asked, &found)?;
+    put_below(&mut text, config, body, &lines, n, order, asked, &found)?;
     Ok(Shown {
         verdict,
         is_empty: body.is_empty(),
@@ -265,6 +406,8 @@ fn show_yes(
         PartialShown::Verdict => show_verdict(config, body, PartialShown::Verdict, verdict),
         PartialShown::First => show_verdict(config, body, PartialShown::First, verdict),
         PartialShown::Order => show_order(config, body, order, verdict),
+        PartialShown::Each => show_verdict(config, body, PartialShown::Each, verdict),
+        PartialShown::Filled => show_order(config, body, order, verdict),
     }
 }
 
@@ -278,6 +421,7 @@ pub(crate) fn show(
 ) -> Result<Shown, AllocError>
     requires few { spec.HasFew (option_map (λ v. v.items) finding.now.order) }
     requires line { spec.HasLine finding.now.found }
+    requires short { length body.now ≤ most_bytes }
     ensures { IfOk result (λ s. (said : List AnySaid) → said_in config.now.names body.now ≡ Ok said
         → spec.IsShown asked config.now body.now (lines_of body.now) (spec.events_of said) (option_map (λ v. v.items) finding.now.order)
         finding.now.found verdict s) }

@@ -1,0 +1,93 @@
+//! What `fmpsim check` and `fmpsim view` do of a partial trace.
+ghost use Rattle.std.specs.Prelude.{◌≡◌, ◌-◌, ◌^◌, ◌<◌, IfOk};
+ghost use Rattle.fmp_run_devices.specs.Devices.{IsKnown, bytes_of};
+ghost use Rattle.fmp_run_partial.specs.Partials.{CheckedPartly};
+ghost use Rattle.fmp_cli_runs.specs.Partly as spec;
+
+use fmp_cli::Partly;
+use fmp_run_devices::{GrowingSink, MemSource, Sink, Source};
+use fmp_run_events::RunFault;
+use fmp_run_partial::{PartialShown, PartialVerdict, Shown, run_partial};
+use fmp_run_view::{PageKind, run_view};
+use std::alloc::Global;
+
+/// What is written of a partial trace of which this is asked. A page shows these lines.
+fn shown_for(asked: Partly) -> PartialShown
+    ensures { result ≡ spec.shown_for asked }
+{
+    match asked {
+        Partly::Verdict => PartialShown::Verdict,
+        Partly::First => PartialShown::First,
+        Partly::Each => PartialShown::Each,
+        Partly::Order => PartialShown::Order,
+        Partly::Page => PartialShown::Order,
+        Partly::DifferencesPage => PartialShown::Filled,
+    }
+}
+
+/// Which page shows the whole lines that were made of a partial trace with this verdict, if there are some.
+fn page_of(asked: Partly, verdict: PartialVerdict) -> Option<PageKind>
+    ensures { result ≡ spec.page_of asked verdict }
+{
+    match (asked, verdict) {
+        (_, PartialVerdict::Yes) => Some(PageKind::Own),
+        (_, PartialVerdict::YesTo(_)) => Some(PageKind::Own),
+        (Partly::DifferencesPage, PartialVerdict::No(_)) => Some(PageKind::Differences),
+        _ => None,
+    }
+}
+
+/// Judges a partial trace, and writes the page of the whole lines that are made of it, if this page has some.
+fn view_partly<S: Source, W: Sink>(
+    alloc: Global,
+    config: &[u8],
+    trace: &mut S,
+    page: &mut W,
+    asked: Partly,
+) -> Result<Shown, RunFault>
+    requires trace_calls { S.failures trace.old < 2 ^ 64 - 1 }
+    requires page_calls { W.failures page.old < 2 ^ 64 - 1 }
+    ensures checked { IsKnown (S.left trace.old) → IfOk result (CheckedPartly (spec.shown_for asked) config.now (bytes_of (S.left trace.old))) }
+    ensures shown { IsKnown (W.written page.old) → IfOk result (λ s. spec.IsPaged (spec.page_of asked s.verdict) config.now s.text.items
+        (bytes_of (W.written page.old)) (bytes_of (W.written page.new))) }
+{
+    let mut whole = GrowingSink::new(alloc);
+    let mut read = MemSource::new(config);
+    let shown = run_partial(alloc, &mut read, trace, &mut whole, shown_for(asked))?;
+    let Some(kind) = page_of(asked, shown.verdict) else {
+        return Ok(shown);
+    };
+    let mut read = MemSource::new(config);
+    let mut lines = MemSource::new(shown.text.as_slice());
+    match run_view(alloc, &mut read, &mut lines, page, kind) {
+        Ok(_) => Ok(shown),
+        Err(fault) => Err(fault),
+    }
+}
+
+/// Judges a partial trace, and writes what is asked of it. No clause says what is written where it fails.
+pub fn judge_partly<S: Source, W: Sink>(
+    alloc: Global,
+    config: &[u8],
+    trace: &mut S,
+    output: &mut W,
+    asked: Partly,
+) -> Result<Shown, RunFault>
+    requires trace_calls { S.failures trace.old < 2 ^ 64 - 1 }
+    requires output_calls { W.failures output.old < 2 ^ 64 - 1 }
+
+    // The verdict is right, and so are the lines that are written or shown.
+    ensures checked { IsKnown (S.left trace.old) → IfOk result (CheckedPartly (spec.shown_for asked) config.now (bytes_of (S.left trace.old))) }
+
+    // These lines are written, or the page that shows them, if there is one.
+    ensures written { IsKnown (W.written output.old) → IfOk result (λ s. spec.IsOut asked config.now s
+        (bytes_of (W.written output.old)) (bytes_of (W.written output.new))) }
+{
+    match asked {
+        Partly::Page | Partly::DifferencesPage => view_partly(alloc, config, trace, output, asked),
+        _ => {
+            let mut read = MemSource::new(config);
+            run_partial(alloc, &mut read, trace, output, shown_for(asked))
+        }
+    }
+}
