@@ -30,8 +30,8 @@ library = $(DESTDIR)$(PREFIX)/lib/libfmp.a
 own = $(share)/fmpsim
 tools = from-toppers from-log to-log from-trace to-perfetto to-board run-list
 modules = board_case.py board_files.py board_kit.py board_log.py board_machine.py board_play.py c_numbers.py fmpsim_program.py log_answers.py log_calls.py \
-    log_lines.py log_pools.py log_spread.py log_tasks.py log_written.py perfetto_tracks.py test_reports.py toppers_settings.py trace_lines.py
-pages = BOARD.md GUIDE.md GUIDE.ja.md HOST.md FORMATS.md PROFILE.md DECISIONS.md view.png wave.png
+    log_lines.py log_order.py log_pools.py log_spread.py log_tasks.py log_written.py perfetto_tracks.py test_reports.py toppers_settings.py trace_lines.py
+pages = BOARD.md GUIDE.md GUIDE.ja.md HOST.md FORMATS.md PROFILE.md DECISIONS.md DESIGN.md view.png wave.png
 files = LICENSE include/fmp.h $(tools:%=tools/%) $(modules:%=tools/%) $(pages:%=docs/%) host/README.md host/fmphost.mk editors/README.md tests/play \
     $(shell find board tests/cases editors/vim editors/vscode tools/toppers-stub docs/formats examples host/include host/src host/gen host/programs -type f)
 

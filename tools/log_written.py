@@ -34,6 +34,15 @@ def trace_line(event, bound, tell):
     return f"P{event.processor} {runner}{event.text} {event.answer}{ends}{run}{by}\n"
 
 
+def bounds_of(events):
+    """Of each event the last line whose event may take effect before it, or 0 where that is its own."""
+    lows = array("q", (it.low() for it in events))
+    for place, event in enumerate(events, 1):
+        high = event.high()
+        bound = len(lows) if high is None else bisect.bisect_right(lows, high)
+        yield bound if bound > place else 0
+
+
 class Writer:
     """The events of a log that a trace has, and the line of the log before which it ends, with the reason, if it ends before the log does."""
 
@@ -93,18 +102,10 @@ class Writer:
         if place is not None:
             self.end_before(place, f"no line tells which number the block of {self.events[place].name} has")
 
-    def bounds(self):
-        """Of each event the last line whose event may take effect before it, or 0 where that is its own."""
-        lows = array("q", (it.low() for it in self.events))
-        for place, event in enumerate(self.events, 1):
-            high = event.high()
-            bound = len(lows) if high is None else bisect.bisect_right(lows, high)
-            yield bound if bound > place else 0
-
     def end_where_crowded(self):
         """The trace ends where too many events are under way at once for their orders to be searched."""
         later = []
-        for place, bound in enumerate(self.bounds()):
+        for place, bound in enumerate(bounds_of(self.events)):
             later = [it for it in later if it > place]
             if len(later) > MOST_OPEN:
                 self.end_before(place, f"more than {MOST_OPEN} events are under way at once")
@@ -113,7 +114,7 @@ class Writer:
                 later.append(bound)
 
     def lines(self):
-        yield from (trace_line(event, bound, self.tell) for event, bound in zip(self.events, self.bounds()))
+        yield from (trace_line(event, bound, self.tell) for event, bound in zip(self.events, bounds_of(self.events)))
         if self.end is not None:
             self.tell(f"the trace ends here: {self.end}", self.end.line)
             yield f"ends {self.reader.lines.place(self.end.line)[1]}\n"

@@ -3,6 +3,8 @@
 
 from_log() {
     local tool=$top/tools/from-log logs=$top/tests/kernel_logs refused
+    # What finds the order of events where a log does not tell it.
+    export FMPSIM=$program
     refused=$(as_file echo refused)
     reads_log events
     run 0 "$logs/answers" /dev/null calls "$logs/machine.cfg" made
@@ -11,6 +13,7 @@ from_log() {
     run 0 yes /dev/null check --partial "$logs/machine.cfg" made
     log_differs
     log_to_events
+    log_in_order
     reads_texts "$logs/told.txt"
     all_calls
     reads_calls
@@ -38,6 +41,15 @@ reads() {
     count "$well" '#' tools/from-log calls.cfg x.log "${@:4}" '#' "$(head -c 300 x.log)"
 }
 
+# of_machine STATUS MADE TOLD WORD..: the same by the configuration that tests/kernel_logs has for its log.
+of_machine() {
+    local well=no ended
+    "$tool" "$logs/machine.cfg" x.log "${@:4}" > made 2> told
+    ended=$?
+    [ "$ended" = "$1" ] && diff "$2" made && diff "$3" told && well=yes
+    count "$well" '#' tools/from-log machine.cfg x.log "${@:4}" '#' "$(head -c 300 x.log)"
+}
+
 # The table of calls has those that fmpsim has, each once. All of them, one after the other, are events that fmpsim reads.
 all_calls() {
     local enter event well=no
@@ -54,7 +66,11 @@ all_calls() {
         [[ $enter != *loc_spn* ]] || echo "[1]:[1]: leave to ${enter%% *} ercd=0." >> x.log
         echo "P1 $event" >> events
     done < "$(log_rows "$logs/calls.txt")"
-    reads 0 events "$(as_file block_is_told "$(grep -n rel_mpf x.log | cut -d : -f 1)")"
+    {
+        block_is_told "$(grep -n rel_mpf x.log | cut -d : -f 1)"
+        order_is_not_told "$(grep -n ext_tsk x.log | cut -d : -f 1)" 'a trace of the log ends at line 2'
+    } > to_tell
+    reads 0 events to_tell
     well=no
     play calls "$logs/calls.cfg" made && [ "$(wc -l < output)" = 77 ] && [ ! -s errors ] && well=yes
     count "$well" calls calls.cfg '# all calls'
@@ -63,6 +79,50 @@ all_calls() {
 # block_is_told LINE: what is told of a call of rel_mpf whose block no call has got.
 block_is_told() {
     echo "x.log:$1: note: the log does not say which number this block has: it is an address on the target, and a number from 0 in fmpsim, to be written here by hand"
+}
+
+# order_is_not_told LINE WHY: what is told of the first event of which the log does not tell whether it took effect before others, where no order is found.
+order_is_not_told() {
+    echo "x.log:$1: note: the log does not tell whether this took effect before what comes next, so events stand in the order in which they began: $2"
+}
+
+# The semaphore has one resource. Task 1 has it, and asks for it once more while task 2 gives it back: the log does not tell which of these took effect
+# first, but by what task 1 was answered. Where no order is found the events stand as they began, and why that is so is told: there is no program,
+# or an answer that is never right.
+log_in_order() {
+    local code
+    for code in 0:2,1 -50:1,2 -18: ; do
+        cat > x.log <<- END
+			[1]:[1]: task 1 becomes RUNNABLE.
+			[2]:[1]: dispatch to task 1.
+			[3]:[1]: enter to act_tsk tskid=2.
+			[4]:[1]: task 2 becomes RUNNABLE.
+			[5]:[1]: leave to act_tsk ercd=0.
+			[6]:[2]: enter to int handler 65552.
+			[7]:[2]: leave to int handler 65552.
+			[8]:[2]: dispatch to task 2.
+			[9]:[1]: enter to pol_sem semid=1.
+			[10]:[1]: leave to pol_sem ercd=0.
+			[11]:[1]: enter to pol_sem semid=1.
+			[12]:[2]: enter to sig_sem semid=1.
+			[13]:[2]: leave to sig_sem ercd=0.
+			[14]:[1]: leave to pol_sem ercd=${code%:*}.
+			END
+        : > to_tell
+        case ${code#*:} in
+            2,1) printf '%s\n' 'P2 sig_sem(S)' 'P1 pol_sem(S)' ;;
+            *) printf '%s\n' 'P1 pol_sem(S)' 'P2 sig_sem(S)' ;;
+        esac > last
+        [ "${code#*:}" ] || order_is_not_told 11 "none that it may be is the machine's, as \`fmpsim check --partial --show\` tells of the trace that --trace writes" > to_tell
+        printf '%s\n' 'P1 act_tsk(T2)' 'P2 ipi' 'P1 pol_sem(S)' | cat - last > wanted
+        of_machine 0 wanted to_tell --ipi 65552
+    done
+    # the order in which they began is that of the second of these
+    order_is_not_told 11 'nowhere: there is no such program: name it with --fmpsim' > to_tell
+    of_machine 0 wanted to_tell --ipi 65552 --fmpsim nowhere
+    order_is_not_told 11 'fmpsim cannot be run: Exec format error' > to_tell
+    : > nothing && chmod +x nothing
+    of_machine 0 wanted to_tell --ipi 65552 --fmpsim ./nothing
 }
 
 # answered LINE..: each call that task 1 enters and leaves is a line of a trace with its answer: without these lines each call, and with them in between

@@ -46,7 +46,7 @@ found_in() {
 wanted() {
     printf '%s\n' bin/fmpsim bin/fmphost-cfg bin/fmpsim-{from-{toppers,log,trace},to-log,to-perfetto,to-board,run-list} share/man/man1/fmpsim.1 share/bash-completion/completions/fmpsim \
         share/fish/vendor_completions.d/fmpsim.fish share/zsh/site-functions/_fmpsim \
-        share/fmpsim/{LICENSE,include/fmp.h,tools/{from-toppers,from-log,to-log,from-trace,to-perfetto,to-board,run-list,{board_case,board_files,board_kit,board_log,board_machine,board_play,c_numbers,fmpsim_program,log_answers,log_calls,log_lines,log_pools,log_spread,log_tasks,log_written,perfetto_tracks,test_reports,toppers_settings,trace_lines}.py},tests/play,host/{README.md,fmphost.mk},editors/README.md,docs/{BOARD.md,GUIDE.md,GUIDE.ja.md,HOST.md,FORMATS.md,PROFILE.md,DECISIONS.md,view.png,wave.png}}
+        share/fmpsim/{LICENSE,include/fmp.h,tools/{from-toppers,from-log,to-log,from-trace,to-perfetto,to-board,run-list,{board_case,board_files,board_kit,board_log,board_machine,board_play,c_numbers,fmpsim_program,log_answers,log_calls,log_lines,log_order,log_pools,log_spread,log_tasks,log_written,perfetto_tracks,test_reports,toppers_settings,trace_lines}.py},tests/play,host/{README.md,fmphost.mk},editors/README.md,docs/{BOARD.md,GUIDE.md,GUIDE.ja.md,HOST.md,FORMATS.md,PROFILE.md,DECISIONS.md,DESIGN.md,view.png,wave.png}}
     [ ! -e "$top/out/libfmp.a" ] || printf '%s\n' include/fmp.h lib/libfmp.a
     (cd "$top" && find board tests/cases editors/{vim,vscode} tools/toppers-stub docs/formats examples host/{include,src,gen,programs} -type f | sed 's|^|share/fmpsim/|')
 }
