@@ -1,16 +1,20 @@
 -- What an event leads to.
-use Rattle.std.proofs.Common.{◌≡◌, ◌≤◌, ℕ, ◌+◌, Bool, true, false, cond, Option, Some, None, List, Result, Ok, Err, [], ◌∷◌, ap, sym, subst, ◌∙◌, refl, arith}
+use Rattle.std.proofs.Common.{◌≡◌, ◌≤◌, ℕ, ◌+◌, Bool, true, false, cond, ◌&&◌, not, Option, Some, None, List, Result, Ok, Err, [], ◌∷◌, ap, sym, subst, ◌∙◌, refl, arith}
 use Rattle.std.specs.Prelude.{is_some, IfOk}
 use Rattle.fmp_codes.specs.declared.records.Event.{Event}
+use Rattle.fmp_codes.specs.declared.numbers.Proc.{Proc}
+use Rattle.fmp_codes.specs.declared.records.Event.TheVariants as event
 use Rattle.fmp_codes.specs.declared.records.Record.{Record}
+use Rattle.fmp_codes.specs.declared.records.Runner.{Runner}
 use Rattle.fmp_rules.specs.World.{World}
 use Rattle.fmp_rules.specs.Step.{step}
 use Rattle.fmp_kernel_order.specs.Queues.{Queues, listed}
+use Rattle.fmp_smp_histories.specs.Scripted.{asked_at}
 use Rattle.fmp_search.specs.Runs.{Goes}
 use Rattle.fmp_search_pattern.specs.Questions.{allows}
 use Rattle.fmp_search_pattern.specs.Sights.{Sight}
 use Rattle.fmp_search_kernel.specs.Walked.{Walked}
-use Rattle.fmp_search_orders.specs.Places.{Place, event_of, is_marked, next_place, went, sight_at, after, report_of, report}
+use Rattle.fmp_search_orders.specs.Places.{Place, event_of, is_marked, next_place, went, sight_at, after, report_of, report, call_of, is_asked_at, position_at}
 
 -- what the kernel did of an event leads where the definitions say
 pub went_is : (w w' : Place) (mark : Bool) (e : Event) (k : World Queues) (r : Record) → (k, r) ≡ step listed w.machine e → w' ≡ went w mark (k, r) →
@@ -51,6 +55,15 @@ none_goes w s never = by (event_of w s)
     by : (o : Option Event) → next_place w (is_marked s) o ≡ None
     by None = refl
     by (Some e) = rw (never (sight_at (went w (is_marked s) (step listed w.machine e)) (step listed w.machine e).1)) refl
+
+-- a call comes next where who runs is not to wait for an interrupt
+pub call_some : (w : Place) (p : Proc) (o : Option Runner) → is_some (call_of w p o) ≡ (is_some o && not (w.rules.prompt && is_asked_at w p))
+call_some w p None = refl
+call_some w p (Some r) = by (w.rules.prompt && is_asked_at w p)
+  where
+    by : (b : Bool) → is_some (cond b None (Some (event.Call p (asked_at w.config w.scripts r (position_at w p r))))) ≡ not b
+    by true = refl
+    by false = refl
 
 pub report_is : (w : Place) (s : ℕ) (e : Event) (r : Record) → event_of w s ≡ Some e → r ≡ (step listed w.machine e).1 → report w s ≡ r ∷ []
 unfolding report

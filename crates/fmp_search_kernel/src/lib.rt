@@ -4,6 +4,7 @@
 mod begun;
 mod caller;
 mod calls;
+mod lines;
 mod sights;
 mod space;
 mod ticks;

@@ -1,5 +1,5 @@
 //! What a question sees of an event.
-ghost use Rattle.std.specs.Prelude.{◌≡◌, ◌≤◌, ◌<◌, ◌+◌, ◌*◌, ◌^◌, false, not, drop, length, map, IfOk, OnOk, if◌then◌else◌};
+ghost use Rattle.std.specs.Prelude.{◌≡◌, ◌≤◌, ◌<◌, ◌+◌, ◌*◌, ◌^◌, false, true, not, drop, length, map, IfOk, OnOk, if◌then◌else◌};
 ghost use Rattle.fmp_search_orders.specs.Orders.{each};
 ghost use Rattle.fmp_search_orders.specs.Sights as sights;
 ghost use Rattle.fmp_search_orders.specs.Watched.{bits_of};
@@ -59,6 +59,21 @@ pub fn put_line(text: &mut Vec<u8>, names: &Names, made: &Record) -> Result<(), 
     put_core(text, names, 1, made)?;
     text.extend_from_slice(b"  ")?;
     text[0] = b' ';
+    Ok(())
+}
+
+/// The same where the line is read. Else what the text has is not looked at, and may be another's.
+pub(crate) fn put_read_line(
+    text: &mut Vec<u8>,
+    names: &Names,
+    made: &Record,
+    is_read: bool,
+) -> Result<(), AllocError>
+    ensures { OnOk result (is_read ≡ true → text.new.items ≡ sights.padded (drop 2 (core_text names.now 1 made.now))) }
+{
+    if is_read {
+        put_line(text, names, made)?;
+    }
     Ok(())
 }
 

@@ -95,7 +95,7 @@ impl<'a> Space for Walker<'a> {
 
     #[tactic(auto, unfolding(fmp_search_orders::specs::Places::after))]
     fn may_go(&self, step: u8) -> bool {
-        self.may_mark(is_marked(step)) && self.event_of(step).is_some()
+        self.may_mark(is_marked(step)) && self.has_event(step)
     }
 
     /// The error is want of memory for the lines of an event.

@@ -13,7 +13,8 @@ ghost use Rattle.fmp_search_pattern.specs.Questions.{allows};
 ghost use Rattle.fmp_search_pattern.specs.Sights.{Sight as AnySight};
 ghost use Rattle.fmp_search_kernel.specs.Walked.{origin_of};
 
-use crate::sights::{Seen, bits_at, has_to_look, is_over, put_line};
+use crate::lines::{some_read, step_reads};
+use crate::sights::{Seen, bits_at, has_to_look, is_over, put_read_line};
 use crate::ticks::{advance_idled, advance_taken, keeps_pace, lower_taken, may_tick};
 use fmp_codes::{Answer, Event, Proc, Record, Runner};
 use fmp_kernel::Kernel;
@@ -206,6 +207,31 @@ impl<'a> Walker<'a> {
         }
     }
 
+    /// Whether a processor has an event of this kind here, as `event_at` gives it. No call is looked up for that.
+    #[tactic(auto, using(crate::proofs::Going::call_some))]
+    fn has_event_at(&self, p: Proc, kind: u8) -> bool
+        requires { kind < 3 }
+        ensures { result ≡ is_some (places.event_at self.now.place p kind) }
+    {
+        match kind {
+            0 => self.kernel.runner(p).is_some() && !(self.rules.prompt && self.is_asked(p)),
+            1 => self.ipi_of(p).is_some(),
+            _ => self.tick_of(p).is_some(),
+        }
+    }
+
+    /// Whether a step has an event here, as `event_of` gives it.
+    pub(crate) fn has_event(&self, step: u8) -> bool
+        ensures { result ≡ is_some (places.event_of self.now.place step) }
+    {
+        let at = step / 6;
+        if at < self.config.processors() {
+            self.has_event_at(Proc::new(at + 1), step % 6 % 3)
+        } else {
+            false
+        }
+    }
+
     /// Whether an event may be marked so here: where all steps of the question were seen none may have a mark.
     pub(crate) fn may_mark(&self, marked: bool) -> bool
         ensures { result ≡ false → (sight : AnySight) → allows self.now.place.question self.now.place.seen marked sight ≡ false }
@@ -360,7 +386,8 @@ impl<'a> Walker<'a> {
         ensures same { self.new ≡ self.old }
     {
         let over = is_over(self.config, self.rules, &self.taken, &self.kernel);
-        put_line(&mut self.text, self.config.names(), &self.made)?;
+        let names = self.config.names();
+        put_read_line(&mut self.text, names, &self.made, some_read(lasting))?;
         let seen = Seen::new(&self.text, &self.kernel, over);
         Ok(bits_at(&seen, lasting))
     }
@@ -375,7 +402,9 @@ impl<'a> Walker<'a> {
             return Ok(!marked);
         }
         let over = is_over(self.config, self.rules, &self.taken, &self.kernel);
-        put_line(&mut self.text, self.config.names(), &self.made)?;
+        let names = self.config.names();
+        let is_read = step_reads(self.question, seen, marked);
+        put_read_line(&mut self.text, names, &self.made, is_read)?;
         let event = Seen::new(&self.text, &self.kernel, over);
         Ok(allows(&event, self.question, seen, marked))
     }
