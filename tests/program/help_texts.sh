@@ -6,7 +6,7 @@ help_texts() {
     # what each status means, wherever it is told, and which ones a command may end with
     local means=('done|yes|all ticks were taken|never' 'a fault in a text|a text has a fault' 'the command line is wrong'
         'output (could )?not be written' 'want of memory|memory ran out' '\bno\b|not the machine|shows it' 'turns|not known' 'a task waits')
-    local -A statuses=([calls]='0 1 2 3 4' [check]='0 1 2 3 4 5 6' [wave]='0 1 2 3 4 5' [view]='0 1 2 3 4 5' [smp]='0 1 2 3 4 5 6 7' [explore]='0 1 2 3 4 5 6' [shrink]='0 1 2 3 4 5' [list]='0 1 2 3 4')
+    local -A statuses=([calls]='0 1 2 3 4' [check]='0 1 2 3 4 5 6' [wave]='0 1 2 3 4 5' [view]='0 1 2 3 4 5 6' [smp]='0 1 2 3 4 5 6 7' [explore]='0 1 2 3 4 5 6' [shrink]='0 1 2 3 4 5' [list]='0 1 2 3 4')
     version=$(sed -nE 's/^\.TH FMPSIM 1 "" "(fmpsim [0-9.]+)" .*/\1/p' "$top/man/fmpsim.1")
     # a program that was built without a proof says so
     told=$version

@@ -1,10 +1,12 @@
-# The pages say what is there, and the tool of the gate's figures counts as worked out by hand.
+# The pages say what is there, and the tools that look at them and count the gate's figures answer as was worked out by hand.
 
 pages() {
-    local well=no
+    local well=no asked
     "$top/tools/check-pages" && well=yes
     count "$well" '# tools/check-pages'
-    well=no
-    python3 "$top/tests/program/gate_table.py" && well=yes
-    count "$well" '# tools/gate-table'
+    for asked in page_checks places gate_table; do
+        well=no
+        python3 "$top/tests/program/$asked.py" && well=yes
+        count "$well" "# tests/program/$asked.py"
+    done
 }
