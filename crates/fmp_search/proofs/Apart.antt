@@ -18,6 +18,10 @@ place_later : (a : Node) (parent step : ℕ) → Precedes a parent step → Prec
 place_later a parent step (inl lt) = inl (omega (arith, lt))
 place_later a parent step (inr both) = let is = both.0 in inl (omega (arith, is))
 
+-- all that are before a step are before the next
+pub before_step : (nodes : List Node) (parent step : ℕ) → AreBefore nodes parent step → AreBefore nodes parent (step + 1)
+before_step nodes parent step x = record { apart = x.apart; before = λ i a at. step_later a parent step (x.before i a at) }
+
 -- all that are before a step of one place are before the first step of the next
 pub before_place : (nodes : List Node) (parent step : ℕ) → AreBefore nodes parent step → AreBefore nodes (parent + 1) 0
 before_place nodes parent step x = record { apart = x.apart; before = λ i a at. place_later a parent step (x.before i a at) }

@@ -1,5 +1,5 @@
 -- One edge more of a chart.
-use Rattle.std.proofs.Common.{◌≡◌, ◌⊎◌, inl, inr, ℕ, ◌+◌, ◌<◌, ◌≤◌, true, false, Option, None, Some, List, [], ◌∷◌, ◌++◌, length, replicate, get_or, refl, ap, sym, subst, ◌∙◌, below_more, arith, rules}
+use Rattle.std.proofs.Common.{◌≡◌, ◌⊎◌, inl, inr, ℕ, ◌+◌, ◌<◌, ◌≤◌, Bool, true, Option, None, Some, List, [], ◌∷◌, ◌++◌, length, get_or, refl, ap, sym, subst, ◌∙◌, below_more, arith, rules}
 use Rattle.std.specs.Prelude.{slice_get}
 use Rattle.std.proofs.lemmas.Grind.{common_steps}
 use Rattle.std.proofs.Math.Nat.{eq-or-lt_of_le}
@@ -13,7 +13,7 @@ use Rattle.fmp_search.specs.Runs.{Watches}
 use Rattle.fmp_search.specs.Trees.{found_at, IsAt}
 use Rattle.fmp_search.specs.declared.chart.Chart.{Chart}
 use Rattle.fmp_search.specs.Growth.{Extends}
-use Rattle.fmp_search.specs.Charts.{Charting, IsTrueEdge, AreTrue, IsJoined}
+use Rattle.fmp_search.specs.Charts.{Charting, IsBlank, IsTrueEdge, AreTrue, IsJoined}
 use Rattle.fmp_search.specs.Meeting.{AreNoted, IsMarked}
 use Rattle.fmp_search.proofs.Noted.{noted_none, noted_same}
 
@@ -74,7 +74,7 @@ module _ {P : Type 0} (after : P → ℕ → Option P) (passes : P → ℕ → �
   pub step_there : (p r : P) (s t : ℕ) → Watches (after p s) (passes p s) (Some t) r → (after p s ≡ Some r) × (t ≡ passes p s)
   step_there p r s t h = report_there (after p s) (passes p s) t r h
 
-  none_there : (o : Option P) (m : ℕ) (r x : P) → Watches o m None r → o ≡ Some x → ⊥
+  pub none_there : (o : Option P) (m : ℕ) (r x : P) → Watches o m None r → o ≡ Some x → ⊥
   none_there None m r x h is = absurd (search rules)
   none_there (Some p) m r x h is = absurd (search (rules, h.0))
 
@@ -200,10 +200,11 @@ module _ {P : Type 0} (after : P → ℕ → Option P) (passes : P → ℕ → �
       }
 
   -- nothing was tried
-  pub charting_none : (chart : Chart) (count : ℕ) → chart.opened ≡ 0 → chart.edges ≡ [] → chart.marks.items ≡ replicate count false → Charting after passes q nodes chart 0 0
-  charting_none chart count opened none unmarked = record {
-    opened = opened;
-    charted = λ is. record { sure = true_none after passes q nodes chart.edges none; joined = λ i s lt. absurd (omega (arith, lt, opened)); few = omega (arith, opened) };
-    linked = λ is s lt. absurd (omega (arith, lt));
-    noted = noted_none after passes q nodes chart.marks.items count unmarked;
-  }
+  pub charting_none : (kept : Bool) (chart : Chart) (count : ℕ) → IsBlank kept count chart → Charting after passes q nodes chart 0 0
+  charting_none kept chart count blank =
+      let opened = blank.opened in record {
+        opened = opened;
+        charted = λ is. record { sure = true_none after passes q nodes chart.edges blank.edges; joined = λ i s lt. absurd (omega (arith, lt, opened)); few = omega (arith, opened) };
+        linked = λ is s lt. absurd (omega (arith, lt));
+        noted = noted_none after passes q nodes chart.marks.items count blank.marks;
+      }

@@ -1,11 +1,9 @@
 -- The edges between places, as far as these were opened.
-use Rattle.std.specs.Prelude.{◌≡◌, ℕ, ◌+◌, ◌<◌, ◌≤◌, true, Option, Some, List, length, slice_get}
+use Rattle.std.specs.Prelude.{◌≡◌, ℕ, ◌+◌, ◌<◌, ◌≤◌, Bool, true, false, Option, Some, List, [], ◌∷◌, ◌++◌, length, replicate, slice_get}
 use Rattle.fmp_search.specs.declared.chart.Chart.{Chart}
 use Rattle.fmp_search.specs.declared.edges.Edge.{Edge}
-use Rattle.fmp_search.specs.declared.layer.Layer.{Layer}
-use Rattle.fmp_search.specs.declared.layer.Layer.TheVariants as layer
 use Rattle.fmp_search.specs.declared.nodes.Node.{Node}
-use Rattle.fmp_search.specs.Meeting.{AreNoted}
+use Rattle.fmp_search.specs.Meeting.{AreNoted, Notes}
 use Rattle.fmp_search.specs.Trees.{found_at}
 
 -- an edge is of a step between two places, and tells what it passes
@@ -38,16 +36,23 @@ pub record IsCharted {P : Type 0} (after : P → ℕ → Option P) (passes : P �
   pub joined : (i s : ℕ) → i < chart.opened → IsJoined after passes q nodes chart.edges i s
   pub few : chart.opened ≤ length nodes + 1
 
+-- nothing was tried
+pub record IsBlank (kept : Bool) (count : ℕ) (chart : Chart) : Type 0 where
+  pub same : chart.kept ≡ kept
+  pub edges : chart.edges ≡ []
+  pub opened : chart.opened ≡ 0
+  pub marks : chart.marks.items ≡ replicate count false
+
+-- what is told of an edge was marked, and the edge was added, if edges are kept
+pub record Adds (edge : Edge) (old new : Chart) : Type 0 where
+  pub added : old.kept ≡ true → new.edges ≡ old.edges ++ edge ∷ []
+  pub noted : Notes edge.passes old.marks.items new.marks.items
+  pub opened : new.opened ≡ old.opened
+  pub kept : new.kept ≡ old.kept
+
 -- so many places were opened, and if edges are kept, those of the first steps from the next are there too, as the marks of what was told of all these steps are
 pub record Charting {P : Type 0} (after : P → ℕ → Option P) (passes : P → ℕ → ℕ) (q : P) (nodes : List Node) (chart : Chart) (at steps : ℕ) : Type 0 where
   pub opened : chart.opened ≡ at
   pub charted : chart.kept ≡ true → IsCharted after passes q nodes chart
   pub linked : chart.kept ≡ true → (s : ℕ) → s < steps → IsJoined after passes q nodes chart.edges at s
   pub noted : AreNoted after passes q nodes chart.marks.items at steps
-
--- and where steps were not all tried, those from the first places are all there
-abbrev pub Charts : {P : Type 0} → (P → ℕ → Option P) → (P → ℕ → ℕ) → P → Layer → List Node → Chart → ℕ → ℕ → Type 0
-Charts after passes q (layer.Found steps) nodes chart at more = chart.kept ≡ true → IsCharted after passes q nodes chart
-Charts after passes q layer.Full nodes chart at more = chart.kept ≡ true → IsCharted after passes q nodes chart
-Charts after passes q layer.Over nodes chart at more = chart.kept ≡ true → IsCharted after passes q nodes chart
-Charts after passes q layer.Done nodes chart at more = Charting after passes q nodes chart at more

@@ -6,7 +6,7 @@ use Rattle.fmp_search.specs.declared.nodes.Node.{Node}
 use Rattle.fmp_search.specs.declared.surveying.Survey.{Survey}
 use Rattle.fmp_search.specs.Answers.{Explored, IsShortest, NoneWithin}
 use Rattle.fmp_search.specs.Charts.{IsCharted}
-use Rattle.fmp_search.specs.Growth.{AreFound}
+use Rattle.fmp_search.specs.Growth.{AreFound, IsOverBy}
 use Rattle.fmp_search.specs.Meeting.{AreNoted}
 use Rattle.fmp_search.specs.Runs.{run}
 use Rattle.fmp_search.specs.Trees.{found_at}
@@ -41,3 +41,11 @@ pub record IsSurveyed {P : Type 0} (after : P → ℕ → Option P) (passes : P 
   pub charted : s.chart.kept ≡ true → IsCharted after passes q s.nodes.items s.chart
   pub noted : s.how ≡ layer.Done → AreNoted after passes q s.nodes.items s.chart.marks.items s.chart.opened 0
   pub small : length s.nodes.items < 2 ^ 32
+
+-- how places were gone through: so far, with these edges, and so many marks
+pub record Surveys {P : Type 0} (after : P → ℕ → Option P) (passes : P → ℕ → ℕ) (wanted : P → Bool) (q : P) (turns room : ℕ) (over kept : Bool) (count : ℕ) (s : Survey) : Type 0 where
+  pub surveyed : IsSurveyed after passes q s
+  pub through : GoesSo after wanted q turns room s.nodes.items s.depth s.chart.opened s.how
+  pub ended : IsOverBy over s.how
+  pub same : s.chart.kept ≡ kept
+  pub marks : length s.chart.marks.items ≡ count

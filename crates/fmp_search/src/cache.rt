@@ -1,9 +1,9 @@
 //! Walkers that stand at places that were found, from which others set out: so a place is made again by few steps, where one near it
 //! was opened lately.
-ghost use Rattle.std.specs.Prelude.{◌≡◌, ◌≤◌, ◌<◌, ◌^◌, ℕ, length, IfOk, IfSome};
-ghost use Rattle.fmp_search.specs.Cache.{IsCached, IsCache};
+ghost use Rattle.std.specs.Prelude.{◌≡◌, ◌≤◌, ◌<◌, length, IfOk, IfSome};
+ghost use Rattle.fmp_search.specs.Cache.{AreNear, IsCached, IsCache};
 ghost use Rattle.fmp_search.specs.Roots.{AreAfter};
-ghost use Rattle.fmp_search.specs.Trees.{found_at, IsTree, StandsAt};
+ghost use Rattle.fmp_search.specs.Trees.{Stands, StandsAt};
 
 use crate::nodes::{Node, stand_at};
 use crate::space::Space;
@@ -118,12 +118,9 @@ pub(crate) fn go_to<W: Space + Drop>(
     nodes: &[Node],
     at: usize,
 ) -> Result<(), AllocError>
-    requires tree { IsTree W.after (W.origin walker.old) nodes.now }
+    requires near { AreNear W.place W.room W.origin W.after (W.origin walker.old) nodes.now cache.now }
     requires place { at ≤ length nodes.now }
-    requires depth { (found_at W.after (W.origin walker.old) nodes.now at).depth < 2 ^ 31 }
-    requires cache { IsCache W.place W.room W.origin W.after (W.origin walker.old) nodes.now cache.now }
-    ensures there { IfOk result (λ done. StandsAt W.after (W.origin walker.old) nodes.now at (W.place walker.new) (W.room walker.new)) }
-    ensures origin { W.origin walker.new ≡ W.origin walker.old }
+    ensures { IfOk result (λ done. Stands W.place W.room W.origin W.after (W.origin walker.old) nodes.now at walker.new) }
 {
     let cached = &cache[nearest(cache, nodes, at)];
     stand_at(alloc, walker, &cached.walker, nodes, cached.number, at)
@@ -137,12 +134,9 @@ fn approach<W: Space + Drop>(
     nodes: &[Node],
     at: usize,
 ) -> Result<(), AllocError>
-    requires tree { IsTree W.after (W.origin walker.old) nodes.now }
+    requires near { AreNear W.place W.room W.origin W.after (W.origin walker.old) nodes.now cache.old.items }
     requires place { at ≤ length nodes.now }
-    requires depths { (i : ℕ) → i ≤ length nodes.now → (found_at W.after (W.origin walker.old) nodes.now i).depth < 2 ^ 31 }
-    requires cache { IsCache W.place W.room W.origin W.after (W.origin walker.old) nodes.now cache.old.items }
-    ensures cache { IfOk result (λ done. IsCache W.place W.room W.origin W.after (W.origin walker.old) nodes.now cache.new.items) }
-    ensures origin { W.origin walker.new ≡ W.origin walker.old }
+    ensures { IfOk result (λ done. (W.origin walker.new ≡ W.origin walker.old) × AreNear W.place W.room W.origin W.after (W.origin walker.old) nodes.now cache.new.items) }
 {
     let to = before(nodes, at);
     if to <= cache[nearest(cache, nodes, at)].number {
@@ -182,11 +176,10 @@ fn keep<W: Space + Drop>(
 {
     let slot = 1 + number % LAST;
     if slot < cache.len() {
-        cache[slot].settle(walker, nodes, number)?;
+        cache[slot].settle(walker, nodes, number)
     } else {
-        add(walker, cache, nodes, number)?;
+        add(walker, cache, nodes, number)
     }
-    Ok(())
 }
 
 /// Makes a walker stand at the place of a number, which is opened, and keeps one there.
@@ -197,13 +190,10 @@ pub(crate) fn enter<W: Space + Drop>(
     nodes: &[Node],
     at: usize,
 ) -> Result<(), AllocError>
-    requires tree { IsTree W.after (W.origin walker.old) nodes.now }
+    requires near { AreNear W.place W.room W.origin W.after (W.origin walker.old) nodes.now cache.old.items }
     requires place { at ≤ length nodes.now }
-    requires depths { (i : ℕ) → i ≤ length nodes.now → (found_at W.after (W.origin walker.old) nodes.now i).depth < 2 ^ 31 }
-    requires cache { IsCache W.place W.room W.origin W.after (W.origin walker.old) nodes.now cache.old.items }
-    ensures there { IfOk result (λ done. StandsAt W.after (W.origin walker.old) nodes.now at (W.place walker.new) (W.room walker.new)) }
-    ensures cache { IfOk result (λ done. IsCache W.place W.room W.origin W.after (W.origin walker.old) nodes.now cache.new.items) }
-    ensures origin { W.origin walker.new ≡ W.origin walker.old }
+    ensures { IfOk result (λ done. Stands W.place W.room W.origin W.after (W.origin walker.old) nodes.now at walker.new
+        × IsCache W.place W.room W.origin W.after (W.origin walker.old) nodes.now cache.new.items) }
 {
     approach(alloc, walker, cache, nodes, at)?;
     go_to(alloc, walker, cache, nodes, at)?;

@@ -1,16 +1,14 @@
 //! The edges between places that were found, and the numbers that were told of them.
-ghost use Rattle.std.specs.Prelude.{◌≡◌, ◌<◌, ◌⊎◌, ◌++◌, ◌∷◌, ℕ, [], true, false, length, replicate, Some, IfOk, OnOk, slice_get};
-ghost use Rattle.fmp_search.specs.Meeting.{AreKept, Notes};
+ghost use Rattle.std.specs.Prelude.{IfOk};
+ghost use Rattle.fmp_search.specs.Charts.{Adds, IsBlank};
+ghost use Rattle.fmp_search.specs.Meeting.{Notes};
 
 use crate::edges::{Edge, Edges};
 use std::alloc::{AllocError, Global};
 
 /// Marks a number, if there is a mark for it.
 fn mark(marks: &mut [bool], number: u64)
-    ensures marked { number < length marks.old → slice_get marks.new number ≡ Some true }
-    ensures kept { AreKept marks.old marks.new }
-    ensures met { (n : ℕ) → slice_get marks.new n ≡ Some true → (slice_get marks.old n ≡ Some true) ⊎ (n ≡ number) }
-    ensures long { length marks.new ≡ length marks.old }
+    ensures { Notes number marks.old marks.new }
 {
     if number < marks.len() as u64 {
         marks[number as usize] = true;
@@ -30,10 +28,7 @@ pub(crate) struct Chart {
 impl Chart {
     /// No edges yet. Whether others are kept is given, and for how many numbers there is a mark. The error is want of memory.
     pub(crate) fn new(alloc: Global, kept: bool, count: usize) -> Result<Chart, AllocError>
-        ensures kept { IfOk result (λ c. c.kept ≡ kept) }
-        ensures edges { IfOk result (λ c. c.edges ≡ []) }
-        ensures opened { IfOk result (λ c. c.opened ≡ 0) }
-        ensures marks { IfOk result (λ c. c.marks.items ≡ replicate count false) }
+        ensures { IfOk result (λ c. IsBlank kept count c) }
     {
         let marks = vec![in alloc; false; count]?;
         Ok(Chart {
@@ -46,10 +41,7 @@ impl Chart {
 
     /// Marks what is told of an edge, and adds the edge after the others, if they are kept. The error is want of memory.
     pub(crate) fn add(&mut self, alloc: Global, edge: Edge) -> Result<(), AllocError>
-        ensures added { OnOk result (self.old.kept ≡ true → self.new.edges ≡ self.old.edges ++ edge ∷ []) }
-        ensures noted { Notes edge.passes self.old.marks.items self.new.marks.items }
-        ensures opened { self.new.opened ≡ self.old.opened }
-        ensures kept { self.new.kept ≡ self.old.kept }
+        ensures { IfOk result (λ done. Adds edge self.old self.new) }
     {
         mark(&mut self.marks, edge.passes);
         if self.kept {

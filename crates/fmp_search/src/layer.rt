@@ -1,17 +1,15 @@
 //! One layer of places: those that are found by so many steps and by no fewer.
 ghost use Rattle.std.specs.Prelude.{◌≡◌, ◌≤◌, ◌<◌, ◌+◌, ◌^◌, false, true, length, None, Some, IfOk};
 ghost use Rattle.std.specs.Int.{bit_at};
-ghost use Rattle.fmp_search.specs.Cache.{IsCache};
-ghost use Rattle.fmp_search.specs.Runs.{AreClosed};
-ghost use Rattle.fmp_search.specs.Trees.{found_at};
-ghost use Rattle.fmp_search.specs.Answers.{Explored};
-ghost use Rattle.fmp_search.specs.Charts.{Charting, Charts};
-ghost use Rattle.fmp_search.specs.Growth.{AreBefore, Fills, IsNotOver, IsOverBy, LeavesRoom, Numbers, Opens, Steps};
+ghost use Rattle.fmp_search.specs.Runs.{AreClosed, IsWatched};
+ghost use Rattle.fmp_search.specs.Trees.{found_at, Stands};
+ghost use Rattle.fmp_search.specs.Growth.{Extends};
+ghost use Rattle.fmp_search.specs.Fronts.{Advances, IsFront, IsOpen, Numbers, Stays};
 
 use crate::cache::{Cached, enter};
 use crate::chart::Chart;
 use crate::edges::Edge;
-use crate::nodes::{Node, steps_to};
+use crate::nodes::{Node, steps_over};
 use crate::progress::Progress;
 use crate::space::Space;
 use crate::store::Store;
@@ -34,6 +32,7 @@ pub(crate) enum Layer {
 pub(crate) struct Front {
     pub(crate) depth: u32,
     pub(crate) end: usize,
+    ghost shallow: { depth + 1 < 2 ^ 31 },
 }
 
 /// The number of the place where a walker stands, to which a step leads from the place of a number. It is added where it is new. None where there is
@@ -48,20 +47,14 @@ fn number_of<W: Space + Drop>(
     at: usize,
     step: u8,
 ) -> Result<Option<u32>, AllocError>
-    requires explored { Explored W.after W.wanted (W.origin walker.now) store.old.nodes.items front.depth front.end at }
+    requires front { IsFront W.place W.room W.origin W.after W.wanted (W.origin walker.now) front.depth front.end store.old.nodes.items cache.now at step }
     requires place { at < front.end }
-    requires depth { front.depth + 1 < 2 ^ 31 }
     requires made { W.after (found_at W.after (W.origin walker.now) store.old.nodes.items at).place step ≡ Some (W.place walker.now) }
     requires clean { W.wanted (W.place walker.now) ≡ false }
-    requires origins { (W.origin other.old ≡ W.origin walker.now) }
-    requires cache { IsCache W.place W.room W.origin W.after (W.origin walker.now) store.old.nodes.items cache.now }
-    requires before { AreBefore store.old.nodes.items at step }
-    ensures number { IfOk result (λ o. Numbers W.after W.wanted (W.origin walker.now) store.old.nodes.items front.depth front.end at (W.place walker.now) o
-        store.new.nodes.items) }
-    ensures leaves { IfOk result (λ o. LeavesRoom store.old.most at step o store.new.nodes.items) }
-    ensures room { store.new.most ≡ store.old.most }
-    ensures cache { IfOk result (λ o. IsCache W.place W.room W.origin W.after (W.origin walker.now) store.new.nodes.items cache.now) }
-    ensures origin { W.origin other.new ≡ W.origin other.old }
+    requires origins { W.origin other.old ≡ W.origin walker.now }
+    ensures number { IfOk result (λ o. Numbers W.place W.room W.origin W.after W.wanted (W.origin walker.now) front.depth front.end store.old.most
+        store.old.nodes.items cache.now at step (W.place walker.now) o store.new.nodes.items) }
+    ensures stays { IfOk result (λ o. (store.new.most ≡ store.old.most) × (W.origin other.new ≡ W.origin other.old)) }
 {
     let hash = walker.hash();
     if let Some(number) = store.find(alloc, walker, other, cache, hash)? {
@@ -93,8 +86,29 @@ fn may_try<W: Space + Drop>(base: &W, closed: u64, step: u8) -> bool
     !is_closed(closed, step) && base.may_go(step)
 }
 
+/// Makes the step of a number from the place where `base` stands, and tells which tests it passes. None where it cannot be made. Steps that it shows
+/// to be none from there are added to `closed`. The error is want of memory.
+fn step_from<W: Space + Drop>(
+    walker: &mut W,
+    base: &W,
+    step: u8,
+    closed: &mut u64,
+) -> Result<Option<u64>, AllocError>
+    requires origin { W.origin base.now ≡ W.origin walker.old }
+    requires room { 0 < W.room base.now }
+    requires closed { AreClosed W.after (W.place base.now) closed.old }
+    ensures watched { IfOk result (λ report. IsWatched W.after W.passes (W.place base.now) step report (W.place walker.new) closed.new) }
+    ensures origin { W.origin walker.new ≡ W.origin walker.old }
+{
+    if !may_try(base, *closed, step) {
+        return Ok(None);
+    }
+    walker.copy_from(base)?;
+    walker.watch(step, closed)
+}
+
 /// Tries a step from the place where `base` stands, adds the place it leads to where that is new and not looked for, and the edge to there. It is done,
-/// too, where the step cannot be made. Steps that it shows to be none from there are added to `closed`. The error is want of memory.
+/// too, where the step cannot be made. The error is want of memory.
 fn try_step<W: Space + Drop>(
     alloc: Global,
     walker: &mut W,
@@ -108,39 +122,24 @@ fn try_step<W: Space + Drop>(
     step: u8,
     closed: &mut u64,
 ) -> Result<Layer, AllocError>
-    requires explored { Explored W.after W.wanted (W.origin walker.old) store.old.nodes.items front.depth front.end at }
+    requires opening { IsOpen W.place W.room W.origin W.after W.passes W.wanted (W.origin walker.old) front.depth front.end
+        store.old.nodes.items cache.now chart.old at step }
     requires place { at < front.end }
-    requires depth { front.depth + 1 < 2 ^ 31 }
-    requires base { W.place base.now ≡ (found_at W.after (W.origin walker.old) store.old.nodes.items at).place }
-    requires room { 0 < W.room base.now }
-    requires origins { (W.origin base.now ≡ W.origin walker.old) × (W.origin other.old ≡ W.origin walker.old) }
-    requires cache { IsCache W.place W.room W.origin W.after (W.origin walker.old) store.old.nodes.items cache.now }
-    requires before { AreBefore store.old.nodes.items at step }
-    requires chart { Charting W.after W.passes (W.origin walker.old) store.old.nodes.items chart.old at step }
+    requires base { Stands W.place W.room W.origin W.after (W.origin walker.old) store.old.nodes.items at base.now }
+    requires other { W.origin other.old ≡ W.origin walker.old }
     requires closed { AreClosed W.after (W.place base.now) closed.old }
-    ensures fills { IfOk result (λ how. Fills W.after (W.origin walker.old) front.depth store.old.most at (step + 1) how store.new.nodes.items) }
-    ensures room { store.new.most ≡ store.old.most }
-    ensures cache { IfOk result (λ how. IsCache W.place W.room W.origin W.after (W.origin walker.old) store.new.nodes.items cache.now) }
-    ensures steps { IfOk result (λ how. Steps W.after W.wanted (W.origin walker.old) store.old.nodes.items front.depth front.end at step how store.new.nodes.items) }
-    ensures goes_on { IfOk result IsNotOver }
-    ensures chart { IfOk result (λ how. Charts W.after W.passes (W.origin walker.old) how store.new.nodes.items chart.new at (step + 1)) }
-    ensures kept { chart.new.kept ≡ chart.old.kept }
-    ensures marks { length chart.new.marks.items ≡ length chart.old.marks.items }
-    ensures closed { AreClosed W.after (W.place base.now) closed.new }
-    ensures walker_origin { W.origin walker.new ≡ W.origin walker.old }
-    ensures other_origin { W.origin other.new ≡ W.origin other.old }
+    ensures advances { IfOk result (Advances W.place W.room W.origin W.after W.passes W.wanted (W.origin walker.old) front.depth front.end
+        store.old.most false store.new.nodes.items cache.now chart.new at (step + 1)) }
+    ensures stays { IfOk result (λ how. Stays W.origin (W.origin walker.old) walker.new base.now other.new store.old.most store.new.most
+        chart.old.kept (length chart.old.marks.items) chart.new) }
+    ensures extends { IfOk result (λ how. Extends W.after (W.origin walker.old) store.old.nodes.items store.new.nodes.items) }
+    ensures closed { IfOk result (λ how. AreClosed W.after (W.place base.now) closed.new) }
 {
-    if !may_try(base, *closed, step) {
-        return Ok(Layer::Done);
-    }
-    walker.copy_from(base)?;
-    let Some(passes) = walker.watch(step, closed)? else {
+    let Some(passes) = step_from(walker, base, step, closed)? else {
         return Ok(Layer::Done);
     };
     if walker.is_wanted() {
-        let mut steps = steps_to(alloc, walker, &store.nodes, at)?;
-        steps.push(step)?;
-        return Ok(Layer::Found(steps));
+        return Ok(Layer::Found(steps_over(alloc, walker, &store.nodes, at, step)?));
     }
     let Some(to) = number_of(alloc, walker, other, cache, store, front, at, step)? else {
         return Ok(Layer::Full);
@@ -170,24 +169,14 @@ fn open_place<W: Space + Drop>(
     front: Front,
     at: usize,
 ) -> Result<Layer, AllocError>
-    requires explored { Explored W.after W.wanted (W.origin walker.old) store.old.nodes.items front.depth front.end at }
+    requires opening { IsOpen W.place W.room W.origin W.after W.passes W.wanted (W.origin walker.old) front.depth front.end
+        store.old.nodes.items cache.old.items chart.old at 0 }
     requires place { at < front.end }
-    requires depth { front.depth + 1 < 2 ^ 31 }
     requires origins { (W.origin base.old ≡ W.origin walker.old) × (W.origin other.old ≡ W.origin walker.old) }
-    requires cache { IsCache W.place W.room W.origin W.after (W.origin walker.old) store.old.nodes.items cache.old.items }
-    requires before { AreBefore store.old.nodes.items at 0 }
-    requires chart { Charting W.after W.passes (W.origin walker.old) store.old.nodes.items chart.old at 0 }
-    ensures fills { IfOk result (λ how. Fills W.after (W.origin walker.old) front.depth store.old.most (at + 1) 0 how store.new.nodes.items) }
-    ensures room { store.new.most ≡ store.old.most }
-    ensures cache { IfOk result (λ how. IsCache W.place W.room W.origin W.after (W.origin walker.old) store.new.nodes.items cache.new.items) }
-    ensures opens { IfOk result (λ how. Opens W.after W.wanted (W.origin walker.old) front.depth front.end (at + 1) how store.new.nodes.items) }
-    ensures goes_on { IfOk result IsNotOver }
-    ensures chart { IfOk result (λ how. Charts W.after W.passes (W.origin walker.old) how store.new.nodes.items chart.new (at + 1) 0) }
-    ensures kept { chart.new.kept ≡ chart.old.kept }
-    ensures marks { length chart.new.marks.items ≡ length chart.old.marks.items }
-    ensures walker_origin { W.origin walker.new ≡ W.origin walker.old }
-    ensures base_origin { W.origin base.new ≡ W.origin base.old }
-    ensures other_origin { W.origin other.new ≡ W.origin other.old }
+    ensures advances { IfOk result (Advances W.place W.room W.origin W.after W.passes W.wanted (W.origin walker.old) front.depth front.end
+        store.old.most false store.new.nodes.items cache.new.items chart.new (at + 1) 0) }
+    ensures stays { IfOk result (λ how. Stays W.origin (W.origin walker.old) walker.new base.new other.new store.old.most store.new.most
+        chart.old.kept (length chart.old.marks.items) chart.new) }
 {
     enter(alloc, base, cache, &store.nodes, at)?;
     let steps = base.steps();
@@ -227,24 +216,14 @@ pub(crate) fn open_layer<W: Space + Drop, P: Progress>(
     front: Front,
     begin: usize,
 ) -> Result<Layer, AllocError>
-    requires explored { Explored W.after W.wanted (W.origin walker.old) store.old.nodes.items front.depth front.end begin }
+    requires opening { IsOpen W.place W.room W.origin W.after W.passes W.wanted (W.origin walker.old) front.depth front.end
+        store.old.nodes.items cache.old.items chart.old begin 0 }
     requires place { begin ≤ front.end }
-    requires depth { front.depth + 1 < 2 ^ 31 }
     requires origins { (W.origin base.old ≡ W.origin walker.old) × (W.origin other.old ≡ W.origin walker.old) }
-    requires cache { IsCache W.place W.room W.origin W.after (W.origin walker.old) store.old.nodes.items cache.old.items }
-    requires before { AreBefore store.old.nodes.items begin 0 }
-    requires chart { Charting W.after W.passes (W.origin walker.old) store.old.nodes.items chart.old begin 0 }
-    ensures fills { IfOk result (λ how. Fills W.after (W.origin walker.old) front.depth store.old.most front.end 0 how store.new.nodes.items) }
-    ensures room { store.new.most ≡ store.old.most }
-    ensures cache { IfOk result (λ how. IsCache W.place W.room W.origin W.after (W.origin walker.old) store.new.nodes.items cache.new.items) }
-    ensures opens { IfOk result (λ how. Opens W.after W.wanted (W.origin walker.old) front.depth front.end front.end how store.new.nodes.items) }
-    ensures over { IfOk result (IsOverBy (P.over progress.new)) }
-    ensures chart { IfOk result (λ how. Charts W.after W.passes (W.origin walker.old) how store.new.nodes.items chart.new front.end 0) }
-    ensures kept { chart.new.kept ≡ chart.old.kept }
-    ensures marks { length chart.new.marks.items ≡ length chart.old.marks.items }
-    ensures walker_origin { W.origin walker.new ≡ W.origin walker.old }
-    ensures base_origin { W.origin base.new ≡ W.origin base.old }
-    ensures other_origin { W.origin other.new ≡ W.origin other.old }
+    ensures advances { IfOk result (Advances W.place W.room W.origin W.after W.passes W.wanted (W.origin walker.old) front.depth front.end
+        store.old.most (P.over progress.new) store.new.nodes.items cache.new.items chart.new front.end 0) }
+    ensures stays { IfOk result (λ how. Stays W.origin (W.origin walker.old) walker.new base.new other.new store.old.most store.new.most
+        chart.old.kept (length chart.old.marks.items) chart.new) }
 {
     for at in begin..front.end {
         progress.tell(store.count(), front.depth);

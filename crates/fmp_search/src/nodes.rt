@@ -1,7 +1,6 @@
 //! The places that were found, and how they are made again.
-ghost use Rattle.std.specs.Prelude.{◌≡◌, ◌≤◌, ◌<◌, ◌+◌, ◌^◌, ◌⊎◌, length, Some, IfOk};
-ghost use Rattle.fmp_search.specs.Runs.{run};
-ghost use Rattle.fmp_search.specs.Trees.{found_at, IsTree, StandsAt};
+ghost use Rattle.std.specs.Prelude.{◌≡◌, ◌≤◌, ◌<◌, ◌^◌, ◌⊎◌, length, IfOk};
+ghost use Rattle.fmp_search.specs.Trees.{found_at, IsRunOver, IsTree, IsWay, Stands};
 
 use crate::paths::path_from;
 use crate::space::Space;
@@ -27,28 +26,25 @@ fn steps_from<W: Space>(
 ) -> Result<(usize, Vec<u8>), AllocError>
     requires tree { IsTree W.after (W.origin _walker.now) nodes.now }
     requires place { at ≤ length nodes.now }
-    ensures from { IfOk result (λ r. (r.0 ≡ stem) ⊎ (r.0 ≡ 0)) }
-    ensures leads { IfOk result (λ r. run W.after (found_at W.after (W.origin _walker.now) nodes.now r.0).place r.1.items ≡ Some
-        (found_at W.after (W.origin _walker.now) nodes.now at).place) }
-    ensures count { IfOk result (λ r. (found_at W.after (W.origin _walker.now) nodes.now r.0).depth + length r.1.items ≡
-        (found_at W.after (W.origin _walker.now) nodes.now at).depth) }
+    ensures { IfOk result (λ r. IsWay W.after (W.origin _walker.now) nodes.now stem at r.0 r.1.items) }
 {
     path_from(alloc, nodes, stem, at)
 }
 
-/// The numbers of the steps from where all runs begin to the place of a number, the first step first. The error is want of memory.
-pub(crate) fn steps_to<W: Space>(
+/// The numbers of the steps from where all runs begin to the place of a number, the first step first, and one step more. The error is want of memory.
+pub(crate) fn steps_over<W: Space>(
     alloc: Global,
     walker: &W,
     nodes: &[Node],
     at: usize,
+    last: u8,
 ) -> Result<Vec<u8>, AllocError>
     requires tree { IsTree W.after (W.origin walker.now) nodes.now }
     requires place { at ≤ length nodes.now }
-    ensures leads { IfOk result (λ v. run W.after (W.origin walker.now) v.items ≡ Some (found_at W.after (W.origin walker.now) nodes.now at).place) }
-    ensures count { IfOk result (λ v. length v.items ≡ (found_at W.after (W.origin walker.now) nodes.now at).depth) }
+    ensures { IfOk result (λ v. IsRunOver W.after (W.origin walker.now) nodes.now at last v.items) }
 {
-    let (_from, steps) = steps_from(alloc, walker, nodes, 0, at)?;
+    let (_from, mut steps) = steps_from(alloc, walker, nodes, 0, at)?;
+    steps.push(last)?;
     Ok(steps)
 }
 
@@ -60,11 +56,9 @@ fn set_out<W: Space>(
     stem: usize,
     from: usize,
 ) -> Result<(), AllocError>
-    requires trunk { StandsAt W.after (W.origin walker.old) _nodes.now stem (W.place trunk.now) (W.room trunk.now) }
-    requires origins { W.origin trunk.now ≡ W.origin walker.old }
+    requires trunk { Stands W.place W.room W.origin W.after (W.origin walker.old) _nodes.now stem trunk.now }
     requires from { (from ≡ stem) ⊎ (from ≡ 0) }
-    ensures there { IfOk result (λ done. StandsAt W.after (W.origin walker.old) _nodes.now from (W.place walker.new) (W.room walker.new)) }
-    ensures origin { W.origin walker.new ≡ W.origin walker.old }
+    ensures { IfOk result (λ done. Stands W.place W.room W.origin W.after (W.origin walker.old) _nodes.now from walker.new) }
 {
     if from == stem {
         walker.copy_from(trunk)
@@ -86,10 +80,8 @@ pub(crate) fn stand_at<W: Space>(
     requires tree { IsTree W.after (W.origin walker.old) nodes.now }
     requires place { at ≤ length nodes.now }
     requires depth { (found_at W.after (W.origin walker.old) nodes.now at).depth < 2 ^ 31 }
-    requires trunk { StandsAt W.after (W.origin walker.old) nodes.now stem (W.place trunk.now) (W.room trunk.now) }
-    requires origins { W.origin trunk.now ≡ W.origin walker.old }
-    ensures there { IfOk result (λ done. StandsAt W.after (W.origin walker.old) nodes.now at (W.place walker.new) (W.room walker.new)) }
-    ensures origin { W.origin walker.new ≡ W.origin walker.old }
+    requires trunk { Stands W.place W.room W.origin W.after (W.origin walker.old) nodes.now stem trunk.now }
+    ensures { IfOk result (λ done. Stands W.place W.room W.origin W.after (W.origin walker.old) nodes.now at walker.new) }
 {
     let (from, steps) = steps_from(alloc, walker, nodes, stem, at)?;
     set_out(walker, trunk, nodes, stem, from)?;

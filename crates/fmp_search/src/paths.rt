@@ -1,6 +1,6 @@
 //! The steps to a place.
-ghost use Rattle.std.specs.Prelude.{◌≡◌, ◌≤◌, ◌++◌, ◌⊎◌, length, IfOk};
-ghost use Rattle.fmp_search.specs.Roots.{path_at, AreAfter};
+ghost use Rattle.std.specs.Prelude.{◌≤◌, length, IfOk};
+ghost use Rattle.fmp_search.specs.Roots.{AreAfter, IsPath};
 
 use crate::nodes::Node;
 use std::alloc::{AllocError, Global};
@@ -15,9 +15,7 @@ pub(crate) fn path_from(
 ) -> Result<(usize, Vec<u8>), AllocError>
     requires following { AreAfter nodes.now }
     requires place { at ≤ length nodes.now }
-    ensures from { IfOk result (λ r. (r.0 ≡ stem) ⊎ (r.0 ≡ 0)) }
-    ensures path { IfOk result (λ r. path_at nodes.now r.0 ++ r.1.items ≡ path_at nodes.now at) }
-    ensures place { IfOk result (λ r. r.0 ≤ length nodes.now) }
+    ensures { IfOk result (λ r. IsPath nodes.now stem at r.0 r.1.items) }
 {
     let mut steps = Vec::new(alloc);
     let mut place = at;

@@ -13,7 +13,7 @@ use crate::edges::{Edge, Edges};
 use crate::extent::{Extent, extent_of};
 use crate::layer::Layer;
 use crate::marks::spread;
-use crate::nodes::{Node, steps_to};
+use crate::nodes::{Node, steps_over};
 use crate::progress::Progress;
 use crate::space::Space;
 use crate::surveying::go_through;
@@ -163,8 +163,7 @@ fn run_over<W: Space>(
     if marks[edge.to as usize] {
         return Ok(None);
     }
-    let mut steps = steps_to(alloc, walker, nodes, edge.from as usize)?;
-    steps.push(edge.step)?;
+    let steps = steps_over(alloc, walker, nodes, edge.from as usize, edge.step)?;
     Ok(Some(Run { test, steps }))
 }
 

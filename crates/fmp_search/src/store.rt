@@ -1,7 +1,7 @@
 //! All places that were found, and a table by which one is found again.
-ghost use Rattle.std.specs.Prelude.{◌≡◌, ◌≤◌, ◌<◌, ◌+◌, ◌^◌, ◌++◌, ◌∷◌, ◌↔◌, [], true, length, IfOk, IfSome, ℕ};
-ghost use Rattle.fmp_search.specs.Cache.{IsCache};
-ghost use Rattle.fmp_search.specs.Trees.{found_at, IsAt, IsTree};
+ghost use Rattle.std.specs.Prelude.{◌≡◌, ◌≤◌, ◌<◌, ◌+◌, ◌^◌, ◌++◌, ◌∷◌, ◌↔◌, [], true, length, IfOk, IfSome};
+ghost use Rattle.fmp_search.specs.Cache.{AreNear};
+ghost use Rattle.fmp_search.specs.Trees.{IsAt};
 
 use crate::cache::{Cached, go_to};
 use crate::nodes::Node;
@@ -30,11 +30,24 @@ fn put_all(table: &mut [u32], first: u64, nodes: &[Node])
     }
 }
 
+/// Makes the table of the places of these nodes larger where it is half full: twice as large, but not larger than that of as many places as there may be.
+/// The error is want of memory.
+fn make_room(table: &mut Vec<u32>, first: u64, nodes: &[Node], most: u32) -> Result<(), AllocError>
+    requires { length nodes.now < 2 ^ 32 }
+{
+    if nodes.len() < table.len() / 2 {
+        return Ok(());
+    }
+    let slots = (4 * nodes.len() + LEAST).min(2 * most as usize + 2);
+    clear_for(table, slots)?;
+    put_all(table, first, nodes);
+    Ok(())
+}
+
 impl Store {
     /// A store of no place but where all runs begin, to which at most so many more may be added.
     pub(crate) fn new(alloc: Global, hash: u64, most: u32) -> Result<Store, AllocError>
-        ensures empty { IfOk result (λ s. s.nodes.items ≡ []) }
-        ensures room { IfOk result (λ s. s.most ≡ most) }
+        ensures { IfOk result (λ s. (s.nodes.items ≡ []) × (s.most ≡ most)) }
     {
         let mut table = vec![in alloc; NOBODY; LEAST]?;
         put(&mut table, hash, 0);
@@ -60,42 +73,26 @@ impl Store {
         self.nodes.len() >= self.most as usize
     }
 
-    /// Makes the table larger where it is half full: twice as large, but not larger than that of as many places as there may be. The error is want of memory.
-    fn make_room(&mut self) -> Result<(), AllocError>
-        ensures nodes { self.new.nodes ≡ self.old.nodes }
-        ensures room { self.new.most ≡ self.old.most }
-    {
-        let count = self.nodes.len();
-        if count < self.table.len() / 2 {
-            return Ok(());
-        }
-        let slots = (4 * count + LEAST).min(2 * self.most as usize + 2);
-        clear_for(&mut self.table, slots)?;
-        put_all(&mut self.table, self.first, &self.nodes);
-        Ok(())
-    }
-
     /// Adds a place after the others, which the table then has too. The error is want of memory.
     pub(crate) fn push(&mut self, node: Node) -> Result<(), AllocError>
         requires { length self.old.nodes.items < self.old.most }
-        ensures more { IfOk result (λ done. self.new.nodes.items ≡ self.old.nodes.items ++ node ∷ []) }
-        ensures room { self.new.most ≡ self.old.most }
+        ensures { IfOk result (λ done. (self.new.nodes.items ≡ self.old.nodes.items ++ node ∷ []) × (self.new.most ≡ self.old.most)) }
     {
-        self.make_room()?;
+        make_room(&mut self.table, self.first, &self.nodes, self.most)?;
         let place = self.nodes.len() as u32 + 1;
         self.nodes.push(node)?;
         put(&mut self.table, node.hash, place);
         Ok(())
     }
 
-    /// Whether the place of a number has this hash. Others may have the same.
+    /// Whether there is a place of a number, and it has this hash. Others may have the same.
     fn has_hash(&self, place: usize, hash: u64) -> bool
-        requires { place ≤ length self.now.nodes.items }
+        ensures { result ≡ true → place ≤ length self.now.nodes.items }
     {
         if place == 0 {
             self.first == hash
         } else {
-            self.nodes[place - 1].hash == hash
+            place <= self.nodes.len() && self.nodes[place - 1].hash == hash
         }
     }
 
@@ -108,12 +105,9 @@ impl Store {
         cache: &[Cached<W>],
         hash: u64,
     ) -> Result<Option<u32>, AllocError>
-        requires tree { IsTree W.after (W.origin other.old) self.now.nodes.items }
+        requires near { AreNear W.place W.room W.origin W.after (W.origin other.old) self.now.nodes.items cache.now }
         requires origins { W.origin other.old ≡ W.origin walker.now }
-        requires cache { IsCache W.place W.room W.origin W.after (W.origin other.old) self.now.nodes.items cache.now }
-        requires depths { (i : ℕ) → i ≤ length self.now.nodes.items → (found_at W.after (W.origin other.old) self.now.nodes.items i).depth < 2 ^ 31 }
-        ensures known { IfOk result (λ n. IfSome n (λ i. IsAt W.after (W.origin other.old) self.now.nodes.items i (W.place walker.now))) }
-        ensures origin { W.origin other.new ≡ W.origin other.old }
+        ensures { IfOk result (λ n. (W.origin other.new ≡ W.origin other.old) × IfSome n (λ i. IsAt W.after (W.origin other.old) self.now.nodes.items i (W.place walker.now))) }
     {
         let slots = self.table.len();
         for turn in 0..slots {
@@ -139,16 +133,10 @@ impl Store {
         hash: u64,
         number: usize,
     ) -> Result<bool, AllocError>
-        requires tree { IsTree W.after (W.origin other.old) self.now.nodes.items }
+        requires near { AreNear W.place W.room W.origin W.after (W.origin other.old) self.now.nodes.items cache.now }
         requires origins { W.origin other.old ≡ W.origin walker.now }
-        requires cache { IsCache W.place W.room W.origin W.after (W.origin other.old) self.now.nodes.items cache.now }
-        requires depths { (i : ℕ) → i ≤ length self.now.nodes.items → (found_at W.after (W.origin other.old) self.now.nodes.items i).depth < 2 ^ 31 }
-        ensures known { IfOk result (λ k. k ≡ true → IsAt W.after (W.origin other.old) self.now.nodes.items number (W.place walker.now)) }
-        ensures origin { W.origin other.new ≡ W.origin other.old }
+        ensures { IfOk result (λ k. (W.origin other.new ≡ W.origin other.old) × (k ≡ true → IsAt W.after (W.origin other.old) self.now.nodes.items number (W.place walker.now))) }
     {
-        if number > self.nodes.len() {
-            return Ok(false);
-        }
         if !self.has_hash(number, hash) {
             return Ok(false);
         }

@@ -1,7 +1,6 @@
 //! Going through places, the nearest first.
-ghost use Rattle.std.specs.Prelude.{◌≡◌, ◌<◌, ◌^◌, length, IfOk};
-ghost use Rattle.fmp_search.specs.Surveys.{GoesSo, IsSurveyed};
-ghost use Rattle.fmp_search.specs.Growth.{IsOverBy};
+ghost use Rattle.std.specs.Prelude.{◌≡◌, ◌<◌, ◌^◌, IfOk};
+ghost use Rattle.fmp_search.specs.Surveys.{Surveys};
 
 use crate::cache::first_cached;
 use crate::chart::Chart;
@@ -52,14 +51,8 @@ pub(crate) fn go_through<W: Space + Drop, P: Progress>(
 ) -> Result<Survey, AllocError>
     requires origins { (W.origin base.old ≡ W.origin walker.old) × (W.origin other.old ≡ W.origin walker.old) × (W.origin trunk.old ≡ W.origin walker.old) }
     requires turns { turns < 2 ^ 31 }
-    ensures surveyed { IfOk result (λ s. IsSurveyed W.after W.passes (W.origin walker.old) s) }
-    ensures through { IfOk result (λ s. GoesSo W.after W.wanted (W.origin walker.old) turns most s.nodes.items s.depth s.chart.opened s.how) }
-    ensures over { IfOk result (λ s. IsOverBy (P.over progress.new) s.how) }
-    ensures kept { IfOk result (λ s. s.chart.kept ≡ kept) }
-    ensures marks { IfOk result (λ s. length s.chart.marks.items ≡ count) }
-    ensures walker_origin { W.origin walker.new ≡ W.origin walker.old }
-    ensures base_origin { W.origin base.new ≡ W.origin base.old }
-    ensures trunk_origin { W.origin trunk.new ≡ W.origin trunk.old }
+    ensures surveys { IfOk result (Surveys W.after W.passes W.wanted (W.origin walker.old) turns most (P.over progress.new) kept count) }
+    ensures origin { IfOk result (λ s. W.origin walker.new ≡ W.origin walker.old) }
 {
     trunk.restart()?;
     let mut store = Store::new(alloc, trunk.hash(), most)?;

@@ -18,21 +18,21 @@ returns-in-Found-clause-says g c =
     let found = c.in_ok-how.field-0 in
     let q = g.W.Space.origin c.args.walker.now in
     let through = subst (λ (how : Layer). GoesSo g.W.Space.after g.W.Space.wanted q c.args.turns c.args.most found.nodes.items found.depth found.chart.opened how)
-    c.in-Found.is c.in_ok-how.ensures.through in
+    c.in-Found.is c.in_ok-how.ensures.surveys.through in
     (through.1, through.2)
 
 pub returns-in_ok-extent-in-Full-clause-went : goal.returns-in_ok-extent-in-Full-clause-went
 returns-in_ok-extent-in-Full-clause-went g c =
     let nodes = c.in_ok-how.field-0.nodes.items in
     let q = g.W.Space.origin c.args.walker.now in
-    let all = c.in_ok-how.ensures.surveyed.found in
+    let all = c.in_ok-how.ensures.surveys.surveyed.found in
     (nodes, gone g.W.Space.after q nodes _ _ all.tree all.apart c.deref.ensures.value c.in_ok-extent-in-Full.ensures, all.complete)
 
 pub returns-in_ok-extent-in-Over-clause-went : goal.returns-in_ok-extent-in-Over-clause-went
 returns-in_ok-extent-in-Over-clause-went g c =
     let nodes = c.in_ok-how.field-0.nodes.items in
     let q = g.W.Space.origin c.args.walker.now in
-    let all = c.in_ok-how.ensures.surveyed.found in
+    let all = c.in_ok-how.ensures.surveys.surveyed.found in
     (nodes, gone g.W.Space.after q nodes _ _ all.tree all.apart c.deref-in-Over.ensures.value c.in_ok-extent-in-Over.ensures, all.complete)
 
 pub returns-then-chart-len-clause-says : goal.returns-then-chart-len-clause-says
@@ -43,7 +43,7 @@ returns-then-chart-len-clause-says g c =
     let found = c.in_ok-how.field-0 in
     let nodes = found.nodes.items in
     let opened = found.chart.opened in
-    let through = subst (λ (how : Layer). GoesSo after wanted q c.args.turns c.args.most nodes found.depth opened how) c.in-Done.is c.in_ok-how.ensures.through in
+    let through = subst (λ (how : Layer). GoesSo after wanted q c.args.turns c.args.most nodes found.depth opened how) c.in-Done.is c.in_ok-how.ensures.surveys.through in
     let is = c.if-chart-len.true in
     let count = c.len.ensures in
     let long = found.nodes.ok.0 in
@@ -58,12 +58,12 @@ returns-then-chart-len-clause-went g c =
     let found = c.in_ok-how.field-0 in
     let nodes = found.nodes.items in
     let opened = found.chart.opened in
-    let through = subst (λ (how : Layer). GoesSo after wanted q c.args.turns c.args.most nodes found.depth opened how) c.in-Done.is c.in_ok-how.ensures.through in
+    let through = subst (λ (how : Layer). GoesSo after wanted q c.args.turns c.args.most nodes found.depth opened how) c.in-Done.is c.in_ok-how.ensures.surveys.through in
     let is = c.if-chart-len.true in
     let count = c.len.ensures in
     let long = found.nodes.ok.0 in
     let all : opened ≡ length nodes + 1 = omega (arith, is, count, long) in
-    let places = c.in_ok-how.ensures.surveyed.found in
+    let places = c.in_ok-how.ensures.surveys.surveyed.found in
     (nodes, gone after q nodes _ _ places.tree places.apart c.deref-in-Done.ensures.value c.in_ok-extent-in-Done.ensures, all_near after q wanted nodes found.depth opened through.explored all)
 
 pub returns-else-chart-len-clause-says : goal.returns-else-chart-len-clause-says
@@ -74,7 +74,7 @@ returns-else-chart-len-clause-says g c =
     let found = c.in_ok-how.field-0 in
     let nodes = found.nodes.items in
     let opened = found.chart.opened in
-    let through = subst (λ (how : Layer). GoesSo after wanted q c.args.turns c.args.most nodes found.depth opened how) c.in-Done.is c.in_ok-how.ensures.through in
+    let through = subst (λ (how : Layer). GoesSo after wanted q c.args.turns c.args.most nodes found.depth opened how) c.in-Done.is c.in_ok-how.ensures.surveys.through in
     let count = c.len.ensures in
     let long = found.nodes.ok.0 in
     let some = c.if-chart-len.false in
@@ -92,7 +92,7 @@ returns-else-chart-len-clause-leaves g c =
     let found = c.in_ok-how.field-0 in
     let nodes = found.nodes.items in
     let opened = found.chart.opened in
-    let through = subst (λ (how : Layer). GoesSo after wanted q c.args.turns c.args.most nodes found.depth opened how) c.in-Done.is c.in_ok-how.ensures.through in
+    let through = subst (λ (how : Layer). GoesSo after wanted q c.args.turns c.args.most nodes found.depth opened how) c.in-Done.is c.in_ok-how.ensures.surveys.through in
     let following = through.passed.few in
     let count = c.len.ensures in
     let long = found.nodes.ok.0 in
@@ -108,5 +108,5 @@ pub returns-else-chart-len-clause-went : goal.returns-else-chart-len-clause-went
 returns-else-chart-len-clause-went g c =
     let nodes = c.in_ok-how.field-0.nodes.items in
     let q = g.W.Space.origin c.args.walker.now in
-    let all = c.in_ok-how.ensures.surveyed.found in
+    let all = c.in_ok-how.ensures.surveys.surveyed.found in
     (nodes, gone g.W.Space.after q nodes _ _ all.tree all.apart c.deref-in-Done.ensures.value c.in_ok-extent-in-Done.ensures, all.complete)

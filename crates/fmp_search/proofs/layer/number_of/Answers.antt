@@ -1,41 +1,47 @@
-use Rattle.std.proofs.Common.{◌+◌, ◌≡◌, ◌∙◌, List, [], ◌∷◌, ◌++◌, length, arith, ap, refl, sym, subst}
-use Rattle.std.proofs.lemmas.Grind.{common_steps}
-use Rattle.fmp_search.specs.declared.nodes.Node.{Node}
-use Rattle.fmp_search.specs.Growth.{AreBefore}
+use Rattle.std.proofs.Common.{ℕ, Option, arith, refl, sym, subst}
+use Rattle.std.specs.Prelude.{IfSome}
+use Rattle.fmp_search.specs.Cache.{AreNear}
 use Rattle.fmp_search.specs.Trees.{IsAt}
-use Rattle.fmp_search.proofs.Apart.{before_more}
-use Rattle.fmp_search.proofs.InCache.{cache_stays}
-use Rattle.fmp_search.proofs.Growth.{stepped}
+use Rattle.fmp_search.proofs.Fronts.{front_known, front_more, near_of}
 use Rattle.fmp_search.proofs.layer.number_of.Goals as goal
 
-longer : (xs : List Node) (x : Node) → length (xs ++ x ∷ []) ≡ length xs + 1
-longer xs x = grind (arith, common_steps)
+pub find-requires-clause-near : goal.find-requires-clause-near
+find-requires-clause-near g c =
+    let W = g.W.Space in
+    let q = W.origin c.args.walker.now in
+    let nodes = c.args.store.now.nodes.items in
+    subst (λ x. AreNear W.place W.room W.origin W.after x nodes c.args.cache.now) (sym c.requires.origins)
+    (near_of W.place W.room W.origin W.after W.wanted q c.args.front.depth c.args.front.end nodes c.args.cache.now c.args.at c.args.step c.args.front.shallow c.requires.front)
 
 pub overflow_cast-at : goal.overflow_cast-at
 overflow_cast-at g c =
-    let few = c.requires.explored.few in
+    let few = c.requires.front.explored.few in
     let small = c.args.store.now.small in
     let place = c.requires.place in
-    search (arith, few, small, place)
+    omega (arith, few, small, place)
 
-pub returns-clause-number : goal.returns-clause-number
-returns-clause-number g c =
-    let after = g.W.Space.after in
-    let q = g.W.Space.origin c.args.walker.now in
+pub returns-in-Some : goal.returns-in-Some
+returns-in-Some g c =
+    let W = g.W.Space in
+    let q = W.origin c.args.walker.now in
     let nodes = c.args.store.now.nodes.items in
-    let more = c.push.new.self.nodes.items in
-    let got = stepped after q g.W.Space.wanted nodes more c.args.front.depth c.args.front.end c.args.at _ (g.W.Space.place c.args.walker.now) c.requires.explored c.requires.place refl
-    c.requires.made c.requires.clean c.in_ok-push.ensures.more in
-    let long : length more ≡ length nodes + 1 = ap (λ (xs : List Node). length xs) c.in_ok-push.ensures.more ∙ longer nodes _ in
-    let len = c.len.ensures in
-    let same : c.len.result ≡ length nodes + 1 = search (arith, long, len) in
-    (got.0, got.1, subst (λ n. IsAt after q more n (g.W.Space.place c.args.walker.now)) (sym same) got.2)
+    let r = W.place c.args.walker.now in
+    let found = subst (λ (o : Option ℕ). IfSome o (λ i. IsAt W.after (W.origin c.args.other.now) nodes i r)) c.in-Some.is c.in_ok-number.ensures.1 in
+    record {
+      number = front_known W.place W.room W.origin W.after W.wanted q c.args.front.depth c.args.front.end nodes c.args.cache.now c.args.at c.args.step c.in-Some.number r c.requires.place c.requires.made
+          (subst (λ x. IsAt W.after x nodes c.in-Some.number r) c.requires.origins found) c.requires.front;
+      stays = (refl, c.in_ok-number.ensures.0);
+    }
 
-pub returns-clause-leaves : goal.returns-clause-leaves
-returns-clause-leaves g c =
-    subst (λ (ns : List Node). AreBefore ns c.args.at (c.args.step + 1)) (sym c.in_ok-push.ensures.more) (before_more c.args.store.now.nodes.items _ c.requires.before)
-
-pub returns-clause-cache : goal.returns-clause-cache
-returns-clause-cache g c =
-    let q = g.W.Space.origin c.args.walker.now in
-    cache_stays g.W.Space.place g.W.Space.room g.W.Space.origin g.W.Space.after q c.args.store.now.nodes.items c.push.new.self.nodes.items _ c.args.cache.now c.in_ok-push.ensures.more c.requires.cache
+pub returns : goal.returns
+returns g c =
+    let W = g.W.Space in
+    let q = W.origin c.args.walker.now in
+    let nodes = c.args.store.now.nodes.items in
+    let count = c.len.ensures in
+    let long = c.push.new.self.nodes.ok.0 in
+    record {
+      number = front_more W.place W.room W.origin W.after W.wanted q c.args.front.depth c.args.front.end nodes c.push.new.self.nodes.items c.args.cache.now c.args.at c.args.step _ _
+          (W.place c.args.walker.now) c.requires.place c.requires.made c.requires.clean c.in_ok-push.ensures.0 (omega (arith, count, long)) c.requires.front;
+      stays = (c.in_ok-push.ensures.1, c.in_ok-number.ensures.0);
+    }

@@ -1,100 +1,132 @@
-use Rattle.std.proofs.Common.{ℕ, ◌+◌, ◌≤◌, ◌≡◌, ◌∙◌, true, List, [], ◌∷◌, ◌++◌, Option, Some, length, ap, arith, subst, sym}
-use Rattle.std.proofs.lemmas.Grind.{common_steps}
-use Rattle.fmp_search.specs.Runs.{Watches}
-use Rattle.fmp_search.specs.Trees.{Found, found_at}
+use Rattle.std.proofs.Common.{ℕ, ◌≡◌, ◌∙◌, List, Option, Some, length, refl, ap, arith, subst, sym}
 use Rattle.fmp_search.specs.declared.nodes.Node.{Node}
-use Rattle.fmp_search.specs.Growth.{AreFound, LeavesRoom, Numbers}
-use Rattle.fmp_search.proofs.Charted.{charting_more, charting_same, edge_is_true, joined_by, not_there, step_there}
-use Rattle.fmp_search.proofs.Layers.{is-shortest}
-use Rattle.fmp_search.proofs.Noted.{noted_more, not_marked}
-use Rattle.fmp_search.proofs.Growth.{leads_there, depth_there, found_here, none_of}
+use Rattle.fmp_search.specs.Runs.{Watches}
+use Rattle.fmp_search.specs.Trees.{found_at, IsRunOver, IsTree}
+use Rattle.fmp_search.specs.Fronts.{IsFront, IsStopped, Numbers}
+use Rattle.fmp_search.specs.Growth.{Extends}
+use Rattle.fmp_search.proofs.Fronts.{extends_same, found_there, goes_there, open_more, open_same, stopped_here}
+use Rattle.fmp_search.proofs.Growth.{none_of}
 use Rattle.fmp_search.proofs.layer.try_step.Goals as goal
 
-one_more : (steps : List ℕ) (s n : ℕ) → length steps ≤ n → length (steps ++ s ∷ []) ≤ n + 1
-one_more steps s n few = grind (arith, common_steps, few)
+pub step_from-requires-clause-room : goal.step_from-requires-clause-room
+step_from-requires-clause-room g c =
+    let roomy = c.requires.base.stands.roomy in
+    let near = c.requires.opening.front.explored.near c.args.at c.requires.place in
+    let shallow = c.args.front.shallow in
+    omega (arith, roomy, near, shallow)
 
-pub returns-then-is_wanted-clause-steps : goal.returns-then-is_wanted-clause-steps
-returns-then-is_wanted-clause-steps g c =
-    let after = g.W.Space.after in
-    let passes = g.W.Space.passes in
-    let q = g.W.Space.origin c.args.walker.now in
+pub returns-in_default : goal.returns-in_default
+returns-in_default g c =
+    let W = g.W.Space in
+    let q = W.origin c.args.walker.now in
     let nodes = c.args.store.now.nodes.items in
-    let at = c.args.at in
-    let p = g.W.Space.place c.copy_from.new.self in
-    let r = g.W.Space.place c.watch.new.self in
-    let same : g.W.Space.origin c.watch.new.self ≡ q = c.watch.ensures.origin ∙ c.copy_from.ensures.origin in
-    let report = subst (λ (o : Option ℕ). Watches (after p c.args.step) (passes p c.args.step) o r) c.in-Some.is c.in_ok-passes.ensures.goes in
-    let there = c.in_ok-copy_from.ensures.there ∙ c.requires.base in
-    let went = step_there after passes q nodes p r c.args.step c.in-Some.passes report in
-    let step = subst (λ (y : g.W.Space.Place). after y c.args.step ≡ Some r) there went.0 in
-    let list = c.deref.ensures.value in
-    let leads = leads_there after _ q _ nodes c.in_ok-steps.steps.items at same list c.in_ok-steps.ensures.leads in
-    let count = depth_there after _ q _ nodes (length c.in_ok-steps.steps.items) at same list c.in_ok-steps.ensures.count in
-    let near = c.requires.explored.near at c.requires.place in
-    let few : length c.in_ok-steps.steps.items ≤ c.args.front.depth = omega (arith, count, near) in
-    rw c.in_ok-push.ensures.items (
-      one_more c.in_ok-steps.steps.items c.args.step c.args.front.depth few,
-      is-shortest after g.W.Space.wanted q nodes c.args.front.depth c.args.front.end at c.args.step c.in_ok-steps.steps.items r c.requires.explored c.requires.place
-          leads few step (sym c.if-is_wanted.ensures),
-    )
+    let p = W.place c.args.base.now in
+    let r = W.place c.step_from.new.walker in
+    let none = none_of c.in_ok-passes.field-0 c.in_default.not-Some in
+    let watched = subst (λ (o : Option ℕ). Watches (W.after p c.args.step) (W.passes p c.args.step) o r) none c.in_ok-passes.ensures.watched.goes in record {
+      advances = open_same W.place W.room W.origin W.after W.passes W.wanted q c.args.front.depth c.args.front.end nodes c.args.cache.now c.args.chart.now c.args.at c.args.step c.requires.opening
+          c.requires.place p r c.requires.base.stands.there watched;
+      stays = record { walker_origin = c.step_from.ensures.origin; base_origin = c.requires.base.same; other_origin = c.requires.other; same_room = refl; same = refl; marks = refl };
+      extends = extends_same W.after q nodes;
+      closed = c.in_ok-passes.ensures.watched.closed;
+    }
 
-pub returns-clause-chart : goal.returns-clause-chart
-returns-clause-chart g c =
-    let after = g.W.Space.after in
-    let passes = g.W.Space.passes in
-    let wanted = g.W.Space.wanted in
-    let q = g.W.Space.origin c.args.walker.now in
+pub steps_over-requires-clause-tree : goal.steps_over-requires-clause-tree
+steps_over-requires-clause-tree g c =
+    let W = g.W.Space in
+    subst (λ (ns : List Node). IsTree W.after (W.origin c.step_from.new.walker) ns) (sym c.deref.ensures.value)
+    (subst (λ x. IsTree W.after x c.args.store.now.nodes.items) (sym c.step_from.ensures.origin) c.requires.opening.front.explored.tree)
+
+pub returns-then-is_wanted : goal.returns-then-is_wanted
+returns-then-is_wanted g c =
+    let W = g.W.Space in
+    let q = W.origin c.args.walker.now in
     let nodes = c.args.store.now.nodes.items in
-    let more = c.number_of.new.store.nodes.items in
-    let at = c.args.at in
-    let s = c.args.step in
-    let n = c.args.front.depth in
-    let first = c.args.front.end in
-    let p = g.W.Space.place c.copy_from.new.self in
-    let r = g.W.Space.place c.watch.new.self in
-    let same : g.W.Space.origin c.watch.new.self ≡ q = c.watch.ensures.origin ∙ c.copy_from.ensures.origin in
-    let report = subst (λ (o : Option ℕ). Watches (after p s) (passes p s) o r) c.in-Some.is c.in_ok-passes.ensures.goes in
-    let number = subst (λ (o : Option ℕ). Numbers after wanted (g.W.Space.origin c.watch.new.self) nodes n first at r o more) c.in-Some-2.is c.in_ok-to.ensures.number in
-    let got = subst (λ x. Numbers after wanted x nodes n first at r (Some c.in-Some-2.to) more) same number in
-    let place = c.requires.place in
-    let first_few = c.requires.explored.few in
-    let few : at ≤ length nodes = omega (arith, place, first_few) in
-    let longer = got.1.longer in
-    let few_more : at ≤ length more = omega (arith, few, longer) in
-    let there = c.in_ok-copy_from.ensures.there ∙ c.requires.base ∙ sym (ap (λ (f : Found g.W.Space.Place). f.place) (got.1.stays at few)) in
-    charting_more after passes q nodes more got.1 c.args.chart.now c.add.new.self at s _ few c.add.ensures.opened c.add.ensures.kept c.in_ok-add.ensures.added
-    (edge_is_true after passes q more at s c.in-Some.passes c.in-Some-2.to p r few_more there report got.2)
-    (λ is. let was : c.args.chart.now.kept ≡ true = sym c.add.ensures.kept ∙ is in
-    joined_by after passes q more c.args.chart.now.edges c.add.new.self.edges at s c.in-Some.passes c.in-Some-2.to p r (c.in_ok-add.ensures.added was) there report got.2)
-    (noted_more after passes q nodes more got.1 c.args.chart.now.marks.items c.add.new.self.marks.items at s c.in-Some.passes p r few c.add.ensures.noted there report c.requires.chart.noted)
-    c.requires.chart
+    let p = W.place c.args.base.now in
+    let r = W.place c.step_from.new.walker in
+    let watched = subst (λ (o : Option ℕ). Watches (W.after p c.args.step) (W.passes p c.args.step) o r) c.in-Some.is c.in_ok-passes.ensures.watched.goes in
+    let steps = c.in_ok-steps_over.field-0.items in
+    let over = subst (λ (ns : List Node). IsRunOver W.after q ns c.args.at c.args.step steps) c.deref.ensures.value
+    (subst (λ x. IsRunOver W.after x c.deref.result.now c.args.at c.args.step steps) c.step_from.ensures.origin c.in_ok-steps_over.ensures) in record {
+      advances = found_there W.place W.room W.origin W.after W.passes W.wanted q c.args.front.depth c.args.front.end nodes c.args.cache.now c.args.chart.now c.args.at c.args.step c.requires.opening
+          c.requires.place p r c.requires.base.stands.there c.in-Some.passes watched steps (sym c.if-is_wanted.ensures) over;
+      stays = record { walker_origin = c.step_from.ensures.origin; base_origin = c.requires.base.same; other_origin = c.requires.other; same_room = refl; same = refl; marks = refl };
+      extends = extends_same W.after q nodes;
+      closed = c.in_ok-passes.ensures.watched.closed;
+    }
 
-pub returns-in_default-2-clause-fills : goal.returns-in_default-2-clause-fills
-returns-in_default-2-clause-fills g c =
-    let after = g.W.Space.after in
-    let wanted = g.W.Space.wanted in
-    let q = g.W.Space.origin c.args.walker.now in
+pub number_of-requires : goal.number_of-requires
+number_of-requires g c =
+    let W = g.W.Space in
+    let q = W.origin c.args.walker.now in
+    let nodes = c.args.store.now.nodes.items in
+    let front = c.args.front in
+    let same = c.step_from.ensures.origin in
+    let p = W.place c.args.base.now in
+    let r = W.place c.step_from.new.walker in
+    let watched = subst (λ (o : Option ℕ). Watches (W.after p c.args.step) (W.passes p c.args.step) o r) c.in-Some.is c.in_ok-passes.ensures.watched.goes in
+    let goes = goes_there W.place W.room W.origin W.after W.passes W.wanted q front.depth front.end nodes c.args.cache.now c.args.chart.now c.args.at c.args.step c.requires.opening
+    c.requires.place p r c.requires.base.stands.there c.in-Some.passes watched in record {
+      front = subst (λ x. IsFront W.place W.room W.origin W.after W.wanted x front.depth front.end nodes c.args.cache.now c.args.at c.args.step) (sym same) c.requires.opening.front;
+      place = c.requires.place;
+      made = subst (λ x. W.after (found_at W.after x nodes c.args.at).place c.args.step ≡ Some r) (sym same) goes;
+      clean = sym c.if-is_wanted.ensures;
+      origins = c.requires.other ∙ sym same;
+    }
+
+pub returns-in_default-2 : goal.returns-in_default-2
+returns-in_default-2 g c =
+    let W = g.W.Space in
+    let q = W.origin c.args.walker.now in
     let nodes = c.args.store.now.nodes.items in
     let more = c.number_of.new.store.nodes.items in
     let front = c.args.front in
-    let r = g.W.Space.place c.watch.new.self in
+    let most = c.args.store.now.most in
     let none = none_of c.in_ok-to.field-0 c.in_default-2.not-Some in
-    let number = subst (λ (o : Option ℕ). Numbers after wanted (g.W.Space.origin c.watch.new.self) nodes front.depth front.end c.args.at r o more) none c.in_ok-to.ensures.number in
-    let room = subst (λ (o : Option ℕ). LeavesRoom c.args.store.now.most c.args.at c.args.step o more) none c.in_ok-to.ensures.leaves in
-    (subst (λ (ns : List Node). AreFound after q front.depth ns) (sym number) (found_here after q wanted nodes front.depth front.end c.args.at c.args.at c.args.step c.requires.explored c.requires.before), room)
+    let number = subst (λ (o : Option ℕ). Numbers W.place W.room W.origin W.after W.wanted (W.origin c.step_from.new.walker) front.depth front.end most nodes c.args.cache.now c.args.at c.args.step
+    (W.place c.step_from.new.walker) o more) none c.in_ok-to.ensures.number in record {
+      advances = (
+        subst (λ (ns : List Node). IsStopped W.after W.passes q front.depth ns c.args.chart.now) (sym number.0)
+            (stopped_here W.place W.room W.origin W.after W.passes W.wanted q front.depth front.end nodes c.args.cache.now c.args.chart.now c.args.at c.args.step c.requires.opening),
+        ap (λ (ns : List Node). length ns) number.0 ∙ number.1,
+      );
+      stays = record {
+        walker_origin = c.step_from.ensures.origin;
+        base_origin = c.requires.base.same;
+        other_origin = c.in_ok-to.ensures.stays.1 ∙ c.requires.other;
+        same_room = c.in_ok-to.ensures.stays.0;
+        same = refl;
+        marks = refl;
+      };
+      extends = subst (λ (ns : List Node). Extends W.after q nodes ns) (sym number.0) (extends_same W.after q nodes);
+      closed = c.in_ok-passes.ensures.watched.closed;
+    }
 
-pub returns-in_default-clause-chart : goal.returns-in_default-clause-chart
-returns-in_default-clause-chart g c =
-    let after = g.W.Space.after in
-    let passes = g.W.Space.passes in
-    let q = g.W.Space.origin c.args.walker.now in
+pub returns : goal.returns
+returns g c =
+    let W = g.W.Space in
+    let q = W.origin c.args.walker.now in
     let nodes = c.args.store.now.nodes.items in
-    let at = c.args.at in
-    let s = c.args.step in
-    let p = g.W.Space.place c.copy_from.new.self in
-    let r = g.W.Space.place c.watch.new.self in
-    let none = none_of c.in_ok-passes.field-0 c.in_default.not-Some in
-    let report = subst (λ (o : Option ℕ). Watches (after p s) (passes p s) o r) none c.in_ok-passes.ensures.goes in
-    let there = c.in_ok-copy_from.ensures.there ∙ c.requires.base in
-    charting_same after passes q nodes c.args.chart.now at s (not_there after passes q nodes c.args.chart.now.edges at s p r there report)
-    (not_marked after passes p (found_at after q nodes at).place r c.args.chart.now.marks.items s there report) c.requires.chart
+    let more = c.number_of.new.store.nodes.items in
+    let front = c.args.front in
+    let p = W.place c.args.base.now in
+    let r = W.place c.step_from.new.walker in
+    let to = c.in-Some-2.to in
+    let watched = subst (λ (o : Option ℕ). Watches (W.after p c.args.step) (W.passes p c.args.step) o r) c.in-Some.is c.in_ok-passes.ensures.watched.goes in
+    let there = subst (λ (o : Option ℕ). Numbers W.place W.room W.origin W.after W.wanted (W.origin c.step_from.new.walker) front.depth front.end c.args.store.now.most nodes c.args.cache.now c.args.at
+    c.args.step r o more) c.in-Some-2.is c.in_ok-to.ensures.number in
+    let number = subst (λ x. Numbers W.place W.room W.origin W.after W.wanted x front.depth front.end c.args.store.now.most nodes c.args.cache.now c.args.at c.args.step r (Some to) more)
+    c.step_from.ensures.origin there in record {
+      advances = open_more W.place W.room W.origin W.after W.passes W.wanted q front.depth front.end nodes c.args.cache.now c.args.chart.now c.args.at c.args.step c.requires.opening c.requires.place p r
+          c.requires.base.stands.there c.in-Some.passes watched more c.add.new.self to number.0 number.1 number.2 c.in_ok-add.ensures;
+      stays = record {
+        walker_origin = c.step_from.ensures.origin;
+        base_origin = c.requires.base.same;
+        other_origin = c.in_ok-to.ensures.stays.1 ∙ c.requires.other;
+        same_room = c.in_ok-to.ensures.stays.0;
+        same = c.in_ok-add.ensures.kept;
+        marks = c.in_ok-add.ensures.noted.long;
+      };
+      extends = number.1;
+      closed = c.in_ok-passes.ensures.watched.closed;
+    }

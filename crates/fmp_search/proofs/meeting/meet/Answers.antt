@@ -40,8 +40,8 @@ returns-in-Done-clause-meets g c =
     let found = c.in_ok-how.field-0 in
     let nodes = found.nodes.items in
     let opened = found.chart.opened in
-    let through = subst (λ (how : Layer). GoesSo after wanted q c.args.turns c.args.most nodes found.depth opened how) c.in-Done.is c.in_ok-how.ensures.through in
-    meets after passes wanted q nodes found.depth opened c.args.turns c.args.count _ through (c.in_ok-how.ensures.surveyed.noted c.in-Done.is) c.in_ok-how.ensures.marks
+    let through = subst (λ (how : Layer). GoesSo after wanted q c.args.turns c.args.most nodes found.depth opened how) c.in-Done.is c.in_ok-how.ensures.surveys.through in
+    meets after passes wanted q nodes found.depth opened c.args.turns c.args.count _ through (c.in_ok-how.ensures.surveys.surveyed.noted c.in-Done.is) c.in_ok-how.ensures.surveys.marks
     (λ w. let is = eqb-true opened (c.len.result + 1) w in let count = c.len.ensures in let long = found.nodes.ok.0 in omega (arith, is, count, long))
 
 pub returns : goal.returns
@@ -51,5 +51,5 @@ returns g c =
     record {
       meets = tt;
       none = λ same. left_open g.W.Space.after g.W.Space.wanted (g.W.Space.origin c.args.walker.now) c.args.turns c.args.most found.nodes.items found.depth
-          found.chart.opened _ found.how c.in_default.not-Done is.through is.over is.surveyed.found;
+          found.chart.opened _ found.how c.in_default.not-Done is.surveys.through is.surveys.ended is.surveys.surveyed.found;
     }

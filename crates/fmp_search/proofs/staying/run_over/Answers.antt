@@ -14,13 +14,14 @@ returns-clause-right g c =
     let nodes = c.args.nodes.now in
     let edge = c.args.edge in
     let sure = c.requires.sure in
+    let over = c.in_ok-steps.ensures in
     let to = sure.to in
     let long = c.requires.long in
     let lt : edge.to < length c.args.marks.now = omega (arith, to, long) in
     let free : mark_at c.args.marks.now edge.to ≡ false = shut c.args.marks.now edge.to _ lt c.if-marks-edge.false in
     let passed : is_bit edge.passes c.args.test ≡ true = sym c.is_bit.ensures ∙ c.if-not-is_bit.false in (
       omega arith,
-      subst (λ v. EndsForEver after (test_of g.W.Space.passes c.args.test) q v) (sym c.in_ok-push.ensures.items)
-          (found after (test_of g.W.Space.passes c.args.test) q nodes c.args.marks.now c.requires.closed edge.from edge.step c.in_ok-steps.steps.items
-          (record { few = sure.from; next = edge.to; near = sure.to; goes = sure.goes; passes = subst (λ m. is_bit m c.args.test ≡ true) sure.report passed; free = free }) c.in_ok-steps.ensures.leads),
+      subst (λ v. EndsForEver after (test_of g.W.Space.passes c.args.test) q v) (sym over.is)
+          (found after (test_of g.W.Space.passes c.args.test) q nodes c.args.marks.now c.requires.closed edge.from edge.step over.before
+          (record { few = sure.from; next = edge.to; near = sure.to; goes = sure.goes; passes = subst (λ m. is_bit m c.args.test ≡ true) sure.report passed; free = free }) over.leads),
     )

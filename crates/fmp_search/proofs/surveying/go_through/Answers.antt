@@ -1,184 +1,204 @@
-use Rattle.std.proofs.Common.{arith, rules, ◌≡◌, ◌∙◌, ◌+◌, length, Bool, false, List, refl, ap, sym, subst}
+use Rattle.std.proofs.Common.{arith, rules, ◌≡◌, ◌∙◌, ◌+◌, ◌≤◌, length, Bool, true, false, List, refl, ap, sym, subst}
 use Rattle.std.proofs.lemmas.List.{length-replicate}
 use Rattle.fmp_search.specs.declared.nodes.Node.{Node}
 use Rattle.fmp_search.specs.declared.surveying.Survey.{Survey}
-use Rattle.fmp_search.specs.Answers.{Explored}
-use Rattle.fmp_search.specs.Charts.{Charting, Charts}
-use Rattle.fmp_search.specs.Growth.{AreBefore, AreFound, Fills, Opens}
-use Rattle.fmp_search.specs.Meeting.{AreNoted}
-use Rattle.fmp_search.specs.Surveys.{GoesSo, IsSurveyed, IsThrough}
+use Rattle.fmp_search.specs.Answers.{Explored, IsShortest}
 use Rattle.fmp_search.specs.Cache.{IsCache}
+use Rattle.fmp_search.specs.Fronts.{Advances, IsOpen}
+use Rattle.fmp_search.specs.Growth.{AreBefore, AreFound}
+use Rattle.fmp_search.specs.Meeting.{AreNoted}
+use Rattle.fmp_search.specs.Surveys.{IsThrough, Surveys}
 use Rattle.fmp_search.proofs.Apart.{before_none}
 use Rattle.fmp_search.proofs.Charted.{charting_none}
+use Rattle.fmp_search.proofs.Fronts.{none_tried, stays_on}
 use Rattle.fmp_search.proofs.Passed.{passed}
 use Rattle.fmp_search.proofs.Trees.{stands_first}
-use Rattle.fmp_search.proofs.Layers.{explored-root, layer-more, none-within}
-use Rattle.fmp_search.proofs.Surveyed.{found_none, found_of, found_by, charted_by, through_by, through_all, through_last}
+use Rattle.fmp_search.proofs.Layers.{explored-root, none-within}
+use Rattle.fmp_search.proofs.Surveyed.{found_none, found_of, open_layer, passed_none, shortest_here, stopped_by, through_all, through_by, through_last}
 use Rattle.fmp_search.proofs.surveying.go_through.Goals as goal
 
 pub first_cached-requires : goal.first_cached-requires
 first_cached-requires g c =
     stands_first g.W.Space.after _ c.deref.result.now 0 _ _ refl (c.in_ok-restart.ensures.there ∙ sym c.restart.ensures.origin) c.in_ok-restart.ensures.room
 
+pub returns-then-is_wanted : goal.returns-then-is_wanted
+returns-then-is_wanted g c =
+    let W = g.W.Space in
+    let q = W.origin c.args.walker.now in
+    let nodes = c.in_ok-store.store.nodes.items in
+    let blank = c.in_ok-chart.ensures in
+    let chart = charting_none W.after W.passes q nodes c.args.kept c.in_ok-chart.chart c.args.count blank in
+    let there = c.in_ok-restart.ensures.there ∙ c.requires.origins.2 in
+    let is : W.wanted q ≡ true = subst (λ x. W.wanted x ≡ true) there (sym c.if-is_wanted.ensures) in
+    let none = c.new-then-is_wanted.ensures.items in
+    record {
+      surveys = subst (λ (s : Survey). Surveys W.after W.passes W.wanted q c.args.turns c.args.most (g.P.Progress.over c.args.progress.now) c.args.kept c.args.count s) (sym c.of.ensures) (record {
+        surveyed = record { found = found_none W.after q nodes c.in_ok-store.ensures.0; charted = chart.charted; noted = λ is. absurd (search (rules, is)); small = c.in_ok-store.store.small };
+        through = (
+          omega arith,
+          subst (λ (ss : List _). length ss ≤ c.args.turns) (sym none) (omega arith),
+          subst (λ (ss : List _). IsShortest W.after W.wanted q ss) (sym none) (shortest_here W.after q W.wanted is),
+        );
+        ended = tt;
+        same = blank.same;
+        marks = ap (λ (bs : List Bool). length bs) blank.marks ∙ length-replicate c.args.count false;
+      });
+      origin = refl;
+    }
+
 pub loop-depth-init : goal.loop-depth-init
 loop-depth-init g c =
-    let after = g.W.Space.after in
-    let wanted = g.W.Space.wanted in
-    let q = g.W.Space.origin c.args.walker.now in
+    let W = g.W.Space in
+    let q = W.origin c.args.walker.now in
     let nodes = c.in_ok-store.store.nodes.items in
+    let blank = c.in_ok-chart.ensures in
     let there = c.in_ok-restart.ensures.there ∙ c.requires.origins.2 in
-    let clean : wanted q ≡ false = subst (λ x. wanted x ≡ false) there (sym c.if-is_wanted.ensures) in record {
-      explored = subst (λ (ns : List Node). Explored after wanted q ns 0 (length ns + 1) 0) (sym {A = List Node} c.in_ok-store.ensures.empty) (explored-root after wanted q clean);
+    let clean : W.wanted q ≡ false = subst (λ x. W.wanted x ≡ false) there (sym c.if-is_wanted.ensures) in record {
+      opening = record {
+        front = record {
+          explored = subst (λ (ns : List Node). Explored W.after W.wanted q ns 0 (length ns + 1) 0) (sym {A = List Node} c.in_ok-store.ensures.0) (explored-root W.after W.wanted q clean);
+          tried = none_tried W.after q nodes 0;
+          before = subst (λ (ns : List Node). AreBefore ns 0 0) (sym c.in_ok-store.ensures.0) before_none;
+          all = subst (λ (ns : List Node). IsCache W.place W.room W.origin W.after q ns c.in_ok-cache.cache.items) c.deref.ensures.value
+              (subst (λ x. IsCache W.place W.room W.origin W.after x c.deref.result.now c.in_ok-cache.cache.items) (c.restart.ensures.origin ∙ c.requires.origins.2) c.in_ok-cache.ensures);
+        };
+        charting = charting_none W.after W.passes q nodes c.args.kept c.in_ok-chart.chart c.args.count blank;
+      };
       few = omega arith;
-      walker_origin = refl;
-      base_origin = c.requires.origins.0;
-      other_origin = c.requires.origins.1;
-      before = subst (λ (ns : List Node). AreBefore ns 0 0) (sym c.in_ok-store.ensures.empty) before_none;
-      room = c.in_ok-store.ensures.room;
-      trunk_origin = c.restart.ensures.origin ∙ c.requires.origins.2;
-      cache = subst (λ (ns : List Node). IsCache g.W.Space.place g.W.Space.room g.W.Space.origin after q ns c.in_ok-cache.cache.items) c.deref.ensures.value
-          (subst (λ x. IsCache g.W.Space.place g.W.Space.room g.W.Space.origin after x c.deref.result.now c.in_ok-cache.cache.items) (c.restart.ensures.origin ∙ c.requires.origins.2) c.in_ok-cache.ensures);
+      stays = record {
+        walker_origin = refl;
+        base_origin = c.requires.origins.0;
+        other_origin = c.requires.origins.1;
+        same_room = c.in_ok-store.ensures.1;
+        same = blank.same;
+        marks = ap (λ (bs : List Bool). length bs) blank.marks ∙ length-replicate c.args.count false;
+      };
       within = omega arith;
-      passed = record { few = omega arith; near = λ i lt. absurd (omega (arith, lt)); through = λ steps r lt leads. absurd (omega (arith, lt)) };
-      chart = charting_none after g.W.Space.passes q nodes c.in_ok-chart.chart c.args.count c.in_ok-chart.ensures.opened c.in_ok-chart.ensures.edges c.in_ok-chart.ensures.marks;
-      kept = c.in_ok-chart.ensures.kept;
-      marks = ap (λ (bs : List Bool). length bs) c.in_ok-chart.ensures.marks ∙ length-replicate c.args.count false;
+      passed = passed_none W.after q nodes;
+    }
+
+pub returns-then-begin-end : goal.returns-then-begin-end
+returns-then-begin-end g c =
+    let W = g.W.Space in
+    let q = W.origin c.args.walker.now in
+    let inv = c.loop-depth.invariant in
+    let x = inv.opening.front.explored in
+    let nodes = c.loop-depth.store.nodes.items in
+    let opened = inv.opening.charting.opened in
+    let depth = c.loop-depth.depth in
+    let all : c.loop-depth.begin ≡ length nodes + 1 = c.if-begin-end.true ∙ c.count-end.ensures in
+    record {
+      surveys = subst (λ (s : Survey). Surveys W.after W.passes W.wanted q c.args.turns c.args.most (g.P.Progress.over c.loop-depth.progress) c.args.kept c.args.count s) (sym c.of-then-begin-end.ensures) (record {
+        surveyed = record {
+          found = found_of W.after q W.wanted nodes depth c.loop-depth.begin x inv.opening.front.before.apart;
+          charted = inv.opening.charting.charted;
+          noted = λ is. subst (λ n. AreNoted W.after W.passes q nodes c.loop-depth.chart.marks.items n 0) (sym opened) inv.opening.charting.noted;
+          small = c.loop-depth.store.small;
+        };
+        through = subst (λ n. IsThrough W.after W.wanted q c.args.turns nodes depth n) (sym opened) (through_all W.after q W.wanted nodes depth c.loop-depth.begin c.args.turns inv.within x all inv.passed);
+        ended = tt;
+        same = inv.stays.same;
+        marks = inv.stays.marks;
+      });
+      origin = inv.stays.walker_origin;
+    }
+
+pub open_layer-requires : goal.open_layer-requires
+open_layer-requires g c =
+    let W = g.W.Space in
+    let inv = c.loop-depth.invariant in
+    let same = inv.stays.walker_origin in
+    let nodes = c.loop-depth.store.nodes.items in
+    let few = inv.few in
+    let count = c.count-end.ensures in
+    record {
+      opening = subst (λ k. IsOpen W.place W.room W.origin W.after W.passes W.wanted (W.origin c.loop-depth.walker) c.loop-depth.depth k nodes c.loop-depth.cache.items c.loop-depth.chart c.loop-depth.begin 0)
+          (sym count)
+          (subst (λ x. IsOpen W.place W.room W.origin W.after W.passes W.wanted x c.loop-depth.depth (length nodes + 1) nodes c.loop-depth.cache.items c.loop-depth.chart c.loop-depth.begin 0) (sym same) inv.opening);
+      place = omega (arith, few, count);
+      origins = (inv.stays.base_origin ∙ sym same, inv.stays.other_origin ∙ sym same);
     }
 
 pub loop-depth-preserved : goal.loop-depth-preserved
 loop-depth-preserved g c =
-    let after = g.W.Space.after in
-    let passes = g.W.Space.passes in
-    let wanted = g.W.Space.wanted in
-    let q = g.W.Space.origin c.args.walker.now in
+    let W = g.W.Space in
+    let q = W.origin c.args.walker.now in
     let inv = c.loop-depth.invariant in
     let depth = c.loop-depth.depth in
     let end = c.count-end.result in
     let nodes = c.open_layer.new.store.nodes.items in
+    let cache = c.open_layer.new.cache.items in
     let chart = c.open_layer.new.chart in
-    let opens = subst (λ how. Opens after wanted (g.W.Space.origin c.loop-depth.walker) depth end end how nodes) c.in-Done.is c.in_ok-how.ensures.opens in
-    let explored = subst (λ x. Explored after wanted x nodes depth end end) inv.walker_origin opens in
-    let charts = subst (λ how. Charts after passes (g.W.Space.origin c.loop-depth.walker) how nodes chart end 0) c.in-Done.is c.in_ok-how.ensures.chart in
+    let is = c.in_ok-how.ensures in
+    let from = W.origin c.loop-depth.walker in
+    let done = subst (λ h. Advances W.place W.room W.origin W.after W.passes W.wanted from depth end c.loop-depth.store.most (g.P.Progress.over c.open_layer.new.progress) nodes cache chart end 0 h)
+    c.in-Done.is is.advances in
+    let opened_all = subst (λ x. IsOpen W.place W.room W.origin W.after W.passes W.wanted x depth end nodes cache chart end 0) inv.stays.walker_origin done in
     let before = c.loop-depth-test.true in record {
-      explored = layer-more after wanted q nodes depth end explored;
-      few = explored.few;
-      walker_origin = c.open_layer.ensures.walker_origin ∙ inv.walker_origin;
-      base_origin = c.open_layer.ensures.base_origin ∙ inv.base_origin;
-      other_origin = c.open_layer.ensures.other_origin ∙ inv.other_origin;
-      before = subst (λ how. Fills after (g.W.Space.origin c.loop-depth.walker) depth c.loop-depth.store.most end 0 how nodes) c.in-Done.is c.in_ok-how.ensures.fills;
-      room = c.open_layer.ensures.room ∙ inv.room;
-      trunk_origin = inv.trunk_origin;
-      cache = subst (λ x. IsCache g.W.Space.place g.W.Space.room g.W.Space.origin after x nodes c.open_layer.new.cache.items) inv.walker_origin c.in_ok-how.ensures.cache;
+      opening = open_layer W.place W.room W.origin W.after W.passes W.wanted q depth end c.loop-depth.store.most true nodes cache chart end 0 refl opened_all;
+      few = opened_all.front.explored.few;
+      stays = stays_on W.origin q c.loop-depth.walker c.loop-depth.base c.loop-depth.other c.open_layer.new.walker c.open_layer.new.base c.open_layer.new.other _ _ _ _ _ c.loop-depth.chart chart
+          inv.stays is.stays;
       within = omega (arith, before);
-      passed = passed after wanted q nodes depth end explored;
-      chart = subst (λ x. Charting after passes x nodes chart end 0) inv.walker_origin charts;
-      kept = c.open_layer.ensures.kept ∙ inv.kept;
-      marks = c.open_layer.ensures.marks ∙ inv.marks;
+      passed = passed W.after W.wanted q nodes depth end opened_all.front.explored;
     }
 
-pub returns-then-is_wanted-clause-surveyed : goal.returns-then-is_wanted-clause-surveyed
-returns-then-is_wanted-clause-surveyed g c =
-    let after = g.W.Space.after in
-    let q = g.W.Space.origin c.args.walker.now in
-    let nodes = c.in_ok-store.store.nodes.items in
-    let chart = charting_none after g.W.Space.passes q nodes c.in_ok-chart.chart c.args.count c.in_ok-chart.ensures.opened c.in_ok-chart.ensures.edges c.in_ok-chart.ensures.marks in
-    subst (λ (s : Survey). IsSurveyed g.W.Space.after g.W.Space.passes (g.W.Space.origin c.args.walker.now) s) (sym c.of.ensures) (
-    record { found = found_none after q nodes c.in_ok-store.ensures.empty; charted = chart.charted; noted = λ is. absurd (search (rules, is)); small = c.in_ok-store.store.small }
-    )
-
-pub returns-then-is_wanted-clause-marks : goal.returns-then-is_wanted-clause-marks
-returns-then-is_wanted-clause-marks g c =
-    subst (λ (s : Survey). length s.chart.marks.items ≡ c.args.count) (sym c.of.ensures)
-    (ap (λ (bs : List Bool). length bs) c.in_ok-chart.ensures.marks ∙ length-replicate c.args.count false)
-
-pub returns-then-begin-end-clause-surveyed : goal.returns-then-begin-end-clause-surveyed
-returns-then-begin-end-clause-surveyed g c =
+pub returns-in_default : goal.returns-in_default
+returns-in_default g c =
+    let W = g.W.Space in
+    let q = W.origin c.args.walker.now in
     let inv = c.loop-depth.invariant in
-    subst (λ (s : Survey). IsSurveyed g.W.Space.after g.W.Space.passes (g.W.Space.origin c.args.walker.now) s) (sym c.of-then-begin-end.ensures) (
-    record {
-      found = found_of g.W.Space.after (g.W.Space.origin c.args.walker.now) g.W.Space.wanted c.loop-depth.store.nodes.items c.loop-depth.depth c.loop-depth.begin inv.explored inv.before.apart;
-      charted = inv.chart.charted;
-      noted = λ is. subst (λ n. AreNoted g.W.Space.after g.W.Space.passes (g.W.Space.origin c.args.walker.now) c.loop-depth.store.nodes.items c.loop-depth.chart.marks.items n 0)
-          (sym inv.chart.opened) inv.chart.noted;
-      small = c.loop-depth.store.small;
-    }
-    )
-
-pub returns-then-begin-end-clause-through : goal.returns-then-begin-end-clause-through
-returns-then-begin-end-clause-through g c =
-    let q = g.W.Space.origin c.args.walker.now in
-    let inv = c.loop-depth.invariant in
-    let nodes = c.loop-depth.store.nodes.items in
-    let all : c.loop-depth.begin ≡ length nodes + 1 = c.if-begin-end.true ∙ c.count-end.ensures in
-    subst (λ (s : Survey). GoesSo g.W.Space.after g.W.Space.wanted (g.W.Space.origin c.args.walker.now) c.args.turns c.args.most s.nodes.items s.depth s.chart.opened s.how) (sym c.of-then-begin-end.ensures) (
-    subst (λ n. IsThrough g.W.Space.after g.W.Space.wanted q c.args.turns nodes c.loop-depth.depth n) (sym inv.chart.opened)
-    (through_all g.W.Space.after q g.W.Space.wanted nodes c.loop-depth.depth c.loop-depth.begin c.args.turns inv.within inv.explored all inv.passed)
-    )
-
-pub returns-in_default-clause-surveyed : goal.returns-in_default-clause-surveyed
-returns-in_default-clause-surveyed g c =
-    let after = g.W.Space.after in
-    let passes = g.W.Space.passes in
-    let same = c.loop-depth.invariant.walker_origin in
-    let nodes = c.open_layer.new.store.nodes.items in
-    let chart = c.open_layer.new.chart in
-    let how = c.in_ok-how.how in
-    let fills = subst (λ x. Fills after x c.loop-depth.depth c.loop-depth.store.most c.count-end.result 0 how nodes) same c.in_ok-how.ensures.fills in
-    let charts = subst (λ x. Charts after passes x how nodes chart c.count-end.result 0) same c.in_ok-how.ensures.chart in
-    subst (λ (s : Survey). IsSurveyed g.W.Space.after g.W.Space.passes (g.W.Space.origin c.args.walker.now) s) (sym c.of-in_default.ensures) (
-    record {
-      found = found_by after _ how c.loop-depth.depth c.loop-depth.store.most c.count-end.result 0 nodes c.in_default.not-Done fills;
-      charted = charted_by after _ passes how nodes chart c.count-end.result 0 charts;
-      noted = λ is. absurd (c.in_default.not-Done is);
-      small = c.open_layer.new.store.small;
-    }
-    )
-
-pub returns-in_default-clause-through : goal.returns-in_default-clause-through
-returns-in_default-clause-through g c =
-    let after = g.W.Space.after in
-    let wanted = g.W.Space.wanted in
-    let q = g.W.Space.origin c.args.walker.now in
-    let inv = c.loop-depth.invariant in
-    let same = inv.walker_origin in
     let old = c.loop-depth.store.nodes.items in
     let nodes = c.open_layer.new.store.nodes.items in
+    let cache = c.open_layer.new.cache.items in
+    let chart = c.open_layer.new.chart in
     let depth = c.loop-depth.depth in
     let end = c.count-end.result in
+    let most = c.loop-depth.store.most in
+    let over = g.P.Progress.over c.open_layer.new.progress in
     let how = c.in_ok-how.how in
-    let fills = subst (λ x. Fills after x depth c.loop-depth.store.most end 0 how nodes) same c.in_ok-how.ensures.fills in
-    let opens = subst (λ x. Opens after wanted x depth end end how nodes) same c.in_ok-how.ensures.opens in
-    subst (λ (s : Survey). GoesSo g.W.Space.after g.W.Space.wanted (g.W.Space.origin c.args.walker.now) c.args.turns c.args.most s.nodes.items s.depth s.chart.opened s.how) (sym c.of-in_default.ensures) (
-    through_by after q wanted how c.args.turns c.loop-depth.store.most c.args.most depth end end end 0 nodes c.in_default.not-Done c.loop-depth-test.true
-    (none-within after wanted q old depth (length old + 1) c.loop-depth.begin inv.explored) inv.room opens fills _
-    )
-
-pub returns-clause-surveyed : goal.returns-clause-surveyed
-returns-clause-surveyed g c =
-    let inv = c.loop-depth.invariant in
-    let most = c.loop-depth.auto.depth-end in
-    let past = c.loop-depth-test.false in
-    let last : c.loop-depth.depth ≡ c.args.turns = search (arith, most, past) in
-    subst (λ (s : Survey). IsSurveyed g.W.Space.after g.W.Space.passes (g.W.Space.origin c.args.walker.now) s) (sym c.of-2.ensures) (
+    let not = c.in_default.not-Done in
+    let is = c.in_ok-how.ensures in
+    let stays = stays_on W.origin q c.loop-depth.walker c.loop-depth.base c.loop-depth.other c.open_layer.new.walker c.open_layer.new.base c.open_layer.new.other _ _ _ _ _ c.loop-depth.chart chart
+    inv.stays is.stays in
+    let x = subst (λ x. Advances W.place W.room W.origin W.after W.passes W.wanted x depth end most over nodes cache chart end 0 how) inv.stays.walker_origin is.advances in
+    let stopped = stopped_by W.place W.room W.origin W.after W.passes W.wanted q depth end most over nodes cache chart end 0 how not x in
     record {
-      found = subst (λ n. AreFound g.W.Space.after (g.W.Space.origin c.args.walker.now) n c.loop-depth.store.nodes.items) last
-          (found_of g.W.Space.after (g.W.Space.origin c.args.walker.now) g.W.Space.wanted c.loop-depth.store.nodes.items c.loop-depth.depth c.loop-depth.begin inv.explored inv.before.apart);
-      charted = inv.chart.charted;
-      noted = λ is. subst (λ n. AreNoted g.W.Space.after g.W.Space.passes (g.W.Space.origin c.args.walker.now) c.loop-depth.store.nodes.items c.loop-depth.chart.marks.items n 0)
-          (sym inv.chart.opened) inv.chart.noted;
-      small = c.loop-depth.store.small;
+      surveys = subst (λ (s : Survey). Surveys W.after W.passes W.wanted q c.args.turns c.args.most over c.args.kept c.args.count s) (sym c.of-in_default.ensures) (record {
+        surveyed = record { found = stopped.0.found; charted = stopped.0.charted; noted = λ is. absurd (not is); small = c.open_layer.new.store.small };
+        through = through_by W.place W.room W.origin W.after W.passes W.wanted q depth end most over nodes cache chart end 0 how c.args.turns c.args.most _ not c.loop-depth-test.true
+            (none-within W.after W.wanted q old depth (length old + 1) c.loop-depth.begin inv.opening.front.explored) inv.stays.same_room x;
+        ended = stopped.1;
+        same = stays.same;
+        marks = stays.marks;
+      });
+      origin = stays.walker_origin;
     }
-    )
 
-pub returns-clause-through : goal.returns-clause-through
-returns-clause-through g c =
-    let q = g.W.Space.origin c.args.walker.now in
+pub returns : goal.returns
+returns g c =
+    let W = g.W.Space in
+    let q = W.origin c.args.walker.now in
     let inv = c.loop-depth.invariant in
+    let x = inv.opening.front.explored in
     let nodes = c.loop-depth.store.nodes.items in
+    let opened = inv.opening.charting.opened in
     let most = c.loop-depth.auto.depth-end in
     let past = c.loop-depth-test.false in
     let last : c.loop-depth.depth ≡ c.args.turns = search (arith, most, past) in
-    subst (λ (s : Survey). GoesSo g.W.Space.after g.W.Space.wanted (g.W.Space.origin c.args.walker.now) c.args.turns c.args.most s.nodes.items s.depth s.chart.opened s.how) (sym c.of-2.ensures) (
-    subst (λ n. IsThrough g.W.Space.after g.W.Space.wanted q c.args.turns nodes c.args.turns n) (sym inv.chart.opened)
-    (through_last g.W.Space.after q g.W.Space.wanted nodes c.loop-depth.depth c.loop-depth.begin c.args.turns last inv.explored inv.passed)
-    )
+    record {
+      surveys = subst (λ (s : Survey). Surveys W.after W.passes W.wanted q c.args.turns c.args.most (g.P.Progress.over c.loop-depth.progress) c.args.kept c.args.count s) (sym c.of-2.ensures) (record {
+        surveyed = record {
+          found = subst (λ n. AreFound W.after q n nodes) last (found_of W.after q W.wanted nodes c.loop-depth.depth c.loop-depth.begin x inv.opening.front.before.apart);
+          charted = inv.opening.charting.charted;
+          noted = λ is. subst (λ n. AreNoted W.after W.passes q nodes c.loop-depth.chart.marks.items n 0) (sym opened) inv.opening.charting.noted;
+          small = c.loop-depth.store.small;
+        };
+        through = subst (λ n. IsThrough W.after W.wanted q c.args.turns nodes c.args.turns n) (sym opened)
+            (through_last W.after q W.wanted nodes c.loop-depth.depth c.loop-depth.begin c.args.turns last x inv.passed);
+        ended = tt;
+        same = inv.stays.same;
+        marks = inv.stays.marks;
+      });
+      origin = inv.stays.walker_origin;
+    }

@@ -1,0 +1,213 @@
+-- How a layer is opened, step by step.
+use Rattle.std.proofs.Common.{◌≡◌, ◌⊎◌, inl, inr, ℕ, ◌+◌, ◌<◌, ◌≤◌, ◌^◌, Bool, true, false, Option, None, Some, List, [], ◌∷◌, ◌++◌, length, refl, ap, sym, subst, ◌∙◌, arith, rules}
+use Rattle.std.proofs.Math.Nat.{eq-or-lt_of_le}
+use Rattle.std.proofs.lemmas.Bool.{cases_lt}
+use Rattle.std.proofs.lemmas.Grind.{common_steps}
+use Rattle.fmp_search.specs.declared.cache.Cached.{Cached}
+use Rattle.fmp_search.specs.declared.chart.Chart.{Chart}
+use Rattle.fmp_search.specs.declared.layer.Layer.{Layer}
+use Rattle.fmp_search.specs.declared.layer.Layer.TheVariants as layer
+use Rattle.fmp_search.specs.declared.nodes.Node.{Node}
+use Rattle.fmp_search.specs.Answers.{IsShortest}
+use Rattle.fmp_search.specs.Cache.{AreNear}
+use Rattle.fmp_search.specs.Charts.{Adds}
+use Rattle.fmp_search.specs.Fronts.{Advances, IsFront, IsOpen, IsStopped, Stays}
+use Rattle.fmp_search.specs.Growth.{AreBefore, AreTried, Extends, IsTried}
+use Rattle.fmp_search.specs.Runs.{AreClosed, Watches}
+use Rattle.fmp_search.specs.Trees.{Found, found_at, Has, IsAt, IsRunOver, Stands}
+use Rattle.fmp_search.proofs.Apart.{before_more, before_place, before_step}
+use Rattle.fmp_search.proofs.Charted.{charting_more, charting_next, charting_same, edge_is_true, joined_by, none_needed, none_there, not_there, step_there}
+use Rattle.fmp_search.proofs.Growth.{found_here, stepped, tried_at, tried_more}
+use Rattle.fmp_search.proofs.InCache.{cache_stays}
+use Rattle.fmp_search.proofs.Layers.{is-shortest}
+use Rattle.fmp_search.proofs.Noted.{none_marked, noted_more, noted_next, not_marked}
+
+one_more : (steps : List ℕ) (s n : ℕ) → length steps ≤ n → length (steps ++ s ∷ []) ≤ n + 1
+one_more steps s n few = grind (arith, common_steps, few)
+
+-- what stays over steps, and over more of them, stays over all
+pub stays_on : {P X : Type 0} (origin : X → P) (q : P) (w b o v a p : X) (most mid room : ℕ) (kept : Bool) (count : ℕ) (between new : Chart) →
+    Stays origin q w b o most mid kept count between → Stays origin (origin w) v a p mid room between.kept (length between.marks.items) new → Stays origin q v a p most room kept count new
+stays_on origin q w b o v a p most mid room kept count between new one two = record {
+  walker_origin = two.walker_origin ∙ one.walker_origin;
+  base_origin = two.base_origin ∙ one.walker_origin;
+  other_origin = two.other_origin ∙ one.walker_origin;
+  same_room = two.same_room ∙ one.same_room;
+  same = two.same ∙ one.same;
+  marks = two.marks ∙ one.marks;
+}
+
+module _ {P : Type 0} (after : P → ℕ → Option P) (q : P) where
+  pub none_closed : (p : P) → AreClosed after p 0
+  none_closed p s is = absurd (grind (arith, common_steps, is))
+
+  pub none_tried : (nodes : List Node) (at : ℕ) → AreTried after q nodes at 0
+  none_tried nodes at s lt = absurd (omega (arith, lt))
+
+  pub extends_same : (nodes : List Node) → Extends after q nodes nodes
+  extends_same nodes = record { longer = omega arith; stays = λ i le. refl }
+
+  opened_next : (nodes : List Node) (at m : ℕ) → ((j s : ℕ) (r : P) → j < at → after (found_at after q nodes j).place s ≡ Some r → Has after q nodes r) → AreTried after q nodes at m →
+      ((t : ℕ) → m ≤ t → IsTried after q nodes at t) → (j s : ℕ) (r : P) → (j ≡ at) ⊎ (j < at) → (s < m) ⊎ (m ≤ s) → after (found_at after q nodes j).place s ≡ Some r → Has after q nodes r
+  opened_next nodes at m early tried rest j s r (inr lt) which goes = early j s r lt goes
+  opened_next nodes at m early tried rest j s r (inl is) (inl lt) goes = tried s lt r (subst (λ k. after (found_at after q nodes k).place s ≡ Some r) is goes)
+  opened_next nodes at m early tried rest j s r (inl is) (inr le) goes = rest s le r (subst (λ k. after (found_at after q nodes k).place s ≡ Some r) is goes)
+
+module _ {P X : Type 0} (place : X → P) (room : X → ℕ) (origin : X → P) (after : P → ℕ → Option P) (q : P) where
+  -- one stands at the same place where others were added
+  pub stands_there : (nodes more : List Node) (i : ℕ) (w : X) → Extends after q nodes more → Stands place room origin after q nodes i w → Stands place room origin after q more i w
+  stands_there nodes more i w extends at =
+      let known = at.stands.known in
+      let longer = extends.longer in
+      let stays = extends.stays i at.stands.known in record {
+        same = at.same;
+        stands = record {
+          known = omega (arith, known, longer);
+          there = at.stands.there ∙ sym (ap (λ (f : Found P). f.place) stays);
+          roomy = subst (λ (f : Found P). 2 ^ 31 ≤ room w + f.depth) (sym stays) at.stands.roomy;
+        };
+      }
+
+module _ {P X : Type 0} (place : X → P) (room : X → ℕ) (origin : X → P) (after : P → ℕ → Option P) (wanted : P → Bool) (q : P) (n first : ℕ) where
+  abbrev Front : List Node → List (Cached X) → ℕ → ℕ → Type 0
+  Front nodes cache at step = IsFront place room origin after wanted q n first nodes cache at step
+
+  pub near_of : (nodes : List Node) (cache : List (Cached X)) (at step : ℕ) → n + 1 < 2 ^ 31 → Front nodes cache at step → AreNear place room origin after q nodes cache
+  near_of nodes cache at step lt x = record { tree = x.explored.tree; depths = λ i le. let d = x.explored.depths i le in omega (arith, d, lt); all = x.all }
+
+  -- a step led to a place that was found before
+  pub front_known : (nodes : List Node) (cache : List (Cached X)) (at step number : ℕ) (r : P) → at < first → after (found_at after q nodes at).place step ≡ Some r → IsAt after q nodes number r →
+      Front nodes cache at step → Front nodes cache at (step + 1) × Extends after q nodes nodes × IsAt after q nodes number r
+  front_known nodes cache at step number r lt made is x =
+      let few = x.explored.few in
+      let low : at ≤ length nodes = omega (arith, lt, few) in
+      let same = extends_same after q nodes in (
+        record {
+          explored = x.explored;
+          tried = tried_more after q nodes nodes at step low same x.tried (tried_at after q nodes nodes at step number r low made same is);
+          before = before_step nodes at step x.before;
+          all = x.all;
+        },
+        same,
+        is,
+      )
+
+  -- or to one that was added
+  pub front_more : (nodes more : List Node) (cache : List (Cached X)) (at step hash number : ℕ) (r : P) → at < first → after (found_at after q nodes at).place step ≡ Some r → wanted r ≡ false →
+      more ≡ nodes ++ record { hash = hash; parent = at; step = step } ∷ [] → number ≡ length more → Front nodes cache at step →
+      Front more cache at (step + 1) × Extends after q nodes more × IsAt after q more number r
+  front_more nodes more cache at step hash number r lt made clean is last x =
+      let node : Node = record { hash = hash; parent = at; step = step } in
+      let got = stepped after q wanted nodes more n first at node r x.explored lt refl made clean is in
+      let few = x.explored.few in
+      let low : at ≤ length nodes = omega (arith, lt, few) in
+      let long : length more ≡ length nodes + 1 = ap (λ (ns : List Node). length ns) is ∙ grind (arith, common_steps) in (
+        record {
+          explored = got.0;
+          tried = tried_more after q nodes more at step low got.1 x.tried (tried_at after q nodes more at step _ r low made got.1 got.2);
+          before = subst (λ (ns : List Node). AreBefore ns at (step + 1)) (sym is) (before_more nodes node x.before);
+          all = cache_stays place room origin after q nodes more node cache is x.all;
+        },
+        got.1,
+        subst (λ m. IsAt after q more m r) (sym (last ∙ long)) got.2,
+      )
+
+module _ {P X : Type 0} (place : X → P) (room : X → ℕ) (origin : X → P) (after : P → ℕ → Option P) (passes : P → ℕ → ℕ) (wanted : P → Bool) (q : P) (n first : ℕ) where
+  abbrev Open : List Node → List (Cached X) → Chart → ℕ → ℕ → Type 0
+  Open nodes cache chart at step = IsOpen place room origin after passes wanted q n first nodes cache chart at step
+
+  -- no more steps are tried
+  pub stopped_here : (nodes : List Node) (cache : List (Cached X)) (chart : Chart) (at step : ℕ) → Open nodes cache chart at step → IsStopped after passes q n nodes chart
+  stopped_here nodes cache chart at step x =
+      record { found = found_here after q wanted nodes n first at at step x.front.explored x.front.before; charted = x.charting.charted }
+
+  -- what is known where not all steps were tried is the same for later ones
+  pub stops_on : (most : ℕ) (over : Bool) (nodes : List Node) (cache left : List (Cached X)) (chart : Chart) (at step later next : ℕ) (how : Layer) → (how ≡ layer.Done → ⊥) →
+      Advances place room origin after passes wanted q n first most false nodes cache chart at step how → Advances place room origin after passes wanted q n first most over nodes left chart later next how
+  stops_on most over nodes cache left chart at step later next (layer.Found steps) not x = x
+  stops_on most over nodes cache left chart at step later next layer.Full not x = x
+  stops_on most over nodes cache left chart at step later next layer.Over not x = absurd (let is = x.1 in search (rules, is))
+  stops_on most over nodes cache left chart at step later next layer.Done not x = absurd (not refl)
+
+  module _ (nodes : List Node) (cache : List (Cached X)) (chart : Chart) (at step : ℕ) (x : Open nodes cache chart at step) (lt : at < first) (p r : P) (there : p ≡ (found_at after q nodes at).place) where
+    -- a step cannot be made
+    pub open_same : Watches (after p step) (passes p step) None r → Open nodes cache chart at (step + 1)
+    open_same none =
+        let few = x.front.explored.few in
+        let low : at ≤ length nodes = omega (arith, lt, few) in
+        let last : IsTried after q nodes at step = λ y goes. absurd (none_there after passes q nodes (after p step) (passes p step) r y none (subst (λ (z : P). after z step ≡ Some y) (sym there) goes)) in
+        record {
+          front = record {
+            explored = x.front.explored;
+            tried = tried_more after q nodes nodes at step low (extends_same after q nodes) x.front.tried last;
+            before = before_step nodes at step x.front.before;
+            all = x.front.all;
+          };
+          charting = charting_same after passes q nodes chart at step (not_there after passes q nodes chart.edges at step p r there none)
+              (not_marked after passes p (found_at after q nodes at).place r chart.marks.items step there none) x.charting;
+        }
+
+    module _ (t : ℕ) (watched : Watches (after p step) (passes p step) (Some t) r) where
+      pub goes_there : after (found_at after q nodes at).place step ≡ Some r
+      goes_there = subst (λ (y : P). after y step ≡ Some r) there (step_there after passes q nodes p r step t watched).0
+
+      -- it leads to a place that is looked for
+      pub found_there : (steps : List ℕ) → wanted r ≡ true → IsRunOver after q nodes at step steps →
+          IsStopped after passes q n nodes chart × (length steps ≤ n + 1) × IsShortest after wanted q steps
+      found_there steps is over_it =
+          let near = x.front.explored.near at lt in
+          let count = over_it.count in
+          let few : length over_it.before ≤ n = omega (arith, count, near) in (
+            stopped_here nodes cache chart at step x,
+            subst (λ (ss : List ℕ). length ss ≤ n + 1) (sym over_it.is) (one_more over_it.before step n few),
+            subst (λ (ss : List ℕ). IsShortest after wanted q ss) (sym over_it.is)
+                (is-shortest after wanted q nodes n first at step over_it.before r x.front.explored lt over_it.leads few goes_there is),
+          )
+
+      -- or to another, and its edge was added
+      pub open_more : (more : List Node) (new : Chart) (number : ℕ) → IsFront place room origin after wanted q n first more cache at (step + 1) → Extends after q nodes more → IsAt after q more number r →
+          Adds (record { passes = t; from = at; to = number; step = step }) chart new → Open more cache new at (step + 1)
+      open_more more new number front extends is adds =
+          let few = x.front.explored.few in
+          let low : at ≤ length nodes = omega (arith, lt, few) in
+          let longer = extends.longer in
+          let low_more : at ≤ length more = omega (arith, low, longer) in
+          let there_now = there ∙ sym (ap (λ (f : Found P). f.place) (extends.stays at low)) in
+          record {
+            front = front;
+            charting = charting_more after passes q nodes more extends chart new at step _ low adds.opened adds.kept adds.added
+                (edge_is_true after passes q more at step t number p r low_more there_now watched is)
+                (λ kept. joined_by after passes q more chart.edges new.edges at step t number p r (adds.added (sym adds.kept ∙ kept)) there_now watched is)
+                (noted_more after passes q nodes more extends chart.marks.items new.marks.items at step t p r low adds.noted there_now watched x.charting.noted)
+                x.charting;
+          }
+
+  -- all steps of a place were tried
+  pub open_next : (nodes : List Node) (cache : List (Cached X)) (chart : Chart) (at m : ℕ) (p : P) → at < first → p ≡ (found_at after q nodes at).place → ((t : ℕ) → m ≤ t → after p t ≡ None) →
+      Open nodes cache chart at m → Open nodes cache (record chart { opened = at + 1 }) (at + 1) 0
+  open_next nodes cache chart at m p lt there none x =
+      let e = x.front.explored in
+      let few = e.few in
+      let low : at ≤ length nodes = omega (arith, lt, few) in
+      let rest : (t : ℕ) → m ≤ t → IsTried after q nodes at t = λ t le r goes. absurd (
+      let is : None ≡ Some r = sym (none t le) ∙ subst (λ (y : P). after y t ≡ Some r) (sym there) goes in search (rules, is)
+      ) in
+      record {
+        front = record {
+          explored = record {
+            tree = e.tree;
+            few = e.few;
+            clean = e.clean;
+            near = e.near;
+            depths = e.depths;
+            complete = e.complete;
+            all_opened = λ j s r lt goes.
+                opened_next after q nodes at m e.all_opened x.front.tried rest j s r (let le : j ≤ at = omega (arith, lt) in eq-or-lt_of_le le) (cases_lt s m) goes;
+          };
+          tried = λ s lt. absurd (omega (arith, lt));
+          before = before_place nodes at m x.front.before;
+          all = x.front.all;
+        };
+        charting = charting_next after passes q nodes chart at m low (λ t le. none_needed after passes q nodes chart.edges at t p there (none t le))
+            (noted_next after passes q nodes chart.marks.items at m (λ t le. none_marked after passes p _ chart.marks.items t there (none t le)) x.charting.noted) x.charting;
+      }

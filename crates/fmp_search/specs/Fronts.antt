@@ -1,0 +1,52 @@
+-- How far a layer was opened, and how steps from its places went.
+use Rattle.std.specs.Prelude.{◌≡◌, ℕ, ◌+◌, ◌≤◌, Bool, true, Option, None, Some, List, length}
+use Rattle.fmp_search.specs.declared.cache.Cached.{Cached}
+use Rattle.fmp_search.specs.declared.chart.Chart.{Chart}
+use Rattle.fmp_search.specs.declared.layer.Layer.{Layer}
+use Rattle.fmp_search.specs.declared.layer.Layer.TheVariants as layer
+use Rattle.fmp_search.specs.declared.nodes.Node.{Node}
+use Rattle.fmp_search.specs.Answers.{Explored, IsShortest}
+use Rattle.fmp_search.specs.Cache.{IsCache}
+use Rattle.fmp_search.specs.Charts.{Charting, IsCharted}
+use Rattle.fmp_search.specs.Growth.{AreBefore, AreFound, AreTried, Extends}
+use Rattle.fmp_search.specs.Trees.{IsAt}
+
+-- what stays where steps are tried: where the runs of three walkers begin, for how many places there is room, whether edges are kept, and how many marks there are
+pub record Stays {P X : Type 0} (origin : X → P) (q : P) (walker base other : X) (most room : ℕ) (kept : Bool) (count : ℕ) (chart : Chart) : Type 0 where
+  pub walker_origin : origin walker ≡ q
+  pub base_origin : origin base ≡ q
+  pub other_origin : origin other ≡ q
+  pub same_room : room ≡ most
+  pub same : chart.kept ≡ kept
+  pub marks : length chart.marks.items ≡ count
+
+-- what is known where not all steps were tried: the places of all runs of n steps were found, and if edges are kept those from the first places are all there
+pub record IsStopped {P : Type 0} (after : P → ℕ → Option P) (passes : P → ℕ → ℕ) (q : P) (n : ℕ) (nodes : List Node) (chart : Chart) : Type 0 where
+  pub found : AreFound after q n nodes
+  pub charted : chart.kept ≡ true → IsCharted after passes q nodes chart
+
+module _ {P X : Type 0} (place : X → P) (room : X → ℕ) (origin : X → P) (after : P → ℕ → Option P) (wanted : P → Bool) (q : P) (n first : ℕ) where
+  -- of the first places, which are those of all runs of n steps, all steps from the first were tried, and the first steps from the next, and walkers stand at some
+  pub record IsFront (nodes : List Node) (cache : List (Cached X)) (at step : ℕ) : Type 0 where
+    pub explored : Explored after wanted q nodes n first at
+    pub tried : AreTried after q nodes at step
+    pub before : AreBefore nodes at step
+    pub all : IsCache place room origin after q nodes cache
+
+  -- the number that a place has, to which a step leads: it is one of the places that were found, or was added to them. There is none where there is no room for it
+  abbrev pub Numbers : ℕ → List Node → List (Cached X) → ℕ → ℕ → P → Option ℕ → List Node → Type 0
+  Numbers most nodes cache at step r None more = (more ≡ nodes) × (length nodes ≡ most)
+  Numbers most nodes cache at step r (Some number) more = IsFront more cache at (step + 1) × Extends after q nodes more × IsAt after q more number r
+
+module _ {P X : Type 0} (place : X → P) (room : X → ℕ) (origin : X → P) (after : P → ℕ → Option P) (passes : P → ℕ → ℕ) (wanted : P → Bool) (q : P) (n first : ℕ) where
+  -- and the edges of these steps are there
+  pub record IsOpen (nodes : List Node) (cache : List (Cached X)) (chart : Chart) (at step : ℕ) : Type 0 where
+    pub front : IsFront place room origin after wanted q n first nodes cache at step
+    pub charting : Charting after passes q nodes chart at step
+
+  -- how steps went: those before one were all tried, or it is known why they were not
+  abbrev pub Advances : ℕ → Bool → List Node → List (Cached X) → Chart → ℕ → ℕ → Layer → Type 0
+  Advances most over nodes cache chart at step (layer.Found steps) = IsStopped after passes q n nodes chart × (length steps.items ≤ n + 1) × IsShortest after wanted q steps.items
+  Advances most over nodes cache chart at step layer.Full = IsStopped after passes q n nodes chart × (length nodes ≡ most)
+  Advances most over nodes cache chart at step layer.Over = IsStopped after passes q n nodes chart × (over ≡ true)
+  Advances most over nodes cache chart at step layer.Done = IsOpen nodes cache chart at step
