@@ -2,7 +2,6 @@ pub mod Bounds  -- Positions and ticks taken grow by one a step at most.
 pub mod Closing  -- A step that makes the event of another with a mark.
 pub mod Each  -- A test of the processors one after the other.
 pub mod Going  -- What an event leads to.
-pub mod Unread  -- What is so of an event, where nothing is looked for in its line.
 pub mod Sighted  -- The lines of an event, as they are written.
 pub mod Watching  -- What one knows who watches for what stays for ever.
 pub mod Bitted  -- Bits of what is so, one after the other.

@@ -4,7 +4,6 @@
 mod begun;
 mod caller;
 mod calls;
-mod lines;
 mod sights;
 mod space;
 mod ticks;

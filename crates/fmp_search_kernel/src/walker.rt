@@ -13,14 +13,13 @@ ghost use Rattle.fmp_search_pattern.specs.Questions.{allows};
 ghost use Rattle.fmp_search_pattern.specs.Sights.{Sight as AnySight};
 ghost use Rattle.fmp_search_kernel.specs.Walked.{origin_of};
 
-use crate::lines::{some_read, step_reads};
 use crate::sights::{Seen, bits_at, has_to_look, is_over, put_read_line};
 use crate::ticks::{advance_idled, advance_taken, keeps_pace, lower_taken, may_tick};
 use fmp_codes::{Answer, Event, Proc, Record, Runner};
 use fmp_kernel::Kernel;
 use fmp_rules::Config;
 use fmp_search_orders::Rules;
-use fmp_search_pattern::{Moment, Question, allows};
+use fmp_search_pattern::{Moment, Question, allows, some_read, step_reads};
 use fmp_smp_histories::{advance_handler, advance_task, asked_at};
 use fmp_text_scripts::Scripts;
 use std::alloc::AllocError;

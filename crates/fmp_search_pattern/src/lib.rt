@@ -5,12 +5,14 @@
 #![tactic(auto)]
 
 mod items;
+mod lines;
 mod matching;
 mod question;
 mod refusals;
 mod sight;
 
 pub use items::{Item, Part, Wanted};
+pub use lines::{some_read, step_reads};
 pub use matching::{allows, has_fact, has_moment};
 pub use question::{Moment, Pattern, Piece, Question, Step};
 pub use refusals::is_code;

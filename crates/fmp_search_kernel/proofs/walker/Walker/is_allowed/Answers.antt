@@ -7,7 +7,7 @@ use Rattle.fmp_search_pattern.specs.Sights.{Sight}
 use Rattle.fmp_search_orders.specs.Places.{sight_at}
 use Rattle.fmp_search_orders.specs.Sights.{padded}
 use Rattle.fmp_search_kernel.specs.Walked.{Walked, count_in}
-use Rattle.fmp_search_kernel.proofs.Unread.{allowed_by}
+use Rattle.fmp_search_pattern.proofs.Unread.{allowed_by}
 use Rattle.fmp_search_kernel.proofs.Sighted.{sight_is}
 use Rattle.fmp_search_kernel.proofs.walker.Walker.is_allowed.Goals as goal
 

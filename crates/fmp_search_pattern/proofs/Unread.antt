@@ -11,7 +11,7 @@ use Rattle.fmp_search_pattern.specs.Lasting.{Lasting, is_so}
 use Rattle.fmp_search_pattern.specs.Matching.{any}
 use Rattle.fmp_search_pattern.specs.Questions.{allows, has_moment, has_unwanted, is_met, is_barred}
 use Rattle.fmp_search_pattern.specs.Sights.{Sight}
-use Rattle.fmp_search_kernel.specs.Seen.{is_in_line, part_reads, moment_reads, unwanted_reads, step_reads}
+use Rattle.fmp_search_pattern.specs.Lines.{is_in_line, part_reads, moment_reads, unwanted_reads, step_reads}
 
 module _ (facts : Asked → Bool) (over : Bool) (line other : List ℕ) where
   abbrev one : Sight

@@ -1,9 +1,10 @@
-//! Whether what is asked of an event is looked for in its line: where it is not, no line is printed.
+//! Whether what is asked of an event is looked for in its line: where it is not, no line need be printed for it.
 ghost use Rattle.std.specs.Prelude.{◌≡◌, slice_get};
+ghost use Rattle.fmp_search_pattern.specs.Lines as spec;
 ghost use Rattle.fmp_search_pattern.specs.Matching.{any};
-ghost use Rattle.fmp_search_kernel.specs.Seen as spec;
 
-use fmp_search_pattern::{Moment, Part, Question, Wanted};
+use crate::items::{Part, Wanted};
+use crate::question::{Moment, Question};
 
 /// Whether this is looked for in a line.
 fn is_in_line(wanted: &Wanted) -> bool
@@ -42,7 +43,7 @@ fn moment_reads(moment: &Moment) -> bool
 }
 
 /// Whether one of these moments has one.
-pub(crate) fn some_read(lasting: &[Moment]) -> bool
+pub fn some_read(lasting: &[Moment]) -> bool
     ensures { result ≡ any spec.moment_reads lasting.now }
 {
     for moment in lasting {
@@ -54,7 +55,7 @@ pub(crate) fn some_read(lasting: &[Moment]) -> bool
 }
 
 /// Whether it may be looked for in the line of an event whether that may be marked so, where so many steps of the question were seen.
-pub(crate) fn step_reads(question: &Question, seen: u32, marked: bool) -> bool
+pub fn step_reads(question: &Question, seen: u32, marked: bool) -> bool
     ensures { result ≡ spec.step_reads (slice_get question.now seen) marked }
 {
     match question.steps().get(seen as usize) {
