@@ -47,7 +47,6 @@ complete -c fmpsim -n '__fish_seen_subcommand_from explore' -l pace -x -d 'How m
 complete -c fmpsim -n '__fish_seen_subcommand_from explore' -l spurious -d 'Lets interrupts come also where no request is pending, or where it is held'
 complete -c fmpsim -n '__fish_seen_subcommand_from explore' -l places -x -d 'For how many places there is room, 1 to 100000000, or else for 10000000'
 complete -c fmpsim -n '__fish_seen_subcommand_from explore' -l from -r -d 'Begins where this trace ends, and not at boot'
-complete -c fmpsim -n '__fish_seen_subcommand_from explore' -l layer -r -d 'Writes there the traces from which longer orders go on, one a file'
 complete -c fmpsim -n '__fish_seen_subcommand_from explore' -l seconds -x -d 'After how many seconds the search ends that has found nothing, 1 to 1000000'
 complete -c fmpsim -n '__fish_seen_subcommand_from explore' -l questions -r -d 'Searches for each question of this text, or of standard input where it is -'
 complete -c fmpsim -n '__fish_seen_subcommand_from explore' -l tap -d 'Tells the answers to questions in the form of TAP'

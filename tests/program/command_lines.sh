@@ -91,7 +91,6 @@ refused_lines() {
 	explore machine.cfg scripts.txt --ticks any --turns 1 --find end --places 100000001
 	explore machine.cfg scripts.txt --most --find end
 	explore machine.cfg scripts.txt --most --from trace.txt
-	explore machine.cfg scripts.txt --most --layer begun
 	explore machine.cfg scripts.txt --most --questions machine.cfg
 	explore machine.cfg scripts.txt --most --tap
 	explore machine.cfg scripts.txt --most --junit all.xml

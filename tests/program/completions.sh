@@ -15,7 +15,7 @@ completions() {
     # a value that is a file or a folder is completed as one, and one of a few words by these
     right=yes
     grep -E ":(FILE|TRACE|DIR|WHEN):'" "$top/completions/_fmpsim" && right=no
-    grep -E -- '-l (from|layer|questions|junit|traces) -x' "$top/completions/fmpsim.fish" && right=no
+    grep -E -- '-l (from|questions|junit|traces) -x' "$top/completions/fmpsim.fish" && right=no
     [ "$(grep -c -- "-l color -x -a 'auto always never'" "$top/completions/fmpsim.fish")" = 2 ] || right=no
     count "$right" '<Tab>' '# after an option with a value'
     for command in $(sed -nE "s/.* words='(.*) help --help --version'.*/\1/p" "$top/completions/fmpsim.bash"); do

@@ -1,4 +1,4 @@
-# Thousands of events, and traces and layers of a hundred lines and more: what is printed and kept for the first of them is for the last.
+# Thousands of events, and traces of a hundred lines and more: what is printed and kept for the first of them is for the last.
 
 many_events() {
     local machine=$late/machine.cfg n
@@ -41,10 +41,10 @@ shortened() {
     run 0 some.txt /dev/null shrink "$late/machine.cfg" "$(as_file cat some.txt some.txt)" --find '120 times tick'
 }
 
-# A machine on which nothing but ticks can happen: the shortest order with 120 of them, from the start and from one of 110 lines; a layer of more
-# than fifty traces; and a run of sixty thousand events.
+# A machine on which nothing but ticks can happen: the shortest order with 120 of them, from the start and from one of 110 lines; and a
+# run of sixty thousand events.
 searched() {
-    local words=(explore idle.cfg none.txt --ticks any --turns 200) well=no
+    local words=(explore idle.cfg none.txt --ticks any --turns 200)
     printf 'PROCESSORS(1);\n' > idle.cfg
     : > none.txt
     seq 120 | sed 's/$/ P1 - tick taken/' > many.trace
@@ -52,9 +52,4 @@ searched() {
     run 5 many.trace /dev/null "${words[@]}" --find '120 times tick taken'
     run 5 many.trace /dev/null "${words[@]}" --find '120 times tick taken' --from begun.txt
     run 0 /dev/null /dev/null smp idle.cfg none.txt --ticks 60000 --turns 60001 --seeds 7..7 --find E_PAR
-    # each of three processors takes ten ticks at most: twelve ticks are shared in 91 ways, less nine in which one takes eleven or twelve
-    printf 'PROCESSORS(3);\n' > three.cfg
-    play explore three.cfg none.txt --ticks 10 --turns 12 --find E_PAR --layer begun
-    [ $? = 6 ] && [ "$(find begun -type f | wc -l)" = 82 ] && well=yes
-    count "$well" explore three.cfg none.txt --ticks 10 --turns 12 --layer begun
 }

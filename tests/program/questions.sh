@@ -258,7 +258,6 @@ options_beside_questions() {
     echo 'a never end' > asked.txt
     refused "${words[@]}" --questions asked.txt --find end
     refused "${words[@]}" --questions asked.txt --from /dev/null
-    refused "${words[@]}" --questions asked.txt --layer layer
     refused "${words[@]}" --find end --tap
     refused "${words[@]}" --find end --junit told.xml
     refused "${words[@]}" --find end --traces traces

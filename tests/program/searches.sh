@@ -23,7 +23,7 @@ searches() {
     unwritten explore "$folder/machine.cfg" "$folder/scripts.txt" --ticks 0 --turns 100 --find 'end & waits sem'
     stays
     begins_behind
-    leaves_traces
+    goes_on_from_places
     tells_beside_never
     tells_of_many_calls
     takes_each_word
@@ -81,7 +81,6 @@ stays() {
     run 0 "$(as_file echo never)" /dev/null "${words[@]}" --ticks any
     refused "${words[@]}" --ticks 3
     refused "${words[@]}" --ticks 3 --find 'LOG waits for ever'
-    refused "${words[@]}" --ticks any --layer layer
     refused "${words[@]}" --ticks any --from /dev/null
     run 2 /dev/null "$(as_file echo "$one")" shrink "$folder/machine.cfg" /dev/null --find deadlock
     run 2 /dev/null "$(as_file echo "$one")" smp "$folder/machine.cfg" "$folder/scripts.txt" --ticks 1 --turns 9 --seeds 0..1 --find 'LOG waits for ever'
@@ -246,19 +245,17 @@ tells_of_many_calls() {
     run 0 "$(as_file echo never)" "$(as_file echo 'fmpsim: question: no order makes call 256 of main: sns_ctx()')" explore sleeps.cfg last.txt --ticks 0 --turns 1000 --find E_PAR
 }
 
-# leaves_traces: a search that came to its last line leaves the trace of each place that was found there, and what is answered from each of
-# them is joined to what is so of all orders.
-leaves_traces() {
+# goes_on_from_places: three orders of two lines lead to all places that are that far, and what is answered from each of them is what is so of all orders.
+goes_on_from_places() {
     local folder=$top/examples/explore-lock-order words file
     words=(explore "$folder/machine.cfg" "$folder/scripts.txt" --ticks 0 --find)
-    rm -rf layer
     run 6 "$(as_file echo not within 2)" "$(as_file printf 'fmpsim: question: no order of at most 2 lines makes call %s\n' '3 of reader: sig_sem(BUFFER)' \
-        '4 of reader: sig_sem(FLASH)' '3 of writer: sig_sem(FLASH)' '4 of writer: sig_sem(BUFFER)')" "${words[@]}" 'end & waits sem' --turns 2 --layer layer
+        '4 of reader: sig_sem(FLASH)' '3 of writer: sig_sem(FLASH)' '4 of writer: sig_sem(BUFFER)')" "${words[@]}" 'end & waits sem' --turns 2
     # each task has both semaphores, or each has one
-    left_traces layer 3 '1 P1 READER wai_sem(FLASH) E_OK' '2 P1 READER wai_sem(BUFFER) E_OK'
-    left_traces layer 3 '1 P1 READER wai_sem(FLASH) E_OK' '2 P2 WRITER wai_sem(BUFFER) E_OK'
-    left_traces layer 3 '1 P2 WRITER wai_sem(BUFFER) E_OK' '2 P2 WRITER wai_sem(FLASH) E_OK'
-    for file in layer/*.trace; do
+    printf '%s\n' '1 P1 READER wai_sem(FLASH) E_OK' '2 P1 READER wai_sem(BUFFER) E_OK' > 1.begun
+    printf '%s\n' '1 P1 READER wai_sem(FLASH) E_OK' '2 P2 WRITER wai_sem(BUFFER) E_OK' > 2.begun
+    printf '%s\n' '1 P2 WRITER wai_sem(BUFFER) E_OK' '2 P2 WRITER wai_sem(FLASH) E_OK' > 3.begun
+    for file in [123].begun; do
         run 0 "$(as_file echo yes)" /dev/null check "$folder/machine.cfg" "$file"
         run 0 "$(as_file echo never)" /dev/null "${words[@]}" E_PAR --turns 100 --from "$file"
         if grep -q READER "$file" && grep -q WRITER "$file"; then
@@ -267,29 +264,6 @@ leaves_traces() {
             run 0 "$(as_file echo never)" /dev/null "${words[@]}" 'end & waits sem' --turns 100 --from "$file"
         fi
     done
-    # a file that is there is not written over, and the answer stands before that
-    run 3 "$(as_file echo not within 1)" "$(as_file printf 'fmpsim: write failed\n  layer/1.trace: File exists (os error 17)\n')" \
-        "${words[@]}" E_PAR --turns 1 --layer layer
-    left_traces layer 3 '1 P1 READER wai_sem(FLASH) E_OK' '2 P1 READER wai_sem(BUFFER) E_OK'
-    # the folders before it are made, and where nothing is to be gone on from it stays empty
-    run 0 "$(as_file echo never)" /dev/null "${words[@]}" E_PAR --turns 100 --layer new/layer
-    run 5 "$folder/trace.txt" /dev/null "${words[@]}" 'end & waits sem' --turns 4 --layer new/layer
-    run 6 "$(as_file echo not within 1)" /dev/null "${words[@]}" E_PAR --turns 100 --places 3 --layer new/layer
-    [ -d new/layer ] && [ -z "$(ls -A new/layer)" ]
-    count "$([ $? = 0 ] && echo yes || echo no)" '# nothing is left in a new folder'
-    : > file
-    run 3 /dev/null "$(as_file printf 'fmpsim: write failed\n  file/layer: Not a directory (os error 20)\n')" "${words[@]}" E_PAR --turns 1 --layer file/layer
-    refused "${words[@]}" E_PAR --turns 1 --layer new/layer --from /dev/null
-}
-
-# left_traces FOLDER N LINE..: the folder has so many files, 1.trace and so on, and one of them is the trace of these lines.
-left_traces() {
-    local well=no number
-    for ((number = 1; number <= $2; number++)); do
-        printf '%s\n' "${@:3}" | cmp -s - "$1/$number.trace" && well=yes
-    done
-    [ "$(ls "$1" | wc -l)" = "$2" ] || well=no
-    count "$well" '# a trace is left:' "${@:3}"
 }
 
 # tells_beside_never: how much of a question comes that no order shows, on standard error, whatever becomes of that. It is not told of the orders that go on from a trace,
@@ -301,8 +275,6 @@ tells_beside_never() {
     echo never > never.txt
     run 0 never.txt beside.txt "${words[@]}"
     run 0 never.txt beside.txt "${words[@]}" --seconds 1000 --diagnostics=gcc
-    run 0 never.txt beside.txt "${words[@]}" --layer beside
-    count "$([ -d beside ] && [ -z "$(ls beside)" ] && echo yes || echo no)" '# nothing is left where no order shows it'
     run 0 never.txt /dev/null "${words[@]}" --from /dev/null
     well=no
     "$program" "${words[@]}" > output 2> /dev/full && cmp -s output never.txt && well=yes
@@ -467,7 +439,7 @@ ends_in_time() {
             && is_beside && [ $((SECONDS - begun)) -ge 1 ] && [ $((SECONDS - begun)) -lt 300 ] && well=yes
         count "$well" "${words[@]}" --find "$option"
     done
-    # of what stays for ever, from a trace, and with a folder for the traces to go on from, of which there are none then
+    # of what stays for ever, and from a trace
     well=no
     play explore "$folder/machine.cfg" "$folder/scripts.txt" --ticks any --drift 1000000 --turns 1000000 --places 20000000 --seconds 2
     [ $? = 6 ] && grep -qx 'not within [0-9]*' output && well=yes
@@ -477,10 +449,6 @@ ends_in_time() {
     play "${words[@]}" --find 'lost=*' --from begun.trace
     [ $? = 6 ] && grep -qx 'not within [0-9]*' output && well=yes
     count "$well" explore --seconds 2 --from begun.trace
-    well=no
-    play "${words[@]}" --find 'lost=*' --layer ended
-    [ $? = 6 ] && [ -d ended ] && [ -z "$(ls ended)" ] && well=yes
-    count "$well" explore --seconds 2 --layer ended
     folder=$top/examples/explore-lock-order
     run 5 "$folder/trace.txt" /dev/null explore "$folder/machine.cfg" "$folder/scripts.txt" --ticks 0 --turns 4 --find 'end & waits sem' --seconds 1000000
     run 0 "$(as_file echo never)" /dev/null explore "$folder/machine.cfg" "$folder/scripts.txt" --ticks 0 --turns 100 --find E_PAR --seconds 1000

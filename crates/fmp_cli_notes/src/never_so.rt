@@ -2,7 +2,7 @@
 use crate::notes::{About, Notes, tell};
 use crate::patterns::put_item;
 use fmp_facts::{Asked, Fact, Subject, Thing};
-use fmp_run_explore::Layer;
+use fmp_run_explore::Searched;
 use fmp_search_pattern::{Item, Wanted};
 use fmp_setup::Config;
 
@@ -75,8 +75,14 @@ fn is_given_alone(words: &[u8]) -> bool {
 }
 
 /// Tells of facts that no event has: that they are so at boot, or that there is not so much.
-fn tell_state<N: Notes>(notes: &mut N, about: About<'_>, layer: &Layer, item: &Item, words: &[u8]) {
-    match layer.is_so_at_boot(item.wanted()) {
+fn tell_state<N: Notes>(
+    notes: &mut N,
+    about: About<'_>,
+    searched: &Searched,
+    item: &Item,
+    words: &[u8],
+) {
+    match searched.is_so_at_boot(item.wanted()) {
         Ok(is) if is != item.is_negated() => {
             let mut line = about.line();
             line.put(b"'");
@@ -89,7 +95,7 @@ fn tell_state<N: Notes>(notes: &mut N, about: About<'_>, layer: &Layer, item: &I
         }
         _ => {}
     }
-    if let Some(most) = exceeded(layer.config(), item.wanted()) {
+    if let Some(most) = exceeded(searched.config(), item.wanted()) {
         let mut line = about.line();
         line.put(b"'");
         line.put(words);
@@ -111,14 +117,19 @@ fn tell_given<N: Notes>(notes: &mut N, about: About<'_>, words: &[u8]) {
 }
 
 /// Tells of a pattern, or of `not` and one, that no event of any order has why that may be so.
-pub(crate) fn tell_fact<N: Notes>(notes: &mut N, about: About<'_>, layer: &Layer, item: &Item) {
+pub(crate) fn tell_fact<N: Notes>(
+    notes: &mut N,
+    about: About<'_>,
+    searched: &Searched,
+    item: &Item,
+) {
     let mut text = Vec::new(about.alloc);
     if put_item(about.alloc, &mut text, item).is_err() {
         return;
     }
     let words = text.as_slice();
     match item.wanted() {
-        Wanted::State(..) => tell_state(notes, about, layer, item, words),
+        Wanted::State(..) => tell_state(notes, about, searched, item, words),
         Wanted::Line(_) if is_given_alone(words) => tell_given(notes, about, words),
         _ => {}
     }

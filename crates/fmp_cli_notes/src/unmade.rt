@@ -155,16 +155,17 @@ fn tell_without<N: Notes>(
 }
 
 /// Whether the search used up the room for places, and that for the calls would, too. A question of one step without `without` lets both go through the same places.
-fn has_no_room(outcome: &Outcome, room: u32) -> bool {
+fn has_no_room(outcome: &Outcome, bounds: Bounds) -> bool {
     let is_full = match outcome.extent {
-        Some(extent) => extent.places >= room as usize,
+        Some(extent) => extent.places >= bounds.places.count as usize,
         None => false,
     };
-    let is_one = match outcome.layer.question().steps() {
+    let is_one = match outcome.searched.question().steps() {
         [step] => step.without.is_none(),
         _ => false,
     };
-    let is_ended = matches!(outcome.finding, Finding::NotWithin(_)) && outcome.layer.count() == 0;
+    let is_ended =
+        matches!(outcome.finding, Finding::NotWithin(turns) if turns < bounds.turns.count);
     is_ended && is_full && is_one
 }
 
@@ -231,8 +232,8 @@ pub fn note_unmade<N: Notes + Progress>(
     bounds: Bounds,
 ) {
     if let Some(extent) = outcome.extent {
-        if !has_no_room(outcome, bounds.places.count) {
-            note_calls_unmade(notes, about, outcome.layer.orders(), extent, bounds);
+        if !has_no_room(outcome, bounds) {
+            note_calls_unmade(notes, about, outcome.searched.orders(), extent, bounds);
         }
     }
 }

@@ -2,9 +2,9 @@
 use crate::never_so::tell_fact;
 use crate::notes::{About, Notes, tell};
 use crate::patterns::put_item;
-use fmp_cli_explore::ExploreRequest;
+use fmp_cli::ExploreRequest;
 use fmp_ranges::Bounds;
-use fmp_run_explore::{Finding, Layer, Outcome, Progress};
+use fmp_run_explore::{Finding, Outcome, Progress, Searched};
 use fmp_search_pattern::{Item, Moment, Part, Question, Step};
 use fmp_search_question::read_question;
 use std::alloc::{AllocError, Global};
@@ -109,7 +109,7 @@ fn steps_come<P: Progress>(
     progress: &mut P,
 ) -> Option<usize> {
     match outcome.finding {
-        Finding::Never => outcome.layer.came(alloc, progress, bounds).ok()?,
+        Finding::Never => outcome.searched.came(alloc, progress, bounds).ok()?,
         _ => None,
     }
 }
@@ -117,13 +117,13 @@ fn steps_come<P: Progress>(
 /// Whether an event of some order has a pattern, where that is known.
 fn has_event<P: Progress>(
     alloc: Global,
-    layer: &Layer,
+    searched: &Searched,
     pattern: &[u8],
     bounds: Bounds,
     progress: &mut P,
 ) -> Option<bool> {
-    let question = read_question(alloc, layer.names(), pattern).ok()?;
-    let found = layer.finding(alloc, &question, progress, bounds);
+    let question = read_question(alloc, searched.names(), pattern).ok()?;
+    let found = searched.finding(alloc, &question, progress, bounds);
     match found.ok()? {
         Finding::Shown => Some(true),
         Finding::Never => Some(false),
@@ -170,10 +170,10 @@ fn tell_pattern<N: Notes>(notes: &mut N, about: About<'_>, pattern: &[u8], has: 
 }
 
 /// Tells of a pattern that no event has why that is so, where it is for what the configuration says.
-fn tell_of_pattern<N: Notes>(notes: &mut N, about: About<'_>, layer: &Layer, pattern: &[u8]) {
-    if let Ok(question) = read_question(about.alloc, layer.names(), pattern) {
+fn tell_of_pattern<N: Notes>(notes: &mut N, about: About<'_>, searched: &Searched, pattern: &[u8]) {
+    if let Ok(question) = read_question(about.alloc, searched.names(), pattern) {
         if let Some(item) = plain_item(&question) {
-            tell_fact(notes, about, layer, item);
+            tell_fact(notes, about, searched, item);
         }
     }
 }
@@ -182,11 +182,11 @@ fn tell_of_pattern<N: Notes>(notes: &mut N, about: About<'_>, layer: &Layer, pat
 fn tell_patterns<N: Notes + Progress>(
     notes: &mut N,
     about: About<'_>,
-    layer: &Layer,
+    searched: &Searched,
     come: usize,
     bounds: Bounds,
 ) {
-    let Some(step) = layer.question().steps().get(come) else {
+    let Some(step) = searched.question().steps().get(come) else {
         return;
     };
     let is_known = come == 0 && only_item(step).is_some();
@@ -196,14 +196,14 @@ fn tell_patterns<N: Notes + Progress>(
         let has = if is_known {
             Some(false)
         } else {
-            has_event(about.alloc, layer, pattern, bounds, notes)
+            has_event(about.alloc, searched, pattern, bounds, notes)
         };
         notes.end();
         if let Some(has) = has {
             tell_pattern(notes, about, pattern, has);
         }
         if has == Some(false) {
-            tell_of_pattern(notes, about, layer, pattern);
+            tell_of_pattern(notes, about, searched, pattern);
         }
     }
 }
@@ -218,12 +218,12 @@ fn tell_unshown<N: Notes + Progress>(
     let Some(come) = steps_come(about.alloc, outcome, bounds, notes) else {
         return;
     };
-    let count = outcome.layer.question().steps().len();
+    let count = outcome.searched.question().steps().len();
     notes.end();
     if count > 1 {
         tell_steps(notes, about, come, count);
     }
-    tell_patterns(notes, about, &outcome.layer, come, bounds);
+    tell_patterns(notes, about, &outcome.searched, come, bounds);
 }
 
 /// Tells that orders have no interrupts which change nothing.
@@ -241,7 +241,7 @@ pub fn note_unshown<N: Notes + Progress>(
     outcome: &Outcome,
     request: &ExploreRequest<'_>,
 ) {
-    let question = outcome.layer.question();
+    let question = outcome.searched.question();
     if !matches!(outcome.finding, Finding::Never) {
         return;
     }
@@ -250,7 +250,7 @@ pub fn note_unshown<N: Notes + Progress>(
         tell_spurious(notes, about);
     }
     match plain_item(question) {
-        Some(item) => tell_fact(notes, about, &outcome.layer, item),
+        Some(item) => tell_fact(notes, about, &outcome.searched, item),
         None if notes.is_over() => {}
         None => tell_unshown(notes, about, outcome, request.bounds),
     }

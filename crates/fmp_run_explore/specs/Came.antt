@@ -10,7 +10,7 @@ use Rattle.fmp_search_orders.specs.Shown.{Shows, NoneShows}
 use Rattle.fmp_run_texts.specs.declared.status.Status.TheVariants.{Limit}
 use Rattle.fmp_run_explore.specs.declared.finding.Finding.{Finding}
 use Rattle.fmp_run_explore.specs.Explored.{Finds, IsEndedBy, status_of}
-use Rattle.fmp_run_explore.specs.Views.{Layer}
+use Rattle.fmp_run_explore.specs.Searched.{Searched}
 
 -- some order shows the question
 abbrev pub SomeShows : Setup → List Steps → Rules → List Step → Type 0
@@ -31,7 +31,7 @@ pub record IsLeftOpen (c : Setup) (scripts : List Steps) (rules : Rules) (questi
   pub ended : IsEndedBy over found
   pub unknown : status_of found ≡ Limit
 
--- what is known of the steps of a layer's question
-abbrev pub IsCome : Layer → ℕ → ℕ → Bool → Option ℕ → Type 0
-IsCome l turns room over None = IsLeftOpen l.config l.scripts l.rules l.question turns room over
-IsCome l turns room over (Some n) = HasCome l.config l.scripts l.rules l.question n
+-- what is known of the steps of what was looked for
+abbrev pub IsCome : Searched → ℕ → ℕ → Bool → Option ℕ → Type 0
+IsCome s turns room over None = IsLeftOpen s.config s.scripts s.rules s.question turns room over
+IsCome s turns room over (Some n) = HasCome s.config s.scripts s.rules s.question n

@@ -4,12 +4,12 @@ ghost use Rattle.fmp_search_orders.specs.Shown.{NoneShows};
 ghost use Rattle.fmp_run_explore.specs.Came as spec;
 
 use crate::finding::Finding;
-use crate::layer::Layer;
+use crate::searched::Searched;
 use fmp_ranges::Bounds;
 use fmp_search::Progress;
 use std::alloc::{AllocError, Global};
 
-impl Layer {
+impl Searched {
     /// How many steps of the question come in some order, where none shows all of them. It is searched for by halving. It is not known where one of
     /// these searches does not say whether an order shows the first steps. The error is want of memory.
     pub fn came<P: Progress>(

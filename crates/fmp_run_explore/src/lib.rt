@@ -2,8 +2,7 @@
 //!
 //! [`run_explore`] reads both texts and the question, goes through every order of calls, interrupts and ticks that the rules allow, and writes
 //! `never`, `not within` and a number, or the trace of a shortest order that shows the question. What each of them says of all orders is
-//! `Finds` in `specs/Explored`: begin there. From where a search is to go on, and that what is known of the orders that go on from there is known of
-//! all, is `LeavesLayer` in `specs/Left`. How many steps come of a question that no order shows is `HasCome` in `specs/Came`, how far the search went
+//! `Finds` in `specs/Explored`: begin there. How many steps come of a question that no order shows is `HasCome` in `specs/Came`, how far the search went
 //! is `IsGone` in `specs/Gone`, and which calls of the scripts are made `SaysMade` in `specs/Made`. Orders, and when one shows a question, are in
 //! `fmp_search_orders`.
 //!
@@ -16,11 +15,11 @@ mod asking;
 mod came;
 mod fault;
 mod finding;
-mod layer;
 mod made;
 mod orders;
 mod request;
 mod run;
+mod searched;
 mod searching;
 mod telling;
 mod writing;
@@ -32,10 +31,10 @@ pub use finding::Finding;
 pub use fmp_search::{Extent, Met, Progress};
 pub use fmp_search_orders::Rules;
 pub use fmp_search_question::QuestionFault;
-pub use layer::{Layer, Outcome};
 pub use made::is_made;
 pub use orders::Orders;
 pub use request::SearchRequest;
 pub use run::run_explore;
+pub use searched::{Outcome, Searched};
 pub use searching::two_walkers;
 pub use telling::{never, not_within, trace_along};

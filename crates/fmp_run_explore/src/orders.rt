@@ -1,7 +1,7 @@
 //! The orders in which is looked.
 ghost use Rattle.std.specs.Prelude.{◌≡◌};
 
-use crate::layer::Layer;
+use crate::searched::Searched;
 use fmp_rules::Config;
 use fmp_search_orders::Rules;
 use fmp_text_scripts::Scripts;
@@ -14,7 +14,7 @@ pub struct Orders<'a> {
     pub rules: Rules,
 }
 
-impl Layer {
+impl Searched {
     /// The orders in which is looked.
     pub fn orders(&self) -> Orders<'_>
         ensures config { result.config.now ≡ self.now.config }

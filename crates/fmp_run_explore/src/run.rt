@@ -7,13 +7,13 @@ ghost use Rattle.fmp_run_explore.specs.Faults.{OwesSearch};
 ghost use Rattle.fmp_run_explore.specs.Explored.{IsBegun, IsEndedBy, IsExplored};
 ghost use Rattle.fmp_run_explore.specs.Faults as faults;
 ghost use Rattle.fmp_run_explore.specs.Gone.{IsGone};
-ghost use Rattle.fmp_run_explore.specs.Left.{LeavesLayer};
+ghost use Rattle.fmp_run_explore.specs.Searched.{IsOfTexts};
 
 use crate::asker::StepsAsker;
 use crate::asking::asked_from;
 use crate::fault::ExploreFault;
-use crate::layer::Outcome;
 use crate::request::SearchRequest;
+use crate::searched::Outcome;
 use crate::writing::{WriteFault, found_written};
 use fmp_run_devices::{Sink, Source};
 use fmp_run_texts::RunFault;
@@ -50,13 +50,12 @@ pub fn run_explore<R: Source, S: Source, W: Sink, P: Progress>(
         (source_ends R.left R.failures config.old config.new) (source_ends S.left S.failures scripts.old scripts.new)
         (sink_ends W.written W.buffered W.failures output.old output.new) result }
 
-    // Beside that it gives the orders from which a search is to go on.
-    ensures layer { IsKnown (R.left config.old) → IsKnown (S.left scripts.old)
-        → IfOk result (λ o. LeavesLayer (bytes_of (R.left config.old))
-        (bytes_of (S.left scripts.old)) request.now.question.now request.now.rules request.now.bounds.turns.count o.finding o.layer) }
+    // Beside that it gives what it searched, for what may be asked besides.
+    ensures searched { IsKnown (R.left config.old) → IsKnown (S.left scripts.old)
+        → IfOk result (λ o. IsOfTexts (bytes_of (R.left config.old)) (bytes_of (S.left scripts.old)) request.now.question.now request.now.rules o.searched) }
 
     // It tells how far it went.
-    ensures went { IfOk result (λ o. IsGone o.layer o.finding o.extent) }
+    ensures went { IfOk result (λ o. IsGone o.searched o.finding o.extent) }
 
     // Less is known than was asked for, with room that is left, only where the search was ended.
     ensures ended { IfOk result (λ o. IsEndedBy (P.over progress.new) o.finding) }

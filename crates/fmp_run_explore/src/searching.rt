@@ -3,30 +3,27 @@ ghost use Rattle.std.specs.Prelude.{◌≡◌, ◌-◌, IfOk};
 ghost use Rattle.fmp_text_scripts.specs.Scripts.{AreInBits};
 ghost use Rattle.fmp_search.specs.Answers.{IsEndedBy as IsAnswerEndedBy, Says};
 ghost use Rattle.fmp_search.specs.Extents.{Went};
-ghost use Rattle.fmp_search.specs.Roots.{Leaves as LeavesRoots};
 ghost use Rattle.fmp_search_orders.specs.Laws.{is_seen};
 ghost use Rattle.fmp_search_orders.specs.Places as places;
 ghost use Rattle.fmp_run_explore.specs.Explored.{Finds, IsEndedBy};
 ghost use Rattle.fmp_run_explore.specs.Gone.{IsGone};
-ghost use Rattle.fmp_run_explore.specs.Left.{Leaves};
-ghost use Rattle.fmp_run_explore.specs.Views.{layer_of, CanBeMade};
+ghost use Rattle.fmp_run_explore.specs.Searched.{searched};
 
 use crate::finding::Finding;
 use crate::orders::Orders;
 use crate::telling::{never, not_within, trace_along};
 use fmp_ranges::Bounds;
-use fmp_search::{Answer, Extent, Progress, Roots, Space, explore_measured};
+use fmp_search::{Answer, Extent, Progress, Space, explore};
 use fmp_search_kernel::Walker;
-use fmp_search_orders::{places_answer, roots_answer};
+use fmp_search_orders::places_answer;
 use fmp_search_pattern::Question;
 use std::alloc::{AllocError, Global};
 
-/// What is known of all orders, the text that tells it, the steps from which the search is to go on, and how far it went.
+/// What is known of all orders, the text that tells it, and how far the search went.
 #[derive(Drop)]
 pub(crate) struct Report {
     pub(crate) finding: Finding,
     pub(crate) text: Vec<u8>,
-    pub(crate) roots: Roots,
     pub(crate) extent: Option<Extent>,
 }
 
@@ -43,7 +40,7 @@ pub fn two_walkers<'a>(
     Ok((first, second))
 }
 
-/// What `explore_measured` gives, by these two pairs. It is of any space, since in a function of walkers, which borrow what they are asked, the check of these
+/// What `explore` gives, by these two pairs. It is of any space, since in a function of walkers, which borrow what they are asked, the check of these
 /// borrows takes minutes.
 fn explored<W: Space + Drop, P: Progress>(
     alloc: Global,
@@ -51,16 +48,15 @@ fn explored<W: Space + Drop, P: Progress>(
     others: (W, W),
     progress: &mut P,
     bounds: Bounds,
-) -> Result<(Answer, Roots, Option<Extent>), AllocError>
+) -> Result<(Answer, Option<Extent>), AllocError>
     requires origins { (W.origin walkers.1 ≡ W.origin walkers.0) × (W.origin others.0 ≡ W.origin walkers.0) × (W.origin others.1 ≡ W.origin walkers.0) }
     ensures says { IfOk result (λ r. Says W.after W.wanted (W.origin walkers.0) bounds.turns.count (bounds.places.count - 1) r.0) }
-    ensures leaves { IfOk result (λ r. LeavesRoots W.after W.wanted (W.origin walkers.0) bounds.turns.count r.0 r.1) }
-    ensures went { IfOk result (λ r. Went W.after (W.origin walkers.0) r.0 r.2) }
+    ensures went { IfOk result (λ r. Went W.after (W.origin walkers.0) r.0 r.1) }
     ensures ended { IfOk result (λ r. IsAnswerEndedBy (P.over progress.new) r.0) }
 {
     let (mut walker, mut base) = walkers;
     let (mut other, mut trunk) = others;
-    explore_measured(
+    explore(
         alloc,
         &mut walker,
         &mut base,
@@ -72,19 +68,17 @@ fn explored<W: Space + Drop, P: Progress>(
     )
 }
 
-/// What is known of all runs over places, as far as the bounds say, the places that were found last, and how far the search went.
+/// What is known of all runs over places, as far as the bounds say, and how far the search went.
 fn answered<P: Progress>(
     alloc: Global,
     orders: &Orders<'_>,
     question: &Question,
     progress: &mut P,
     bounds: Bounds,
-) -> Result<(Answer, Roots, Option<Extent>), AllocError>
+) -> Result<(Answer, Option<Extent>), AllocError>
     ensures says { IfOk result (λ r. Says places.after is_seen
         (places.origin orders.now.config.now orders.now.scripts.now orders.now.rules question.now) bounds.turns.count (bounds.places.count - 1) r.0) }
-    ensures leaves { IfOk result (λ r. LeavesRoots places.after is_seen
-        (places.origin orders.now.config.now orders.now.scripts.now orders.now.rules question.now) bounds.turns.count r.0 r.1) }
-    ensures went { IfOk result (λ r. Went places.after (places.origin orders.now.config.now orders.now.scripts.now orders.now.rules question.now) r.0 r.2) }
+    ensures went { IfOk result (λ r. Went places.after (places.origin orders.now.config.now orders.now.scripts.now orders.now.rules question.now) r.0 r.1) }
     ensures ended { IfOk result (λ r. IsAnswerEndedBy (P.over progress.new) r.0) }
 {
     let walkers = two_walkers(orders, question)?;
@@ -92,7 +86,7 @@ fn answered<P: Progress>(
     explored(alloc, walkers, others, progress, bounds)
 }
 
-/// What is known of all orders, with the text that tells it and what is left to go on from. The error is want of memory.
+/// What is known of all orders, with the text that tells it. The error is want of memory.
 pub(crate) fn found<P: Progress>(
     alloc: Global,
     orders: &Orders<'_>,
@@ -103,43 +97,35 @@ pub(crate) fn found<P: Progress>(
     requires in_bits { AreInBits orders.now.scripts.now }
     ensures finds { IfOk result (λ r. Finds orders.now.config.now orders.now.scripts.now orders.now.rules question.now bounds.turns.count
         (bounds.places.count - 1) r.text.items r.finding) }
-    ensures leaves { IfOk result (λ r. Leaves bounds.turns.count r.finding
-        (layer_of orders.now.config.now orders.now.scripts.now orders.now.rules question.now r.roots)) }
-    ensures made { IfOk result (λ r. CanBeMade (places.origin orders.now.config.now orders.now.scripts.now orders.now.rules question.now) r.roots) }
-    ensures went { IfOk result (λ r. IsGone (layer_of orders.now.config.now orders.now.scripts.now orders.now.rules question.now r.roots) r.finding r.extent) }
+    ensures went { IfOk result (λ r. IsGone (searched orders.now.config.now orders.now.scripts.now orders.now.rules question.now) r.finding r.extent) }
     ensures ended { IfOk result (λ r. IsEndedBy (P.over progress.new) r.finding) }
 {
     let names = orders.config.names();
     names.validity();
     places_answer();
-    roots_answer();
-    let (answer, roots, extent) = answered(alloc, orders, question, progress, bounds)?;
+    let (answer, extent) = answered(alloc, orders, question, progress, bounds)?;
     match answer {
         Answer::Found(steps) => {
             let text = trace_along(alloc, orders, question, &steps)?;
             Ok(Report {
                 finding: Finding::Shown,
                 text,
-                roots,
                 extent,
             })
         }
         Answer::Never => Ok(Report {
             finding: Finding::Never,
             text: never(alloc)?,
-            roots,
             extent,
         }),
         Answer::NotWithin(turns) => Ok(Report {
             finding: Finding::NotWithin(turns),
             text: not_within(alloc, turns)?,
-            roots,
             extent,
         }),
         Answer::Ended(turns) => Ok(Report {
             finding: Finding::Ended(turns),
             text: not_within(alloc, turns)?,
-            roots,
             extent,
         }),
     }

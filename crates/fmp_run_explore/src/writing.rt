@@ -4,12 +4,12 @@ ghost use Rattle.fmp_run_devices.specs.Devices.{IsKnown, bytes_of};
 ghost use Rattle.fmp_text_scripts.specs.Scripts.{AreInBits};
 ghost use Rattle.fmp_run_explore.specs.Explored.{IsEndedBy, IsPartWritten, IsWritten};
 ghost use Rattle.fmp_run_explore.specs.Gone.{IsGone};
-ghost use Rattle.fmp_run_explore.specs.Left.{IsLeft};
+ghost use Rattle.fmp_run_explore.specs.Searched.{searched};
 ghost use Rattle.fmp_run_explore.specs.Faults as faults;
 
 use crate::asking::Asked;
-use crate::layer::{Layer, Outcome};
 use crate::orders::Orders;
+use crate::searched::{Outcome, Searched};
 use crate::searching::found;
 use fmp_ranges::Bounds;
 use fmp_run_devices::{Sink, write_out};
@@ -42,8 +42,8 @@ pub(crate) fn found_written<W: Sink, P: Progress>(
         → IfOk result (λ o. IsWritten asked.config asked.scripts rules asked.question bounds.turns.count (bounds.places.count - 1)
         (bytes_of (W.written output.old))
         (bytes_of (W.written output.new)) o.finding) }
-    ensures left { IfOk result (λ o. IsLeft asked.config asked.scripts rules asked.question bounds.turns.count o.finding o.layer) }
-    ensures went { IfOk result (λ o. IsGone o.layer o.finding o.extent) }
+    ensures searched { IfOk result (λ o. o.searched ≡ searched asked.config asked.scripts rules asked.question) }
+    ensures went { IfOk result (λ o. IsGone o.searched o.finding o.extent) }
     ensures ended { IfOk result (λ o. IsEndedBy (P.over progress.new) o.finding) }
     ensures known { IsKnown (W.written output.old) → IsKnown (W.written output.new) }
     ensures passed { OnOk result (W.buffered output.new ≡ []) }
@@ -68,7 +68,7 @@ pub(crate) fn found_written<W: Sink, P: Progress>(
         Ok(()) => Ok(Outcome {
             finding: report.finding,
             extent: report.extent,
-            layer: Layer::of(asked, rules, report.roots),
+            searched: Searched::of(asked, rules),
         }),
         Err(_) => Err(WriteFault::Write),
     }

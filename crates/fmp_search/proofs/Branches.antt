@@ -1,4 +1,4 @@
--- The steps to each place that was found, and runs that go on from the last of them.
+-- The steps to each place that was found.
 use Rattle.std.proofs.Common.{◌≡◌, ◌⊎◌, ℕ, zero, suc, ◌+◌, ◌-◌, ◌<◌, ◌≤◌, Bool, true, Option, None, Some, List, [], ◌∷◌, ◌++◌, length, take, drop, get_or, inl, inr, refl, ap, sym, ◌∙◌, arith, rules}
 use Rattle.std.specs.Prelude.{reverse, slice_get, slice_index_or}
 use Rattle.std.specs.Option.{option_and_then}
@@ -13,7 +13,7 @@ use Rattle.fmp_search.specs.declared.nodes.Node.{Node}
 use Rattle.fmp_search.specs.Runs.{run}
 use Rattle.fmp_search.specs.Trees.{root, found_at, IsTree}
 use Rattle.fmp_search.specs.Answers.{Explored}
-use Rattle.fmp_search.specs.Roots.{with_path, paths, path_at, AreAfter, roots_of, GoesThrough, AreRoots}
+use Rattle.fmp_search.specs.Steps.{with_path, paths, path_at, AreAfter}
 use Rattle.fmp_search.proofs.Trees.{run-append, found-root}
 use Rattle.fmp_search.proofs.Layers.{none-within}
 
@@ -152,135 +152,3 @@ walk_back ns place d back more all following some low is way =
       omega (arith, early, lt),
       ap (λ (xs : List ℕ). path_at ns node.parent ++ xs) turned ∙ joined ∙ ap (λ (xs : List ℕ). xs ++ reverse back) (sym path) ∙ way,
     )
-
--- ---- runs that go on from the last places
-
--- what is behind so many is at the same number less these
-get_drop : {X : Type 0} (xs : List X) (n i : ℕ) (d : X) → n ≤ i → i < length xs → slice_get (drop n xs) (i - n) ≡ Some (get_or xs i d)
-get_drop xs n i d le lt =
-    let long : length (drop n xs) ≡ length xs - n = length-drop n xs in
-    let within : i - n < length (drop n xs) = omega (arith, long, le, lt) in
-    let at : n + (i - n) ≡ i = omega (arith, le) in
-    slice_get-get_or (drop n xs) (i - n) d within ∙ ap Some (get_or-drop n xs (i - n) d ∙ ap (λ k. get_or xs k d) at)
-
-pub roots-count : (ns : List Node) (first : ℕ) → length (roots_of ns first) ≡ length ns + 1 - first
-roots-count ns first = length-drop first (paths ns) ∙ ap (λ n. n - first) (paths-length ns)
-
-pub roots-none : (ns : List Node) → ns ≡ [] → roots_of ns 1 ≡ []
-unfolding paths
-roots-none ns none = ap (λ (xs : List Node). roots_of xs 1) none
-
--- a number among these is that of a place
-pub root-low : (ns ms : List Node) (roots : List (List ℕ)) (first at : ℕ) → ms ≡ ns → roots_of ns first ≡ roots → first ≤ length ns + 1 → at < length roots → first + at ≤ length ms
-root-low ns ms roots first at same are few lt =
-    let count = roots-count ns first in
-    let long = ap length are in
-    let as_long = ap length same in
-    omega (arith, count, long, as_long, few, lt)
-
--- the steps from where all runs begin to a place are its path
-pub root-steps :
-    (ns ms : List Node) (roots : List (List ℕ)) (first at from : ℕ) (steps : List ℕ) → ms ≡ ns → roots_of ns first ≡ roots → first ≤ length ns + 1 → at < length roots →
-    from ≡ 0 → path_at ms from ++ steps ≡ path_at ms (first + at) → slice_get roots at ≡ Some steps
-root-steps ns ms roots first at from steps same are few lt begins path =
-    let low = root-low ns ms roots first at same are few lt in
-    let l = paths-length ms in
-    let back : first + at - first ≡ at = omega arith in
-    let own : steps ≡ path_at ms (first + at) = ap (λ (xs : List ℕ). xs ++ steps) (sym (ap (path_at ms) begins ∙ path-first ms)) ∙ path in
-    let got = get_drop (paths ms) first (first + at) [] (omega arith) (omega (arith, l, low)) in
-    ap (λ (xs : List (List ℕ)). slice_get xs at) (sym (ap (λ (xs : List Node). roots_of xs first) same ∙ are)) ∙ ap (slice_get (roots_of ms first)) (sym back) ∙ got ∙ ap Some (sym own)
-
-module _ {P : Type 0} (after : P → ℕ → Option P) (wanted : P → Bool) (q : P) where
-  split_at : (o : Option P) (ys : List ℕ) (r : P) → option_and_then (λ x. run after x ys) o ≡ Some r → (p : P) × (o ≡ Some p) × (run after p ys ≡ Some r)
-  split_at None ys r h = absurd (search rules)
-  split_at (Some p) ys r h = (p, refl, h)
-
-  no_longer : (roots : List (List ℕ)) (r : P) (n m : ℕ) → n ≤ m → GoesThrough after q roots r n → GoesThrough after q roots r m
-  no_longer roots r n m le g =
-      let short = g.short in
-      record { number = g.number; root = g.root; more = g.more; is_root = g.is_root; leads = g.leads; short = omega (arith, short, le) }
-
-  -- the run by the steps to a place that a run of n steps leads to
-  by_place :
-      (ns : List Node) (n first : ℕ) (steps : List ℕ) (r : P) → Explored after wanted q ns n (length ns + 1) first →
-      ((i : ℕ) → i < first → (found_at after q ns i).depth < n) →
-      ((others : List ℕ) → length others < length steps → run after q others ≡ Some r → GoesThrough after q (roots_of ns first) r (length others)) →
-      n ≤ length steps → (i : ℕ) → i < length ns + 1 → run after (found_at after q ns i).place (drop n steps) ≡ Some r →
-      (i < first) ⊎ (first ≤ i) → GoesThrough after q (roots_of ns first) r (length steps)
-  by_place ns n first steps r x near shorter long i lt rest (inl before) =
-      let low : i ≤ length ns = omega (arith, lt) in
-      let others = path_at ns i ++ drop n steps in
-      let deep = near i before in
-      let count = path_long after q ns i x.tree low in
-      let rest_count : length (drop n steps) ≡ length steps - n = length-drop n steps in
-      let all : length others ≡ length (path_at ns i) + length (drop n steps) = length-append (path_at ns i) (drop n steps) in
-      let less : length others < length steps = omega (arith, all, count, deep, rest_count, long) in
-      no_longer (roots_of ns first) r (length others) (length steps) (omega (arith, less))
-      (shorter others less (goes_on after q (path_at ns i) (drop n steps) _ (Some r) (path_leads after q ns i x.tree low) rest))
-  by_place ns n first steps r x near shorter long i lt rest (inr following) =
-      let low : i ≤ length ns = omega (arith, lt) in
-      let deep = x.near i lt in
-      let count = path_long after q ns i x.tree low in
-      let rest_count : length (drop n steps) ≡ length steps - n = length-drop n steps in
-      let all : length (path_at ns i ++ drop n steps) ≡ length (path_at ns i) + length (drop n steps) = length-append (path_at ns i) (drop n steps) in
-      let l = paths-length ns in
-      record {
-        number = i - first;
-        root = path_at ns i;
-        more = drop n steps;
-        is_root = get_drop (paths ns) first i [] following (omega (arith, l, lt));
-        leads = goes_on after q (path_at ns i) (drop n steps) _ (Some r) (path_leads after q ns i x.tree low) rest;
-        short = omega (arith, all, count, deep, rest_count, long);
-      }
-
-  -- a run of so many steps passes one of the last places, or one no longer run does
-  joins_long :
-      (ns : List Node) (n first : ℕ) (steps : List ℕ) (r : P) → Explored after wanted q ns n (length ns + 1) first →
-      ((i : ℕ) → i < first → (found_at after q ns i).depth < n) →
-      ((others : List ℕ) → length others < length steps → run after q others ≡ Some r → GoesThrough after q (roots_of ns first) r (length others)) →
-      run after q steps ≡ Some r → wanted r ≡ true → (n < length steps) ⊎ (length steps ≤ n) → GoesThrough after q (roots_of ns first) r (length steps)
-  joins_long ns n first steps r x near shorter leads is (inr le) =
-      let none = none-within after wanted q ns n (length ns + 1) first x steps r le leads in
-      absurd (search (rules, none, is))
-  joins_long ns n first steps r x near shorter leads is (inl long) =
-      let halves : run after q (take n steps ++ drop n steps) ≡ Some r = ap (run after q) (take-append-drop n steps) ∙ leads in
-      let two = split_at (run after q (take n steps)) (drop n steps) r (sym (run-append after q (take n steps) (drop n steps)) ∙ halves) in
-      let few = length-take-le n steps (omega (arith, long)) in
-      let got = x.complete (take n steps) two.0 (omega (arith, few)) two.1 in
-      let rest : run after (found_at after q ns got.0).place (drop n steps) ≡ Some r = ap (λ p. run after p (drop n steps)) got.2 ∙ two.2 in
-      by_place ns n first steps r x near shorter (omega (arith, long)) got.0 got.1 rest (cases_lt got.0 first)
-
-  -- by runs of ever fewer steps
-  joins_below :
-      (ns : List Node) (n first : ℕ) → Explored after wanted q ns n (length ns + 1) first → ((i : ℕ) → i < first → (found_at after q ns i).depth < n) →
-      (most : ℕ) (steps : List ℕ) (r : P) → length steps < most → run after q steps ≡ Some r → wanted r ≡ true → GoesThrough after q (roots_of ns first) r (length steps)
-  joins_below ns n first x near zero steps r lt leads is = absurd (omega (arith, lt))
-  joins_below ns n first x near (suc most) steps r lt leads is =
-      joins_long ns n first steps r x near (λ others less on. joins_below ns n first x near most others r (omega (arith, less, lt)) on is) leads is (cases_lt n (length steps))
-
-  -- the steps to the last places that were found
-  pub are_roots :
-      (ns : List Node) (n first : ℕ) → Explored after wanted q ns n (length ns + 1) first → ((i : ℕ) → i < first → (found_at after q ns i).depth < n) → first ≤ length ns →
-      AreRoots after wanted q n (roots_of ns first)
-  are_roots ns n first x near few = record {
-    leads = λ k root is.
-        let at = within k root is in
-        ((found_at after q ns (first + k)).place, ap (run after q) (sym at.1) ∙ path_leads after q ns (first + k) x.tree (at.0));
-    short = λ k root is.
-        let at = within k root is in
-        let low = at.0 in
-        let count = path_long after q ns (first + k) x.tree low in
-        let deep = x.near (first + k) (omega (arith, low)) in
-        let same = ap (λ (xs : List ℕ). length xs) at.1 in
-        omega (arith, count, deep, same);
-    joins = λ steps r leads is. joins_below ns n first x near (length steps + 1) steps r (omega arith) leads is;
-  }
-    where
-      within : (k : ℕ) (root : List ℕ) → slice_get (roots_of ns first) k ≡ Some root → (first + k ≤ length ns) × (path_at ns (first + k) ≡ root)
-      within k root is =
-          let lt = slice_get_within (roots_of ns first) k root is in
-          let long : length (drop first (paths ns)) ≡ length (paths ns) - first = length-drop first (paths ns) in
-          let l = paths-length ns in (
-            omega (arith, lt, long, l),
-            sym (get_or-drop first (paths ns) k []) ∙ get_or_from_slice_get (drop first (paths ns)) k root [] is,
-          )

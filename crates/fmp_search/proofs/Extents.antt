@@ -11,7 +11,7 @@ use Rattle.fmp_search.specs.declared.extent.Extent.{Extent}
 use Rattle.fmp_search.specs.Trees.{IsTree}
 use Rattle.fmp_search.specs.Answers.{AreApart, AreOpened, Explored}
 use Rattle.fmp_search.specs.Forever.{AreNearest}
-use Rattle.fmp_search.specs.Roots.{path_at, AreAfter}
+use Rattle.fmp_search.specs.Steps.{path_at, AreAfter}
 use Rattle.fmp_search.specs.Extents.{IsExtent, HasGone}
 use Rattle.fmp_search.proofs.Branches.{path-step}
 use Rattle.fmp_search.proofs.Layers.{complete-all}

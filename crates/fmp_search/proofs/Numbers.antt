@@ -5,7 +5,7 @@ use Rattle.fmp_search.specs.declared.nodes.Node.{Node}
 use Rattle.fmp_search.specs.Trees.{found_at}
 use Rattle.fmp_search.specs.Answers.{Explored}
 use Rattle.fmp_search.specs.Surveys.{IsPassed}
-use Rattle.fmp_search.specs.Roots.{path_at}
+use Rattle.fmp_search.specs.Steps.{path_at}
 use Rattle.fmp_search.specs.Meeting.{IsMarked, IsNear, IsReported, IsReportedAt, IsReportedWithin}
 use Rattle.fmp_search.proofs.Branches.{path_leads, path_long}
 use Rattle.fmp_search.proofs.Extents.{all_near}

@@ -1,5 +1,5 @@
 -- Walkers that stand at places that were found, from which others set out.
-use Rattle.std.specs.Prelude.{◌≡◌, ℕ, ◌<◌, ◌≤◌, ◌^◌, Option, List, length, slice_index_or}
+use Rattle.std.specs.Prelude.{ℕ, ◌<◌, ◌≤◌, ◌^◌, Option, List, length, slice_index_or}
 use Rattle.fmp_search.specs.declared.cache.Cached.{Cached}
 use Rattle.fmp_search.specs.declared.nodes.Node.{Node}
 use Rattle.fmp_search.specs.Trees.{found_at, IsTree, Stands}

@@ -9,7 +9,7 @@ use Rattle.fmp_search.specs.declared.staying.Stay.TheVariants as stay
 use Rattle.fmp_search.specs.Trees.{IsTree}
 use Rattle.fmp_search.specs.Answers.{AreApart, IsComplete}
 use Rattle.fmp_search.specs.Forever.{AreNearest}
-use Rattle.fmp_search.specs.Roots.{path_at}
+use Rattle.fmp_search.specs.Steps.{path_at}
 
 -- there are so many places, the one where all runs begin among them, and to the farthest lead so many steps
 pub record IsExtent (nodes : List Node) (e : Extent) : Type 0 where

@@ -22,11 +22,11 @@ Watches (Some r) passes report q = (report ≡ Some passes) × (q ≡ r)
 abbrev pub AreClosed : {P : Type 0} → (P → ℕ → Option P) → P → ℕ → Type 0
 AreClosed after q bits = (s : ℕ) → bit_at bits s ≡ 1 → after q s ≡ None
 
+-- nor those of the bits that were added to others
+abbrev pub Closes : {P : Type 0} → (P → ℕ → Option P) → P → ℕ → ℕ → Type 0
+Closes after q old new = (s : ℕ) → bit_at old s ≡ 0 → bit_at new s ≡ 1 → after q s ≡ None
+
 -- a step from a place was made and led to another, or cannot be made, and the steps of these bits cannot be made there
 pub record IsWatched {P : Type 0} (after : P → ℕ → Option P) (passes : P → ℕ → ℕ) (p : P) (step : ℕ) (report : Option ℕ) (r : P) (bits : ℕ) : Type 0 where
   pub goes : Watches (after p step) (passes p step) report r
   pub closed : AreClosed after p bits
-
--- nor those of the bits that were added to others
-abbrev pub Closes : {P : Type 0} → (P → ℕ → Option P) → P → ℕ → ℕ → Type 0
-Closes after q old new = (s : ℕ) → bit_at old s ≡ 0 → bit_at new s ≡ 1 → after q s ≡ None

@@ -2,7 +2,7 @@
 //! was opened lately.
 ghost use Rattle.std.specs.Prelude.{◌≡◌, ◌≤◌, ◌<◌, length, IfOk, IfSome};
 ghost use Rattle.fmp_search.specs.Cache.{AreNear, IsCached, IsCache};
-ghost use Rattle.fmp_search.specs.Roots.{AreAfter};
+ghost use Rattle.fmp_search.specs.Steps.{AreAfter};
 ghost use Rattle.fmp_search.specs.Trees.{Stands, StandsAt};
 
 use crate::nodes::{Node, stand_at};

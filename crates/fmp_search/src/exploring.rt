@@ -2,12 +2,10 @@
 ghost use Rattle.std.specs.Prelude.{◌≡◌, ◌<◌, ◌^◌, IfOk};
 ghost use Rattle.fmp_search.specs.Answers.{IsEndedBy, Says};
 ghost use Rattle.fmp_search.specs.Extents.{Went};
-ghost use Rattle.fmp_search.specs.Roots.{Leaves};
 
 use crate::extent::{Extent, extent_of};
 use crate::layer::Layer;
 use crate::progress::Progress;
-use crate::roots::Roots;
 use crate::space::Space;
 use crate::surveying::{Survey, go_through};
 use std::alloc::{AllocError, Global};
@@ -31,10 +29,8 @@ pub enum Answer {
 /// opened last.
 ///
 /// Where the room does not do, `NotWithin` says for how many steps it did, and then all of it was used. `Ended` is the answer only where `progress`
-/// ends the search. Where it did, and not all is known, the
-/// places that were found last are given beside that, to go on from. How far the search went is told unless a run was found. The error is want of
-/// memory.
-pub fn explore_measured<W: Space + Drop, P: Progress>(
+/// ends the search. Beside that it gives how far the search went, unless a run was found. The error is want of memory.
+pub fn explore<W: Space + Drop, P: Progress>(
     alloc: Global,
     walker: &mut W,
     base: &mut W,
@@ -43,12 +39,11 @@ pub fn explore_measured<W: Space + Drop, P: Progress>(
     progress: &mut P,
     turns: u32,
     most: u32,
-) -> Result<(Answer, Roots, Option<Extent>), AllocError>
+) -> Result<(Answer, Option<Extent>), AllocError>
     requires origins { (W.origin base.old ≡ W.origin walker.old) × (W.origin other.old ≡ W.origin walker.old) × (W.origin trunk.old ≡ W.origin walker.old) }
     requires turns { turns < 2 ^ 31 }
     ensures says { IfOk result (λ r. Says W.after W.wanted (W.origin walker.old) turns most r.0) }
-    ensures leaves { IfOk result (λ r. Leaves W.after W.wanted (W.origin walker.old) turns r.0 r.1) }
-    ensures went { IfOk result (λ r. Went W.after (W.origin walker.old) r.0 r.2) }
+    ensures went { IfOk result (λ r. Went W.after (W.origin walker.old) r.0 r.1) }
     ensures ended { IfOk result (λ r. IsEndedBy (P.over progress.new) r.0) }
 {
     let Survey {
@@ -60,45 +55,21 @@ pub fn explore_measured<W: Space + Drop, P: Progress>(
         alloc, walker, base, other, trunk, progress, turns, most, false, 0,
     )?;
     match how {
-        Layer::Found(steps) => Ok((Answer::Found(steps), Roots::none(alloc), None)),
+        Layer::Found(steps) => Ok((Answer::Found(steps), None)),
         Layer::Full => {
             let extent = extent_of(alloc, &nodes)?;
-            Ok((Answer::NotWithin(depth), Roots::none(alloc), Some(extent)))
+            Ok((Answer::NotWithin(depth), Some(extent)))
         }
         Layer::Over => {
             let extent = extent_of(alloc, &nodes)?;
-            Ok((Answer::Ended(depth), Roots::none(alloc), Some(extent)))
+            Ok((Answer::Ended(depth), Some(extent)))
         }
         Layer::Done => {
             let extent = extent_of(alloc, &nodes)?;
             if chart.opened == nodes.len() + 1 {
-                return Ok((Answer::Never, Roots::none(alloc), Some(extent)));
+                return Ok((Answer::Never, Some(extent)));
             }
-            let roots = Roots::of(nodes, chart.opened);
-            Ok((Answer::NotWithin(depth), roots, Some(extent)))
+            Ok((Answer::NotWithin(depth), Some(extent)))
         }
     }
-}
-
-/// What `explore_measured` gives but for how far it went.
-pub fn explore<W: Space + Drop, P: Progress>(
-    alloc: Global,
-    walker: &mut W,
-    base: &mut W,
-    other: &mut W,
-    trunk: &mut W,
-    progress: &mut P,
-    turns: u32,
-    most: u32,
-) -> Result<(Answer, Roots), AllocError>
-    requires origins { (W.origin base.old ≡ W.origin walker.old) × (W.origin other.old ≡ W.origin walker.old) × (W.origin trunk.old ≡ W.origin walker.old) }
-    requires turns { turns < 2 ^ 31 }
-    ensures says { IfOk result (λ r. Says W.after W.wanted (W.origin walker.old) turns most r.0) }
-    ensures leaves { IfOk result (λ r. Leaves W.after W.wanted (W.origin walker.old) turns r.0 r.1) }
-    ensures ended { IfOk result (λ r. IsEndedBy (P.over progress.new) r.0) }
-{
-    let (answer, roots, _extent) = explore_measured(
-        alloc, walker, base, other, trunk, progress, turns, most,
-    )?;
-    Ok((answer, roots))
 }

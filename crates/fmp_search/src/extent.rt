@@ -1,7 +1,7 @@
 //! How far a search went.
 ghost use Rattle.std.specs.Prelude.{◌<◌, ◌^◌, length, IfOk};
 ghost use Rattle.fmp_search.specs.Extents.{IsExtent};
-ghost use Rattle.fmp_search.specs.Roots.{AreAfter};
+ghost use Rattle.fmp_search.specs.Steps.{AreAfter};
 
 use crate::nodes::Node;
 use std::alloc::{AllocError, Global};

@@ -174,7 +174,7 @@ pub fn explore_along<W: Space + Drop, P: Progress>(
         choices,
         made: 0,
     };
-    let (answer, _roots) = explore(
+    let (answer, _extent) = explore(
         alloc,
         &mut walker,
         &mut base,

@@ -1,6 +1,6 @@
 //! The steps to a place.
 ghost use Rattle.std.specs.Prelude.{◌≤◌, length, IfOk};
-ghost use Rattle.fmp_search.specs.Roots.{AreAfter, IsPath};
+ghost use Rattle.fmp_search.specs.Steps.{AreAfter, IsPath};
 
 use crate::nodes::Node;
 use std::alloc::{AllocError, Global};

@@ -60,7 +60,7 @@ fn explored<W: Space + Drop>(
     requires turns { turns < 2 ^ 31 }
     ensures { IfOk result (λ r. Says W.after W.wanted (W.origin walker) turns most r.0) }
 {
-    let (answer, _roots) = explore(
+    let (answer, _extent) = explore(
         alloc,
         &mut walker,
         &mut base,

@@ -4,7 +4,6 @@ pub mod Runs  -- Runs over places and orders of events.
 pub mod Answered  -- What an answer over places says of all orders.
 pub mod Bits  -- The events of an order are within the bits of their kinds, where the scripts are.
 pub mod Begun  -- What an answer over runs that begin with an order's steps says of the orders that go on from it.
-pub mod Following  -- Orders from which all go on that show a question.
 pub mod Staying  -- What stays for ever, over places and over orders.
 pub mod Watching  -- What is asked of every event from one on, over places and over orders.
 pub mod Made  -- Which calls are made, over places and over orders.

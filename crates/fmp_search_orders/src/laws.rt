@@ -7,7 +7,6 @@ ghost use Rattle.fmp_setup.specs.Setup.{Setup};
 ghost use Rattle.fmp_setup.specs.Valid.{IsValid};
 ghost use Rattle.fmp_search_pattern.specs.declared.question.Step.{Step};
 ghost use Rattle.fmp_search_orders.specs.Begun.{BegunAnswer};
-ghost use Rattle.fmp_search_orders.specs.Joined.{RootsAnswer};
 ghost use Rattle.fmp_search_orders.specs.Lasting.{LastingAnswer};
 ghost use Rattle.fmp_search_orders.specs.Watched.{WatchedAnswer};
 ghost use Rattle.fmp_search_pattern.specs.Lasting.{Lasting};
@@ -35,13 +34,6 @@ pub fn places_answer()
 pub fn begun_answer()
     ensures { (c : Setup) (scripts : List Steps) (rules : Rules) (question : List Step) (begun : List Record) → IsValid c → IsOrder c scripts rules begun
         → BegunAnswer c scripts rules question begun }
-{}
-
-/// Where runs over places are joined by some of them, what is told along these joins all orders: what is known of the orders that go on from each is
-/// known of all.
-#[tactic(auto, using(crate::proofs::Following::roots_answer))]
-pub fn roots_answer()
-    ensures { (c : Setup) (scripts : List Steps) (rules : Rules) (question : List Step) → IsValid c → RootsAnswer c scripts rules question }
 {}
 
 /// Where no run over places ends with a step from which on a test is passed for ever, no order ends with what stays so; and what is told along a run that

@@ -6,7 +6,6 @@ mod laws;
 mod rules;
 
 pub use laws::{
-    begun_answer, lasting_answer, made_answer, places_answer, roots_answer, runs_are_orders,
-    watched_answer,
+    begun_answer, lasting_answer, made_answer, places_answer, runs_are_orders, watched_answer,
 };
 pub use rules::Rules;

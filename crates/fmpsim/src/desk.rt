@@ -3,7 +3,6 @@ use fmp_cli_desk::{Desk, STANDARD_INPUT};
 use std::alloc::Global;
 use std::env::VarError;
 use std::fmt::Display;
-use std::fs::OpenOptions;
 use std::io::{Input, Read, Write};
 use std::rt::{Clock, Env, Files};
 use std::{env, fs, io};
@@ -85,14 +84,6 @@ where
 
     fn put_file(&self, path: &str, text: &[u8]) -> io::Result<()> {
         fs::create(self.rt, path)?.write_all(text)
-    }
-
-    fn put_new_file(&self, path: &str, text: &[u8]) -> io::Result<()> {
-        OpenOptions::new()
-            .write(true)
-            .create_new(true)
-            .open(self.rt, path)?
-            .write_all(text)
     }
 
     fn is_output_terminal(&self) -> bool {

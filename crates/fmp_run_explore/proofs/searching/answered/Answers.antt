@@ -1,7 +1,6 @@
 use Rattle.std.proofs.Common.{◌∙◌, ◌-◌, IfOk, ap, subst, sym}
 use Rattle.fmp_search.specs.Answers.{Says}
 use Rattle.fmp_search.specs.Extents.{Went}
-use Rattle.fmp_search.specs.Roots.{Leaves}
 use Rattle.fmp_search_orders.specs.Laws.{is_seen}
 use Rattle.fmp_search_orders.specs.Places.{Place, after}
 use Rattle.fmp_search_kernel.specs.Walked.{origin_of}
@@ -21,9 +20,5 @@ pub returns-clause-says : goal.returns-clause-says
 returns-clause-says g c =
     subst (λ (w : Place). IfOk c.explored.result (λ r. Says after is_seen w c.args.bounds.turns.count (c.args.bounds.places.count - 1) r.0)) (ap origin_of c.in_ok-walkers.ensures.first) c.explored.ensures.says
 
-pub returns-clause-leaves : goal.returns-clause-leaves
-returns-clause-leaves g c =
-    subst (λ (w : Place). IfOk c.explored.result (λ r. Leaves after is_seen w c.args.bounds.turns.count r.0 r.1)) (ap origin_of c.in_ok-walkers.ensures.first) c.explored.ensures.leaves
-
 pub returns-clause-went : goal.returns-clause-went
-returns-clause-went g c = subst (λ (w : Place). IfOk c.explored.result (λ r. Went after w r.0 r.2)) (ap origin_of c.in_ok-walkers.ensures.first) c.explored.ensures.went
+returns-clause-went g c = subst (λ (w : Place). IfOk c.explored.result (λ r. Went after w r.0 r.1)) (ap origin_of c.in_ok-walkers.ensures.first) c.explored.ensures.went

@@ -4,12 +4,10 @@ use Rattle.fmp_names.specs.Names.{AreValid}
 use Rattle.fmp_trace.specs.Lines.{lines_from}
 use Rattle.fmp_search.specs.Answers.{Says}
 use Rattle.fmp_search.specs.Extents.{Went}
-use Rattle.fmp_search.specs.Roots.{Leaves as LeavesRoots}
 use Rattle.fmp_search.specs.Runs.{run}
 use Rattle.fmp_search_orders.specs.Laws.{is_seen}
 use Rattle.fmp_search_orders.specs.Places.{after, origin, records}
 use Rattle.fmp_run_explore.proofs.Found.{shown}
-use Rattle.fmp_run_explore.proofs.Rest.{made_none, made_within, none_reported, report_within}
 use Rattle.fmp_run_explore.proofs.searching.found.Goals as goal
 
 pub trace_along-requires-clause-leads : goal.trace_along-requires-clause-leads
@@ -26,16 +24,6 @@ trace_along-requires-clause-few g c =
     let few = c.args.bounds.turns.few in
     subst (λ (steps : List ℕ). length steps < 2 ^ 31) (sym c.deref.ensures.value) (omega (arith, short, few))
 
-pub returns-in_ok-text-in-Found-clause-leaves : goal.returns-in_ok-text-in-Found-clause-leaves
-returns-in_ok-text-in-Found-clause-leaves g c =
-    let begin = origin c.args.orders.now.config.now c.args.orders.now.scripts.now c.args.orders.now.rules c.args.question.now in
-    none_reported begin c.in_ok-answer.roots (subst (λ a. LeavesRoots after is_seen begin c.args.bounds.turns.count a c.in_ok-answer.roots) c.in-Found.is c.in_ok-answer.ensures.leaves)
-
-pub returns-in_ok-never-in-Never-clause-leaves : goal.returns-in_ok-never-in-Never-clause-leaves
-returns-in_ok-never-in-Never-clause-leaves g c =
-    let begin = origin c.args.orders.now.config.now c.args.orders.now.scripts.now c.args.orders.now.rules c.args.question.now in
-    none_reported begin c.in_ok-answer.roots (subst (λ a. LeavesRoots after is_seen begin c.args.bounds.turns.count a c.in_ok-answer.roots) c.in-Never.is c.in_ok-answer.ensures.leaves)
-
 pub returns-in_ok-text-in-Found-clause-finds : goal.returns-in_ok-text-in-Found-clause-finds
 returns-in_ok-text-in-Found-clause-finds g c =
     let config = c.args.orders.now.config.now in
@@ -46,21 +34,11 @@ returns-in_ok-text-in-Found-clause-finds g c =
     c.names-names.ensures.valid (subst AreValid c.names-names.ensures.value c.validity.ensures) c.requires.in_bits c.args.bounds.turns.few law says.0
     (c.in_ok-text-in-Found.ensures ∙ ap (λ (steps : List ℕ). lines_from config.names 1 (records begin steps)) c.deref.ensures.value)
 
-pub returns-in_ok-text-in-Found-clause-made : goal.returns-in_ok-text-in-Found-clause-made
-returns-in_ok-text-in-Found-clause-made g c =
-    let begin = origin c.args.orders.now.config.now c.args.orders.now.scripts.now c.args.orders.now.rules c.args.question.now in
-    made_none begin c.in_ok-answer.roots (subst (λ a. LeavesRoots after is_seen begin c.args.bounds.turns.count a c.in_ok-answer.roots) c.in-Found.is c.in_ok-answer.ensures.leaves)
-
 pub returns-in_ok-never-in-Never-clause-finds : goal.returns-in_ok-never-in-Never-clause-finds
 returns-in_ok-never-in-Never-clause-finds g c =
     let begin = origin c.args.orders.now.config.now c.args.orders.now.scripts.now c.args.orders.now.rules c.args.question.now in
     let law = c.places_answer.ensures c.args.orders.now.config.now c.args.orders.now.scripts.now c.args.orders.now.rules c.args.question.now c.names-names.ensures.valid in
     (law.never (subst (λ a. Says after is_seen begin c.args.bounds.turns.count (c.args.bounds.places.count - 1) a) c.in-Never.is c.in_ok-answer.ensures.says), c.in_ok-never-in-Never.ensures)
-
-pub returns-in_ok-never-in-Never-clause-made : goal.returns-in_ok-never-in-Never-clause-made
-returns-in_ok-never-in-Never-clause-made g c =
-    let begin = origin c.args.orders.now.config.now c.args.orders.now.scripts.now c.args.orders.now.rules c.args.question.now in
-    made_none begin c.in_ok-answer.roots (subst (λ a. LeavesRoots after is_seen begin c.args.bounds.turns.count a c.in_ok-answer.roots) c.in-Never.is c.in_ok-answer.ensures.leaves)
 
 pub returns-in_ok-not_within-in-NotWithin-clause-finds : goal.returns-in_ok-not_within-in-NotWithin-clause-finds
 returns-in_ok-not_within-in-NotWithin-clause-finds g c =
@@ -69,36 +47,12 @@ returns-in_ok-not_within-in-NotWithin-clause-finds g c =
     let says = subst (λ a. Says after is_seen begin c.args.bounds.turns.count (c.args.bounds.places.count - 1) a) c.in-NotWithin.is c.in_ok-answer.ensures.says in
     (says.0, law.within c.in-NotWithin.turns says.1, c.in_ok-not_within-in-NotWithin.ensures, says.2)
 
-pub returns-in_ok-not_within-in-NotWithin-clause-leaves : goal.returns-in_ok-not_within-in-NotWithin-clause-leaves
-returns-in_ok-not_within-in-NotWithin-clause-leaves g c =
-    let begin = origin c.args.orders.now.config.now c.args.orders.now.scripts.now c.args.orders.now.rules c.args.question.now in
-    let law = c.roots_answer.ensures c.args.orders.now.config.now c.args.orders.now.scripts.now c.args.orders.now.rules c.args.question.now c.names-names.ensures.valid in
-    let leaves = subst (λ a. LeavesRoots after is_seen begin c.args.bounds.turns.count a c.in_ok-answer.roots) c.in-NotWithin.is c.in_ok-answer.ensures.leaves in
-    report_within c.args.orders.now.config.now c.args.orders.now.scripts.now c.args.orders.now.rules c.args.question.now c.in-NotWithin.turns c.args.bounds.turns.count c.in_ok-answer.roots law leaves.0 leaves.1
-
-pub returns-in_ok-not_within-in-NotWithin-clause-made : goal.returns-in_ok-not_within-in-NotWithin-clause-made
-returns-in_ok-not_within-in-NotWithin-clause-made g c =
-    let begin = origin c.args.orders.now.config.now c.args.orders.now.scripts.now c.args.orders.now.rules c.args.question.now in
-    let says = subst (λ a. Says after is_seen begin c.args.bounds.turns.count (c.args.bounds.places.count - 1) a) c.in-NotWithin.is c.in_ok-answer.ensures.says in
-    let leaves = subst (λ a. LeavesRoots after is_seen begin c.args.bounds.turns.count a c.in_ok-answer.roots) c.in-NotWithin.is c.in_ok-answer.ensures.leaves in
-    made_within begin c.in-NotWithin.turns c.args.bounds.turns.count c.in_ok-answer.roots says.0 c.args.bounds.turns.few leaves.0 leaves.1
-
 pub returns-in_ok-not_within-in-Ended-clause-finds : goal.returns-in_ok-not_within-in-Ended-clause-finds
 returns-in_ok-not_within-in-Ended-clause-finds g c =
     let begin = origin c.args.orders.now.config.now c.args.orders.now.scripts.now c.args.orders.now.rules c.args.question.now in
     let law = c.places_answer.ensures c.args.orders.now.config.now c.args.orders.now.scripts.now c.args.orders.now.rules c.args.question.now c.names-names.ensures.valid in
     let says = subst (λ a. Says after is_seen begin c.args.bounds.turns.count (c.args.bounds.places.count - 1) a) c.in-Ended.is c.in_ok-answer.ensures.says in
     (says.0, law.within c.in-Ended.turns says.1, c.in_ok-not_within-in-Ended.ensures)
-
-pub returns-in_ok-not_within-in-Ended-clause-leaves : goal.returns-in_ok-not_within-in-Ended-clause-leaves
-returns-in_ok-not_within-in-Ended-clause-leaves g c =
-    let begin = origin c.args.orders.now.config.now c.args.orders.now.scripts.now c.args.orders.now.rules c.args.question.now in
-    none_reported begin c.in_ok-answer.roots (subst (λ a. LeavesRoots after is_seen begin c.args.bounds.turns.count a c.in_ok-answer.roots) c.in-Ended.is c.in_ok-answer.ensures.leaves)
-
-pub returns-in_ok-not_within-in-Ended-clause-made : goal.returns-in_ok-not_within-in-Ended-clause-made
-returns-in_ok-not_within-in-Ended-clause-made g c =
-    let begin = origin c.args.orders.now.config.now c.args.orders.now.scripts.now c.args.orders.now.rules c.args.question.now in
-    made_none begin c.in_ok-answer.roots (subst (λ a. LeavesRoots after is_seen begin c.args.bounds.turns.count a c.in_ok-answer.roots) c.in-Ended.is c.in_ok-answer.ensures.leaves)
 
 pub returns-in_ok-text-in-Found-clause-went : goal.returns-in_ok-text-in-Found-clause-went
 returns-in_ok-text-in-Found-clause-went g c =

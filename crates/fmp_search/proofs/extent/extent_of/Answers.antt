@@ -1,7 +1,7 @@
 use Rattle.std.proofs.Common.{◌+◌, ◌<◌, ◌≡◌, ◌∙◌, ℕ, ◌≤◌, List, [], ◌∷◌, ◌++◌, length, ap, arith, refl}
 use Rattle.std.proofs.lemmas.Grind.{common_steps}
 use Rattle.std.specs.Prelude.{slice_index_or}
-use Rattle.fmp_search.specs.Roots.{path_at}
+use Rattle.fmp_search.specs.Steps.{path_at}
 use Rattle.fmp_search.proofs.Branches.{path-first, nobody}
 use Rattle.fmp_search.proofs.Extents.{this_too, next_long, are_more, far_more}
 use Rattle.fmp_search.proofs.extent.extent_of.Goals as goal

@@ -1,6 +1,6 @@
 use Rattle.std.proofs.Common.{◌≡◌, ℕ, ◌+◌, ◌≤◌, length}
 use Rattle.std.specs.Prelude.{slice_index_or}
-use Rattle.fmp_search.specs.Roots.{path_at}
+use Rattle.fmp_search.specs.Steps.{path_at}
 use Rattle.fmp_search.proofs.extent.extent_of.Given as goal
 
 abbrev pub invariant-loop-node : goal.invariant-loop-node

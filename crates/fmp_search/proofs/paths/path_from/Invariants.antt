@@ -1,6 +1,6 @@
 use Rattle.std.proofs.Common.{◌≡◌, ◌≤◌, ◌++◌, length}
 use Rattle.std.specs.Prelude.{reverse}
-use Rattle.fmp_search.specs.Roots.{path_at}
+use Rattle.fmp_search.specs.Steps.{path_at}
 use Rattle.fmp_search.proofs.paths.path_from.Given as goal
 
 abbrev pub invariant-loop-place : goal.invariant-loop-place

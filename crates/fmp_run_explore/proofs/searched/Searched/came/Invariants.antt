@@ -1,7 +1,7 @@
 use Rattle.std.proofs.Common.{◌-◌, ◌<◌, ◌≤◌, length, take}
 use Rattle.fmp_search_orders.specs.Shown.{NoneShows}
 use Rattle.fmp_run_explore.specs.Came.{SomeShows}
-use Rattle.fmp_run_explore.proofs.layer.Layer.came.Given as goal
+use Rattle.fmp_run_explore.proofs.searched.Searched.came.Given as goal
 
 abbrev pub invariant-loop-beyond : goal.invariant-loop-beyond
 invariant-loop-beyond g l = record {

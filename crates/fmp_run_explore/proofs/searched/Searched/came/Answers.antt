@@ -4,8 +4,8 @@ use Rattle.fmp_search_orders.specs.Shown.{NoneShows}
 use Rattle.fmp_run_explore.specs.Came.{SomeShows}
 use Rattle.fmp_run_explore.specs.Explored.{Finds}
 use Rattle.fmp_run_explore.proofs.Come.{begun, is_unknown, none_shown, some_shown}
-use Rattle.fmp_run_explore.proofs.layer.Layer.came.Goals as goal
-use Rattle.fmp_run_explore.proofs.layer.Layer.came.Goals.{in-Shown, in-Never}
+use Rattle.fmp_run_explore.proofs.searched.Searched.came.Goals as goal
+use Rattle.fmp_run_explore.proofs.searched.Searched.came.Goals.{in-Shown, in-Never}
 
 pub loop-beyond-init : goal.loop-beyond-init
 loop-beyond-init g c =

@@ -1,12 +1,10 @@
 use Rattle.std.proofs.Common.{arith, ◌≡◌, ◌⊎◌, inl, inr, ◌≤◌, ◌∙◌, ◌+◌, length, refl, sym, subst, ℕ, List}
 use Rattle.fmp_search.specs.declared.layer.Layer.{Layer}
 use Rattle.fmp_search.specs.Answers.{Explored}
-use Rattle.fmp_search.specs.Roots.{roots_of, AreRoots}
 use Rattle.fmp_search.specs.Surveys.{GoesSo}
-use Rattle.fmp_search.proofs.Branches.{are_roots}
 use Rattle.fmp_search.proofs.Extents.{gone, all_near}
 use Rattle.fmp_search.proofs.Layers.{none-ever, none-within}
-use Rattle.fmp_search.proofs.exploring.explore_measured.Goals as goal
+use Rattle.fmp_search.proofs.exploring.explore.Goals as goal
 
 -- not all places were opened, so that all steps were made
 last_of : (n turns opened count : ℕ) → (opened ≡ count) ⊎ (n ≡ turns) → (opened ≡ count → ⊥) → n ≡ turns
@@ -21,15 +19,15 @@ returns-in-Found-clause-says g c =
     c.in-Found.is c.in_ok-how.ensures.surveys.through in
     (through.1, through.2)
 
-pub returns-in_ok-extent-in-Full-clause-went : goal.returns-in_ok-extent-in-Full-clause-went
-returns-in_ok-extent-in-Full-clause-went g c =
+pub returns-in-Full-clause-went : goal.returns-in-Full-clause-went
+returns-in-Full-clause-went g c =
     let nodes = c.in_ok-how.field-0.nodes.items in
     let q = g.W.Space.origin c.args.walker.now in
     let all = c.in_ok-how.ensures.surveys.surveyed.found in
     (nodes, gone g.W.Space.after q nodes _ _ all.tree all.apart c.deref.ensures.value c.in_ok-extent-in-Full.ensures, all.complete)
 
-pub returns-in_ok-extent-in-Over-clause-went : goal.returns-in_ok-extent-in-Over-clause-went
-returns-in_ok-extent-in-Over-clause-went g c =
+pub returns-in-Over-clause-went : goal.returns-in-Over-clause-went
+returns-in-Over-clause-went g c =
     let nodes = c.in_ok-how.field-0.nodes.items in
     let q = g.W.Space.origin c.args.walker.now in
     let all = c.in_ok-how.ensures.surveys.surveyed.found in
@@ -66,8 +64,8 @@ returns-then-chart-len-clause-went g c =
     let places = c.in_ok-how.ensures.surveys.surveyed.found in
     (nodes, gone after q nodes _ _ places.tree places.apart c.deref-in-Done.ensures.value c.in_ok-extent-in-Done.ensures, all_near after q wanted nodes found.depth opened through.explored all)
 
-pub returns-else-chart-len-clause-says : goal.returns-else-chart-len-clause-says
-returns-else-chart-len-clause-says g c =
+pub returns-clause-says : goal.returns-clause-says
+returns-clause-says g c =
     let after = g.W.Space.after in
     let wanted = g.W.Space.wanted in
     let q = g.W.Space.origin c.args.walker.now in
@@ -84,28 +82,8 @@ returns-else-chart-len-clause-says g c =
       λ lt. absurd (omega (arith, lt, last)),
     )
 
-pub returns-else-chart-len-clause-leaves : goal.returns-else-chart-len-clause-leaves
-returns-else-chart-len-clause-leaves g c =
-    let after = g.W.Space.after in
-    let wanted = g.W.Space.wanted in
-    let q = g.W.Space.origin c.args.walker.now in
-    let found = c.in_ok-how.field-0 in
-    let nodes = found.nodes.items in
-    let opened = found.chart.opened in
-    let through = subst (λ (how : Layer). GoesSo after wanted q c.args.turns c.args.most nodes found.depth opened how) c.in-Done.is c.in_ok-how.ensures.surveys.through in
-    let following = through.passed.few in
-    let count = c.len.ensures in
-    let long = found.nodes.ok.0 in
-    let some = c.if-chart-len.false in
-    let few : opened ≤ length nodes = search (arith, following, count, long, some) in
-    let last = last_of found.depth c.args.turns opened (length nodes + 1) through.ended (λ all. some (omega (arith, all, count, long))) in
-    let roots = are_roots after wanted q nodes found.depth opened through.explored through.near few in (
-      λ lt. absurd (omega (arith, lt, last)),
-      λ same. subst (λ (rs : List (List ℕ)). AreRoots after wanted q c.args.turns rs) (sym c.of-roots.ensures) (subst (λ n. AreRoots after wanted q n (roots_of nodes opened)) last roots),
-    )
-
-pub returns-else-chart-len-clause-went : goal.returns-else-chart-len-clause-went
-returns-else-chart-len-clause-went g c =
+pub returns-clause-went : goal.returns-clause-went
+returns-clause-went g c =
     let nodes = c.in_ok-how.field-0.nodes.items in
     let q = g.W.Space.origin c.args.walker.now in
     let all = c.in_ok-how.ensures.surveys.surveyed.found in
