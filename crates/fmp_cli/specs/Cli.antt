@@ -5,12 +5,12 @@ use Rattle.std.specs.Borrow.{Bor}
 use Rattle.clap.specs.Words.{App, Row, Text, first_of, one_of}
 use Rattle.fmp_cli_hints.specs.declared.text.TextForm.{TextForm}
 use Rattle.fmp_cli_hints.specs.declared.text.TextForm.TheVariants as form
-use Rattle.fmp_cli_table.specs.Found.{IsFlag, found_by, text_of}
-use Rattle.fmp_cli_table.specs.Parts.{choice_rule, flag_rule, line_of, name_rule, path_rule, value_rule}
-use Rattle.fmp_cli_table.specs.Smp.{Asks, colour_by, found_in}
-use Rattle.fmp_cli_table.specs.declared.colours.Colour.{Colour}
-use Rattle.fmp_cli_explore.specs.Explore as explore
-use Rattle.fmp_cli_explore.specs.Shrink.Shrink as shrink
+use Rattle.fmp_cli.specs.Found.{IsFlag, found_by, text_of}
+use Rattle.fmp_cli.specs.Parts.{choice_rule, flag_rule, line_of, name_rule, path_rule, value_rule}
+use Rattle.fmp_cli.specs.Smp.{Asks, colour_by, found_in}
+use Rattle.fmp_cli.specs.declared.colours.Colour.{Colour}
+use Rattle.fmp_cli.specs.Explore as explore
+use Rattle.fmp_cli.specs.Shrink.Shrink as shrink
 use Rattle.fmp_cli.specs.declared.Asked.{Asked}
 use Rattle.fmp_cli.specs.declared.Asked.TheVariants.{Waveform}
 use Rattle.fmp_cli.specs.declared.Partly.{Partly}

@@ -1,28 +1,41 @@
-//! The command line of the program: which words ask for what. [`parse`] says it by what clap finds in the words under each
+//! The command lines of the program: which words ask for what. [`parse`] says it by what clap finds in the words under each
 //! name, a function of the words that clap's contracts give for such command lines. How the help and the texts of errors read,
 //! and which words are refused but for those of `smp`, is run by tests/program.
+//!
+//! Here stand `calls`, `check`, `wave`, `view` and `list`; those of `smp`, `explore` and `shrink` are in files of their own. All are made of the same
+//! parts ([`Part`]).
 #![tactic(auto)]
 
 ghost use Rattle.std.specs.Prelude.{◌≡◌, ◌≤◌, IfOk, IsErr, codes, drop, false, length, map, option_map, slice_get, true};
-ghost use Rattle.fmp_cli_table.specs.Found.{found_by, rows_in};
+ghost use Rattle.fmp_cli.specs.Found.{found_by, rows_in};
 ghost use Rattle.fmp_cli.specs.Cli.{AsksFor, AsksList, IsAsked, IsCalls, IsCheck, IsListedBy, IsView, IsWave, NamesPaths};
 ghost use Rattle.fmp_cli.specs.Cli.{calls_line, check_line, list_line, view_line, wave_line};
 ghost use Rattle.fmp_cli.specs.Flags.{asked_by, is_path, page_by, partly_by, partly_page_by, report_by, subcommand_by};
 
+mod colours;
+mod explore;
+mod found;
+mod numbers;
+mod parts;
+mod seeds;
+mod shrink;
+mod smp;
 mod traces;
 
 use clap::error::ErrorKind;
 use clap::{Arg, ArgAction, ArgMatches, Command, Error};
-use fmp_cli_explore::{
-    ExploreRequest, ShrinkRequest, explore_command, parse_explore, parse_shrink, shrink_command,
-};
+pub use colours::{Colour, colour_of};
+pub use explore::{ExploreRequest, FEW_TICKS, explore_command, parse_explore};
 use fmp_cli_hints::TextForm;
-pub use fmp_cli_table::Colour;
-use fmp_cli_table::{
-    COLOUR_PART, CONFIG_PART, CONTEXT_PART, EVENTS_PART, Form, Part, SmpRequest, Title, colour_of,
-    flag_in, line, matched, option_in, parse_smp, smp_command, text_in,
-};
 use fmp_trace_check::Shown;
+pub use found::{flag_in, matched, option_in, text_in};
+pub use parts::{
+    COLOUR_PART, CONFIG_PART, CONTEXT_PART, EVENTS_PART, Form, PROGRESS_PART, Part, SCRIPTS_PART,
+    SECONDS_PART, Title, line,
+};
+pub use seeds::Seeds;
+pub use shrink::{ShrinkRequest, parse_shrink, shrink_command};
+pub use smp::{SmpRequest, parse_smp, smp_command};
 use std::alloc::{AllocError, Global};
 use traces::{CHECK_HELP, VIEW_HELP, WAVE_HELP};
 

@@ -1,6 +1,0 @@
-use Rattle.std.proofs.Common.{ℕ, List, Option, subst}
-use Rattle.fmp_cli_explore.specs.Explore.{IsPlaces}
-use Rattle.fmp_cli_explore.proofs.bounds_of.Goals as goal
-
-pub returns-clause-places : goal.returns-clause-places
-returns-clause-places c = subst (λ (o : Option (List ℕ)). IsPlaces o c.in_ok-places.places) c.option_in-2.ensures c.in_ok-places.ensures
