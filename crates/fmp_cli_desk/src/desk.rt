@@ -42,9 +42,6 @@ pub trait Desk {
     /// Writes a text into the file at a path, which is made where there is none, and has nothing else afterwards.
     fn put_file(&self, path: &str, text: &[u8]) -> io::Result<()>;
 
-    /// Writes a text into a file that there was not before.
-    fn put_new_file(&self, path: &str, text: &[u8]) -> io::Result<()>;
-
     /// Whether standard output is a terminal.
     fn is_output_terminal(&self) -> bool;
 

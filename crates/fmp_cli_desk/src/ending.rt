@@ -1,5 +1,5 @@
 //! How a run ends, if not by its end.
-ghost use Rattle.std.specs.Prelude.{◌≡◌, ◌≢◌, Ok, Err, IfOk, IfErr};
+ghost use Rattle.std.specs.Prelude.{◌≡◌, ◌≢◌, Bool, Ok, Err, IfOk, IfErr};
 ghost use Rattle.std.specs.IoError.{error_kind};
 ghost use Rattle.std.specs.declared.io.ErrorKind.TheVariants as kind;
 ghost use Rattle.fmp_run_texts.specs.declared.fault.RunFault.TheVariants as run;
@@ -88,16 +88,6 @@ impl Ending {
         }
     }
 
-    /// That of a run with this fault, where its output was closed when the last write failed, or was not.
-    fn of_run(fault: RunFault, is_closed: bool) -> Ending
-        ensures { result ≡ spec.of_run fault is_closed }
-    {
-        match fault {
-            RunFault::Write if is_closed => Ending::Unread,
-            fault => Ending::Fault(fault),
-        }
-    }
-
     /// That of a text which could not be written.
     fn of_write(error: &io::Error) -> Ending
         ensures unread { error_kind error.now ≡ kind.BrokenPipe → result ≡ ending.Unread }
@@ -107,37 +97,6 @@ impl Ending {
             Ending::Unread
         } else {
             Ending::Fault(RunFault::Write)
-        }
-    }
-
-    /// Likewise of a search.
-    fn of_search(fault: ExploreFault, is_closed: bool) -> Ending
-        ensures { result ≡ spec.of_search fault is_closed }
-    {
-        match fault {
-            ExploreFault::Run(fault) => Ending::of_run(fault, is_closed),
-            ExploreFault::Question(fault, place) => Ending::Question(fault, place),
-        }
-    }
-
-    /// Likewise of a search that begins where a trace ends.
-    fn of_begun(fault: FromFault, is_closed: bool) -> Ending
-        ensures { result ≡ spec.of_begun fault is_closed }
-    {
-        match fault {
-            FromFault::Explore(fault) => Ending::of_search(fault, is_closed),
-            FromFault::Long => Ending::LongTrace,
-            FromFault::Stray(line) => Ending::Stray(line),
-        }
-    }
-
-    /// Likewise of a run that is asked for some things.
-    fn of_life(fault: LifeFault, is_closed: bool) -> Ending
-        ensures { result ≡ spec.of_life fault is_closed }
-    {
-        match fault {
-            LifeFault::Run(fault) => Ending::of_run(fault, is_closed),
-            LifeFault::Name(index) => Ending::Name(index),
         }
     }
 
@@ -165,47 +124,71 @@ pub fn kept<T: Drop>(run: Result<T, Ending>, texts: Kept) -> Result<T, Ending>
     }
 }
 
+/// A fault of a run.
+pub trait Fault {
+    ghost use Rattle.fmp_cli_desk.specs.declared.ending.Ending.{Ending};
+
+    // How it ends the run, where its output was closed when the last write failed, or was not.
+    ghost ending: { Self → Bool → Ending };
+
+    /// How it ends the run, where its output was closed when the last write failed, or was not.
+    fn ending(self, is_closed: bool) -> Ending
+        ensures { result ≡ ending self is_closed };
+}
+
+impl Fault for RunFault {
+    ghost ending = { spec.of_run };
+
+    fn ending(self, is_closed: bool) -> Ending {
+        match self {
+            RunFault::Write if is_closed => Ending::Unread,
+            fault => Ending::Fault(fault),
+        }
+    }
+}
+
+impl Fault for ExploreFault {
+    ghost ending = { spec.of_search };
+
+    fn ending(self, is_closed: bool) -> Ending {
+        match self {
+            ExploreFault::Run(fault) => fault.ending(is_closed),
+            ExploreFault::Question(fault, place) => Ending::Question(fault, place),
+        }
+    }
+}
+
+impl Fault for FromFault {
+    ghost ending = { spec.of_begun };
+
+    fn ending(self, is_closed: bool) -> Ending {
+        match self {
+            FromFault::Explore(fault) => fault.ending(is_closed),
+            FromFault::Long => Ending::LongTrace,
+            FromFault::Stray(line) => Ending::Stray(line),
+        }
+    }
+}
+
+impl Fault for LifeFault {
+    ghost ending = { spec.of_life };
+
+    fn ending(self, is_closed: bool) -> Ending {
+        match self {
+            LifeFault::Run(fault) => fault.ending(is_closed),
+            LifeFault::Name(index) => Ending::Name(index),
+        }
+    }
+}
+
 /// What became of a run, where it is known whether its output was closed when the last write failed.
-pub fn settled<T: Drop>(run: Result<T, RunFault>, is_closed: bool) -> Result<T, Ending>
+pub fn settled<T: Drop, F: Fault + Drop>(run: Result<T, F>, is_closed: bool) -> Result<T, Ending>
     ensures done { IfOk run (λ done. result ≡ Ok done) }
-    ensures ended { IfErr run (λ fault. result ≡ Err (spec.of_run fault is_closed)) }
+    ensures ended { IfErr run (λ fault. result ≡ Err (F.ending fault is_closed)) }
 {
     match run {
         Ok(done) => Ok(done),
-        Err(fault) => Err(Ending::of_run(fault, is_closed)),
-    }
-}
-
-/// What became of a search, likewise.
-pub fn settled_search<T: Drop>(run: Result<T, ExploreFault>, is_closed: bool) -> Result<T, Ending>
-    ensures done { IfOk run (λ done. result ≡ Ok done) }
-    ensures ended { IfErr run (λ fault. result ≡ Err (spec.of_search fault is_closed)) }
-{
-    match run {
-        Ok(done) => Ok(done),
-        Err(fault) => Err(Ending::of_search(fault, is_closed)),
-    }
-}
-
-/// What became of a search that begins where a trace ends, likewise.
-pub fn settled_begun<T: Drop>(run: Result<T, FromFault>, is_closed: bool) -> Result<T, Ending>
-    ensures done { IfOk run (λ done. result ≡ Ok done) }
-    ensures ended { IfErr run (λ fault. result ≡ Err (spec.of_begun fault is_closed)) }
-{
-    match run {
-        Ok(done) => Ok(done),
-        Err(fault) => Err(Ending::of_begun(fault, is_closed)),
-    }
-}
-
-/// What became of a run that is asked for some things, likewise.
-pub fn settled_life<T: Drop>(run: Result<T, LifeFault>, is_closed: bool) -> Result<T, Ending>
-    ensures done { IfOk run (λ done. result ≡ Ok done) }
-    ensures ended { IfErr run (λ fault. result ≡ Err (spec.of_life fault is_closed)) }
-{
-    match run {
-        Ok(done) => Ok(done),
-        Err(fault) => Err(Ending::of_life(fault, is_closed)),
+        Err(fault) => Err(fault.ending(is_closed)),
     }
 }
 

@@ -1,7 +1,6 @@
-//! Folders and files that are made: the traces from which longer orders go on are each in a file of their own.
+//! Folders and files that are made.
 use crate::desk::Desk;
 use crate::ending::Ending;
-use fmp_run_explore::Layer;
 use std::alloc::{AllocError, Global};
 use std::io;
 
@@ -32,24 +31,4 @@ pub fn file_put<D: Desk>(desk: &D, path: &str, text: &[u8]) -> Result<(), Ending
 pub fn trace_put<D: Desk>(desk: &D, folder: &str, name: &str, trace: &[u8]) -> Result<(), Ending> {
     let path = path_of(desk.alloc(), folder, name)?;
     file_put(desk, path.as_str(), trace)
-}
-
-/// Writes a trace of a layer into a file of its number that there was not before.
-fn one_put<D: Desk>(desk: &D, folder: &str, number: usize, trace: &[u8]) -> Result<(), Ending> {
-    let alloc = desk.alloc();
-    let path = format!(in alloc; "{folder}/{number}.trace")?;
-    made(
-        alloc,
-        path.as_str(),
-        desk.put_new_file(path.as_str(), trace),
-    )
-}
-
-/// Writes the traces of a layer into a folder: the first as `1.trace`.
-pub fn layer_put<D: Desk>(desk: &D, folder: &str, layer: &Layer) -> Result<(), Ending> {
-    for at in 0..layer.count() {
-        let trace = layer.trace(desk.alloc(), at)?;
-        one_put(desk, folder, at.saturating_add(1), trace.as_slice())?;
-    }
-    Ok(())
 }

@@ -5,7 +5,6 @@ use fmp_cli_hints::{TextForm, text_context, text_spot};
 use fmp_cli_hints_config::{config_context, config_spot, text_hint, thing_hint};
 use fmp_cli_hints_question::question_context;
 use fmp_config::{Config, ConfigFault, MOST_BYTES as MOST_CONFIG_BYTES, read_config};
-use fmp_run_partial::{PartialShown, judge_partial};
 use fmp_run_texts::RunFault;
 use fmp_search_question::QuestionFault;
 use fmp_text::{TextFault, read_events};
@@ -33,14 +32,20 @@ pub fn config_again(alloc: Global, text: &[u8], fault: &ConfigFault) -> Option<F
     Some(Found::Config(again))
 }
 
-/// The first fault of the other text.
-fn text_fault(alloc: Global, form: TextForm, text: &[u8], config: &Config) -> Option<TextFault> {
+/// The first fault of the other text, where this one was found. A partial trace is judged while it is read, which is not done once more.
+fn text_fault(
+    alloc: Global,
+    form: TextForm,
+    text: &[u8],
+    config: &Config,
+    fault: TextFault,
+) -> Option<TextFault> {
     let names = config.names();
     match form {
         TextForm::Events => read_events(alloc, text, names).err(),
         TextForm::Scripts => read_scripts(alloc, text, names).err(),
         TextForm::Trace => read_trace(alloc, text, names).err(),
-        TextForm::Partial => { judge_partial(alloc, config, text, PartialShown::Verdict).err() }
+        TextForm::Partial => Some(fault),
     }
 }
 
@@ -54,7 +59,7 @@ pub fn found_in(
     is_whole: bool,
 ) -> Option<Found> {
     let config = read_config(alloc, config).ok()?;
-    let again = text_fault(alloc, form, text.as_slice(), &config)?;
+    let again = text_fault(alloc, form, text.as_slice(), &config, fault)?;
     if again.kind == fault.kind && (again.line == fault.line || !is_whole) {
         Some(Found::Text(again, config, text))
     } else {

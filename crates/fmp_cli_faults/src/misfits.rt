@@ -1,6 +1,5 @@
 //! What is wrong with a request, and what is taken where it says nothing.
-use fmp_cli_explore::ExploreRequest;
-use fmp_cli_table::{Seeds, SmpRequest};
+use fmp_cli::{ExploreRequest, Seeds, SmpRequest};
 use fmp_out::Text;
 use std::alloc::Global;
 

@@ -1,53 +1,52 @@
 //! What the machine answers to events, and what these change of some things: each event's part is written as it comes.
 use crate::colours::{is_coloured, uncoloured};
 use fmp_cli::{Colour, Paths, Report};
-use fmp_cli_colour::ColourSink;
 use fmp_cli_desk::{
-    Desk, Ending, FaultForm, Kept, LineKeeper, both_opened, ended, kept, put_lines, report_name,
-    settled, settled_life,
+    Desk, Ending, FaultForm, Kept, LineKeeper, Work, both_opened, ended, kept, put_lines,
+    report_name, written,
 };
 use fmp_cli_diagnostics::LineForm;
 use fmp_cli_hints::TextForm;
 use fmp_cli_runs::answer;
 use fmp_out::Text;
-use fmp_run_events::{MemSource, ReadSource, Status, WriteSink, run_life};
-use std::io::Read;
+use fmp_run_events::{LifeFault, MemSource, ReadSource, RunFault, Sink, Source, Status, run_life};
+use std::alloc::Global;
 
 /// Writes what the machine answers.
-fn answered<D, E>(
-    desk: &D,
-    config: &[u8],
-    events: E,
+#[derive(Clone, Copy)]
+struct Answering {
     report: Report,
-    coloured: bool,
-) -> Result<Status, Ending>
-where
-    D: Desk,
-    E: Read + Drop,
-{
-    let alloc = desk.alloc();
-    let mut config = MemSource::new(config);
-    let mut events = ReadSource::new(events);
-    let mut sink = WriteSink::new(alloc, desk.output())?;
-    if coloured {
-        let mut colours = ColourSink::new(sink);
-        let run = answer(alloc, &mut config, &mut events, &mut colours, report);
-        return settled(run, colours.below().is_closed());
-    }
-    let run = answer(alloc, &mut config, &mut events, &mut sink, report);
-    settled(run, sink.is_closed())
 }
 
-/// Reads both texts, and writes what the machine answers.
-fn calls<D: Desk>(
+impl Work for Answering {
+    type Done = Status;
+
+    type Fault = RunFault;
+
+    fn run<S: Source, W: Sink>(
+        &mut self,
+        alloc: Global,
+        config: &[u8],
+        text: &mut S,
+        output: &mut W,
+    ) -> Result<Status, RunFault> {
+        let mut config = MemSource::new(config);
+        answer(alloc, &mut config, text, output, self.report)
+    }
+}
+
+/// Opens both texts, and runs over the events as they come.
+fn streamed<D: Desk, R: Work>(
     desk: &D,
     paths: &Paths<'_>,
-    report: Report,
     coloured: bool,
-) -> Result<Status, Ending> {
+    work: &mut R,
+) -> Result<R::Done, Ending> {
     let (config, events) = both_opened(desk, paths)?;
     let mut events = LineKeeper::new(desk.alloc(), events);
-    let run = answered(desk, config.as_slice(), &mut events, report, coloured);
+    let mut text = ReadSource::new(&mut events);
+    let run = written(desk, config.as_slice(), &mut text, coloured, work);
+    drop(text);
     kept(
         run,
         Kept {
@@ -68,7 +67,7 @@ pub fn called<D: Desk>(
     let text = TextForm::Events;
     match is_coloured(desk, colour) {
         Some(coloured) => {
-            let run = calls(desk, paths, report, coloured);
+            let run = streamed(desk, paths, coloured, &mut Answering { report });
             ended(desk, paths, FaultForm { line, text }, run)
         }
         None => uncoloured(desk),
@@ -76,47 +75,28 @@ pub fn called<D: Desk>(
 }
 
 /// Writes what the events change of the things with these names.
-fn followed<D, E>(
-    desk: &D,
-    config: &[u8],
-    events: E,
-    names: &str,
-    coloured: bool,
-) -> Result<(), Ending>
-where
-    D: Desk,
-    E: Read + Drop,
-{
-    let alloc = desk.alloc();
-    let names = names.as_bytes();
-    let mut config = MemSource::new(config);
-    let mut events = ReadSource::new(events);
-    let mut sink = WriteSink::new(alloc, desk.output())?;
-    if coloured {
-        let mut colours = ColourSink::new(sink);
-        let run = run_life(alloc, &mut config, &mut events, names, &mut colours);
-        return settled_life(run, colours.below().is_closed());
-    }
-    let run = run_life(alloc, &mut config, &mut events, names, &mut sink);
-    settled_life(run, sink.is_closed())
+#[derive(Clone, Copy)]
+struct Following<'a> {
+    names: &'a str,
 }
 
-/// Reads both texts, and writes what changes of the things with these names.
-fn life<D: Desk>(
-    desk: &D,
-    paths: &Paths<'_>,
-    names: &str,
-    coloured: bool,
-) -> Result<Status, Ending> {
-    let (config, events) = both_opened(desk, paths)?;
-    let mut events = LineKeeper::new(desk.alloc(), events);
-    let run = followed(desk, config.as_slice(), &mut events, names, coloured);
-    let texts = Kept {
-        config,
-        text: events.into_last(),
-    };
-    kept(run, texts)?;
-    Ok(Status::Done)
+impl<'a> Work for Following<'a> {
+    type Done = Status;
+
+    type Fault = LifeFault;
+
+    fn run<S: Source, W: Sink>(
+        &mut self,
+        alloc: Global,
+        config: &[u8],
+        text: &mut S,
+        output: &mut W,
+    ) -> Result<Status, LifeFault> {
+        let mut config = MemSource::new(config);
+        let names = self.names.as_bytes();
+        run_life(alloc, &mut config, text, names, output)?;
+        Ok(Status::Done)
+    }
 }
 
 /// Reports that a name names nothing in a configuration, and what is near to it.
@@ -142,7 +122,7 @@ pub fn lived<D: Desk>(
     let Some(coloured) = is_coloured(desk, colour) else {
         return uncoloured(desk);
     };
-    let run = life(desk, paths, names, coloured);
+    let run = streamed(desk, paths, coloured, &mut Following { names });
     if let Err(Ending::Unnamed(index, config)) = &run {
         let name = names.split(',').nth(*index).unwrap_or("");
         report_unnamed(desk, paths.config, config.as_slice(), name);

@@ -1,13 +1,13 @@
 //! What may be written in the texts, what is reported of a name, and what was read of a configuration.
 use fmp_cli::{Described, Paths};
 use fmp_cli_desk::{
-    Desk, Ending, FaultForm, NO_PATHS, config_alone, ended, kept, put_lines, settled, settled_write,
+    Desk, Ending, FaultForm, NO_PATHS, Work, ended, put_lines, settled_write, worked_alone,
 };
 use fmp_cli_diagnostics::LineForm;
 use fmp_cli_help::{about, everything, near_word};
 use fmp_cli_hints::TextForm;
 use fmp_out::Text;
-use fmp_run_events::{MemSource, Status, WriteSink};
+use fmp_run_events::{MemSource, RunFault, Sink, Source, Status};
 use fmp_run_list::run_list;
 use std::alloc::{AllocError, Global};
 use std::io::Write;
@@ -55,17 +55,24 @@ pub fn listed<D: Desk>(desk: &D, name: Option<&str>, line: LineForm) -> Status {
 }
 
 /// Writes what was read of a configuration.
-fn configured<D: Desk>(desk: &D, paths: &Paths<'_>) -> Result<Status, Ending> {
-    let alloc = desk.alloc();
-    let texts = config_alone(desk, paths)?;
-    let mut output = WriteSink::new(alloc, desk.output())?;
-    let run = run_list(
-        alloc,
-        &mut MemSource::new(texts.config.as_slice()),
-        &mut output,
-    );
-    kept(settled(run, output.is_closed()), texts)?;
-    Ok(Status::Done)
+#[derive(Clone, Copy)]
+struct Listing;
+
+impl Work for Listing {
+    type Done = Status;
+
+    type Fault = RunFault;
+
+    fn run<S: Source, W: Sink>(
+        &mut self,
+        alloc: Global,
+        config: &[u8],
+        _text: &mut S,
+        output: &mut W,
+    ) -> Result<Status, RunFault> {
+        run_list(alloc, &mut MemSource::new(config), output)?;
+        Ok(Status::Done)
+    }
 }
 
 /// How reporting what was read of a configuration ends the program. A fault is reported.
@@ -77,10 +84,6 @@ pub fn described<D: Desk>(desk: &D, request: &Described<'_>, line: LineForm) -> 
         text: "",
         context: request.context.then_some(text),
     };
-    ended(
-        desk,
-        &paths,
-        FaultForm { line, text },
-        configured(desk, &paths),
-    )
+    let run = worked_alone(desk, &paths, &mut Listing);
+    ended(desk, &paths, FaultForm { line, text }, run)
 }

@@ -1,18 +1,19 @@
 //! What the orders of scripts show: whether one shows what is asked, how far everything goes in all, and whether one that goes on from a trace does.
 use crate::questions::asked;
-use fmp_cli::Paths;
+use fmp_cli::{ExploreRequest, Paths};
 use fmp_cli_desk::{
-    Desk, Ending, FaultForm, ProgressLine, both_read, folder_made, kept, layer_put, put_lines,
-    replied, report_begun, settled, settled_begun, settled_search, third_allowed, trace_read,
+    Desk, Ending, FaultForm, ProgressLine, Work, both_read, put_lines, replied, report_begun,
+    third_allowed, trace_read, worked, worked_over,
 };
 use fmp_cli_diagnostics::LineForm;
-use fmp_cli_explore::ExploreRequest;
 use fmp_cli_faults::bounds_lines;
 use fmp_cli_hints::TextForm;
 use fmp_cli_notes::{About, note_extent, note_stayed, note_unmade, note_unshown};
 use fmp_cli_runs::{search, search_forever, search_from, search_most};
-use fmp_run_events::{MemSource, Status, WriteSink};
-use fmp_run_explore::{Finding, Outcome, Progress};
+use fmp_run_events::{MemSource, RunFault, Sink, Source, Status};
+use fmp_run_explore::{ExploreFault, Finding, Outcome, Progress};
+use fmp_run_explore_from::FromFault;
+use fmp_run_forever::Stayed;
 use fmp_search_question::is_lasting;
 use std::alloc::Global;
 
@@ -41,55 +42,113 @@ fn report_outcome<D: Desk>(
     note_unmade(line, about, outcome, request.bounds);
 }
 
-/// Writes whether an order of what scripts ask shows what the request asks, and where a folder is named there the traces from which to go on.
-/// Where none does it reports how much of it comes.
+/// Writes whether an order of what scripts ask shows what the request asks.
+#[derive(Drop)]
+struct Searching<'a, 'w, 'p, P> {
+    request: &'a ExploreRequest<'w>,
+    progress: &'p mut P,
+}
+
+impl<'a, 'w, 'p, P: Progress> Work for Searching<'a, 'w, 'p, P> {
+    type Done = Outcome;
+
+    type Fault = ExploreFault;
+
+    fn run<S: Source, W: Sink>(
+        &mut self,
+        alloc: Global,
+        config: &[u8],
+        text: &mut S,
+        output: &mut W,
+    ) -> Result<Outcome, ExploreFault> {
+        let mut config = MemSource::new(config);
+        search(
+            alloc,
+            &mut config,
+            text,
+            output,
+            self.request,
+            self.progress,
+        )
+    }
+}
+
+/// Writes whether an order of what scripts ask shows what the request asks. Where none does it reports how much of it comes.
 fn explore<D: Desk>(
     desk: &D,
     paths: &Paths<'_>,
     request: &ExploreRequest<'_>,
-    line: &mut ProgressLine<'_, D>,
+    progress: &mut ProgressLine<'_, D>,
 ) -> Result<Status, Ending> {
-    let alloc = desk.alloc();
-    if let Some(folder) = request.layer {
-        folder_made(desk, folder)?;
-    }
-    let (texts, mut scripts) = both_read(desk, paths)?;
-    let mut output = WriteSink::new(alloc, desk.output())?;
-    let run = search(
-        alloc,
-        &mut MemSource::new(texts.config.as_slice()),
-        &mut scripts,
-        &mut output,
+    let mut work = Searching {
         request,
-        line,
-    );
-    let outcome = kept(settled_search(run, output.is_closed()), texts)?;
-    if let Some(folder) = request.layer {
-        layer_put(desk, folder, &outcome.layer)?;
-    }
-    report_outcome(alloc, &outcome, request, line);
+        progress: &mut *progress,
+    };
+    let outcome = worked(desk, paths, &mut work)?;
+    report_outcome(desk.alloc(), &outcome, request, progress);
     Ok(outcome.finding.status())
 }
 
 /// Writes how far everything goes in the orders of what scripts ask.
-fn explore_most<D: Desk>(
-    desk: &D,
-    paths: &Paths<'_>,
-    request: &ExploreRequest<'_>,
-    line: &mut ProgressLine<'_, D>,
-) -> Result<Status, Ending> {
-    let alloc = desk.alloc();
-    let (texts, mut scripts) = both_read(desk, paths)?;
-    let mut output = WriteSink::new(alloc, desk.output())?;
-    let run = search_most(
-        alloc,
-        &mut MemSource::new(texts.config.as_slice()),
-        &mut scripts,
-        &mut output,
-        request,
-        line,
-    );
-    kept(settled(run, output.is_closed()), texts)
+#[derive(Drop)]
+struct SearchingMost<'a, 'w, 'p, P> {
+    request: &'a ExploreRequest<'w>,
+    progress: &'p mut P,
+}
+
+impl<'a, 'w, 'p, P: Progress> Work for SearchingMost<'a, 'w, 'p, P> {
+    type Done = Status;
+
+    type Fault = RunFault;
+
+    fn run<S: Source, W: Sink>(
+        &mut self,
+        alloc: Global,
+        config: &[u8],
+        text: &mut S,
+        output: &mut W,
+    ) -> Result<Status, RunFault> {
+        let mut config = MemSource::new(config);
+        search_most(
+            alloc,
+            &mut config,
+            text,
+            output,
+            self.request,
+            self.progress,
+        )
+    }
+}
+
+/// Writes whether something that the request asks stays for ever in an order of what scripts ask.
+#[derive(Drop)]
+struct SearchingForever<'a, 'w, 'p, P> {
+    request: &'a ExploreRequest<'w>,
+    progress: &'p mut P,
+}
+
+impl<'a, 'w, 'p, P: Progress> Work for SearchingForever<'a, 'w, 'p, P> {
+    type Done = Stayed;
+
+    type Fault = ExploreFault;
+
+    fn run<S: Source, W: Sink>(
+        &mut self,
+        alloc: Global,
+        config: &[u8],
+        text: &mut S,
+        output: &mut W,
+    ) -> Result<Stayed, ExploreFault> {
+        let mut config = MemSource::new(config);
+        search_forever(
+            alloc,
+            &mut config,
+            text,
+            output,
+            self.request,
+            self.progress,
+        )
+    }
 }
 
 /// Writes whether something that the request asks stays for ever in an order of what scripts ask, and reports from which line on.
@@ -97,23 +156,49 @@ fn explore_forever<D: Desk>(
     desk: &D,
     paths: &Paths<'_>,
     request: &ExploreRequest<'_>,
-    line: &mut ProgressLine<'_, D>,
+    progress: &mut ProgressLine<'_, D>,
 ) -> Result<Status, Ending> {
-    let alloc = desk.alloc();
-    let (texts, mut scripts) = both_read(desk, paths)?;
-    let mut output = WriteSink::new(alloc, desk.output())?;
-    let run = search_forever(
-        alloc,
-        &mut MemSource::new(texts.config.as_slice()),
-        &mut scripts,
-        &mut output,
+    let mut work = SearchingForever {
         request,
-        line,
-    );
-    let stayed = kept(settled_search(run, output.is_closed()), texts)?;
-    line.allow_as_much();
-    note_stayed(line, about_one(alloc), &stayed, request.bounds);
+        progress: &mut *progress,
+    };
+    let stayed = worked(desk, paths, &mut work)?;
+    progress.allow_as_much();
+    note_stayed(progress, about_one(desk.alloc()), &stayed, request.bounds);
     Ok(stayed.staying.status())
+}
+
+/// Writes whether an order that goes on from a trace shows what the request asks.
+#[derive(Drop)]
+struct SearchingFrom<'b, 'a, 'w, 'p, P> {
+    begun: &'b [u8],
+    request: &'a ExploreRequest<'w>,
+    progress: &'p mut P,
+}
+
+impl<'b, 'a, 'w, 'p, P: Progress> Work for SearchingFrom<'b, 'a, 'w, 'p, P> {
+    type Done = Status;
+
+    type Fault = FromFault;
+
+    fn run<S: Source, W: Sink>(
+        &mut self,
+        alloc: Global,
+        config: &[u8],
+        text: &mut S,
+        output: &mut W,
+    ) -> Result<Status, FromFault> {
+        let mut config = MemSource::new(config);
+        search_from(
+            alloc,
+            &mut config,
+            text,
+            self.begun,
+            output,
+            self.request,
+            self.progress,
+        )
+    }
 }
 
 /// Writes whether one of the orders that go on from the trace at this path does.
@@ -122,23 +207,17 @@ fn explore_from<D: Desk>(
     paths: &Paths<'_>,
     request: &ExploreRequest<'_>,
     begun: &str,
-    line: &mut ProgressLine<'_, D>,
+    progress: &mut ProgressLine<'_, D>,
 ) -> Result<Status, Ending> {
-    let alloc = desk.alloc();
     third_allowed(paths, begun)?;
-    let (texts, mut scripts) = both_read(desk, paths)?;
+    let (texts, scripts) = both_read(desk, paths)?;
     let begun = trace_read(desk, begun)?;
-    let mut output = WriteSink::new(alloc, desk.output())?;
-    let run = search_from(
-        alloc,
-        &mut MemSource::new(texts.config.as_slice()),
-        &mut scripts,
-        begun.as_slice(),
-        &mut output,
+    let mut work = SearchingFrom {
+        begun: begun.as_slice(),
         request,
-        line,
-    );
-    kept(settled_begun(run, output.is_closed()), texts)
+        progress,
+    };
+    worked_over(desk, texts, scripts, &mut work)
 }
 
 /// Makes the search that a request asks for.
@@ -147,21 +226,21 @@ fn searched<D: Desk>(
     paths: &Paths<'_>,
     fault_form: FaultForm,
     request: &ExploreRequest<'_>,
-    line: &mut ProgressLine<'_, D>,
+    progress: &mut ProgressLine<'_, D>,
 ) -> Result<Status, Ending> {
     if let Some(file) = request.questions {
-        return asked(desk, paths, fault_form, request, file, line);
+        return asked(desk, paths, fault_form, request, file, progress);
     }
     if let Some(begun) = request.from {
-        return explore_from(desk, paths, request, begun, line);
+        return explore_from(desk, paths, request, begun, progress);
     }
     if request.most {
-        return explore_most(desk, paths, request, line);
+        return worked(desk, paths, &mut SearchingMost { request, progress });
     }
     if is_lasting(request.question.as_bytes()) {
-        return explore_forever(desk, paths, request, line);
+        return explore_forever(desk, paths, request, progress);
     }
-    explore(desk, paths, request, line)
+    explore(desk, paths, request, progress)
 }
 
 /// How a search ends the program. A fault is reported.

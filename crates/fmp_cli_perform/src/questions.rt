@@ -1,13 +1,12 @@
 //! Many questions about the orders of scripts: each is searched for by itself, and a line reports its answer.
 use crate::lists::put_out;
-use fmp_cli::Paths;
+use fmp_cli::{ExploreRequest, FEW_TICKS, Paths};
 use fmp_cli_desk::{
     Desk, Ending, FaultForm, Kept, ProgressLine, both_opened, copy_of, file_put, folder_made,
-    put_lines, report_beside, report_question_beside, settled_search, text_read, third_allowed,
-    trace_put, trace_read,
+    put_lines, report_beside, report_question_beside, settled, text_read, third_allowed, trace_put,
+    trace_read,
 };
 use fmp_cli_diagnostics::{LineForm, Spot};
-use fmp_cli_explore::{ExploreRequest, FEW_TICKS};
 use fmp_cli_faults::{asked_line, question_diagnostic, row_line};
 use fmp_cli_hints_question::row_context;
 use fmp_cli_notes::{About, note_unmade, note_unshown};
@@ -227,7 +226,7 @@ fn answered<'x, D: Desk>(
         &request,
         progress,
     );
-    let replied = settled_search(run, false)?;
+    let replied = settled(run, false)?;
     if let (Answer::Shown(_), Some(folder)) = (replied.answer, request.traces) {
         let name = str::from_utf8(row.name()).unwrap_or("");
         trace_put(desk, folder, name, replied.trace.as_slice())?;

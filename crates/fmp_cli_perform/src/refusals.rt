@@ -1,10 +1,13 @@
 //! What is reported of a command line that is refused.
 use clap::error::ErrorKind;
-use fmp_cli_desk::{Desk, FaultForm, NO_PATHS, ended, put_lines, report_memory, settled_write};
+use fmp_cli_desk::{
+    Desk, Ending, FaultForm, NO_PATHS, ended, put_lines, report_memory, settled_write,
+};
 use fmp_cli_diagnostics::LineForm;
 use fmp_cli_faults::{near_option_lines, refused_number};
 use fmp_cli_hints::TextForm;
 use fmp_run_events::Status;
+use std::io;
 
 /// How a refused command line ends the program. Help is asked for, so nothing is wrong there.
 fn status_of(error: &clap::Error) -> Status {
@@ -12,6 +15,15 @@ fn status_of(error: &clap::Error) -> Status {
         ErrorKind::OutOfMemory => Status::Memory,
         ErrorKind::DisplayHelp | ErrorKind::DisplayVersion => Status::Done,
         _ => Status::Usage,
+    }
+}
+
+/// What became of help that was put. What is wrong with a command line goes to standard error: where that fails nothing can be reported, and the status stays.
+fn settled_help(error: &clap::Error, put: io::Result<()>) -> Result<(), Ending> {
+    if error.use_stderr() {
+        Ok(())
+    } else {
+        settled_write(put)
     }
 }
 
@@ -25,7 +37,7 @@ fn put_help<D: Desk>(
 ) -> Status {
     // No text is read, so that of their forms any will do.
     let text = TextForm::Events;
-    match settled_write(desk.put_help(error)) {
+    match settled_help(error, desk.put_help(error)) {
         Ok(()) => {
             put_lines(desk, near_option_lines(desk.alloc(), words));
             status

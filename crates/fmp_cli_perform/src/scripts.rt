@@ -2,17 +2,15 @@
 ghost use Rattle.std.specs.Prelude.{◌-◌, ◌<◌, ◌^◌};
 
 use crate::colours::{is_coloured, uncoloured};
-use fmp_cli::Paths;
+use fmp_cli::{Paths, Seeds, SmpRequest};
 use fmp_cli_colour::ColourSink;
 use fmp_cli_desk::{
-    Desk, Ending, FaultForm, ProgressLine, both_read, kept, put_lines, replied, settled_search,
-    whole,
+    Desk, Ending, FaultForm, ProgressLine, both_read, kept, put_lines, replied, settled, whole,
 };
 use fmp_cli_diagnostics::LineForm;
 use fmp_cli_faults::{LASTING, SeedMisfit, Waiting, waiting_lines};
 use fmp_cli_hints::TextForm;
 use fmp_cli_runs::{Played, play, seek};
-use fmp_cli_table::{Seeds, SmpRequest};
 use fmp_out::Text;
 use fmp_run_events::{MemSource, Sink, Source, Status, WriteSink};
 use fmp_run_explore::ExploreFault;
@@ -198,12 +196,12 @@ where
             request,
             progress,
         );
-        return settled_search(run, colours.below().is_closed());
+        return settled(run, colours.below().is_closed());
     }
     let run = made(
         threads, alloc, config, scripts, &mut trace, request, progress,
     );
-    settled_search(run, trace.is_closed())
+    settled(run, trace.is_closed())
 }
 
 /// Reads both texts, and has processors follow the scripts. What is reported beside the trace has this form, and which seed is played is reported.

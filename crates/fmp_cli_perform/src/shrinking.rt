@@ -1,32 +1,37 @@
 //! The events that are needed to show something.
-use fmp_cli::Paths;
-use fmp_cli_desk::{Desk, Ending, FaultForm, both_read, kept, put_lines, replied, settled_search};
+use fmp_cli::{Paths, ShrinkRequest};
+use fmp_cli_desk::{Desk, FaultForm, Work, put_lines, replied, worked};
 use fmp_cli_diagnostics::LineForm;
-use fmp_cli_explore::ShrinkRequest;
 use fmp_cli_faults::LASTING;
 use fmp_cli_hints::TextForm;
 use fmp_cli_runs::shrink;
 use fmp_out::Text;
-use fmp_run_events::{MemSource, Status, WriteSink};
+use fmp_run_events::{MemSource, Sink, Source, Status};
+use fmp_run_explore::ExploreFault;
 use fmp_search_question::is_lasting;
+use std::alloc::Global;
 
 /// Writes the events that are needed to show what the request asks.
-fn shortened<D: Desk>(
-    desk: &D,
-    paths: &Paths<'_>,
-    request: &ShrinkRequest<'_>,
-) -> Result<Status, Ending> {
-    let alloc = desk.alloc();
-    let (texts, mut events) = both_read(desk, paths)?;
-    let mut output = WriteSink::new(alloc, desk.output())?;
-    let run = shrink(
-        alloc,
-        &mut MemSource::new(texts.config.as_slice()),
-        &mut events,
-        &mut output,
-        request,
-    );
-    kept(settled_search(run, output.is_closed()), texts)
+#[derive(Clone, Copy)]
+struct Shrinking<'a, 'w> {
+    request: &'a ShrinkRequest<'w>,
+}
+
+impl<'a, 'w> Work for Shrinking<'a, 'w> {
+    type Done = Status;
+
+    type Fault = ExploreFault;
+
+    fn run<S: Source, W: Sink>(
+        &mut self,
+        alloc: Global,
+        config: &[u8],
+        text: &mut S,
+        output: &mut W,
+    ) -> Result<Status, ExploreFault> {
+        let mut config = MemSource::new(config);
+        shrink(alloc, &mut config, text, output, self.request)
+    }
 }
 
 /// Reports that the answers to the events at a path do not show what is asked.
@@ -50,7 +55,7 @@ pub fn shrunk<D: Desk>(desk: &D, request: &ShrinkRequest<'_>, line: LineForm) ->
         text: request.events,
         context: request.context.then_some(text),
     };
-    let run = shortened(desk, &paths, request);
+    let run = worked(desk, &paths, &mut Shrinking { request });
     let status = replied(
         desk,
         &paths,

@@ -1,29 +1,37 @@
 //! Whether and where a trace is the machine's, its waveform, and a page that shows it.
 use fmp_cli::{Asked, Partly, Paths};
-use fmp_cli_desk::{
-    Desk, Ending, FaultForm, both_read, config_alone, ended, kept, put_lines, settled,
-};
+use fmp_cli_desk::{Desk, Ending, FaultForm, Work, ended, put_lines, worked, worked_alone};
 use fmp_cli_diagnostics::LineForm;
 use fmp_cli_faults::{differs_lines, partly_lines};
 use fmp_cli_hints::TextForm;
-use fmp_cli_runs::{judge, judge_partly};
-use fmp_run_events::{MemSource, Status, WriteSink};
+use fmp_cli_runs::{judge, shown_for, view_partly};
+use fmp_run_events::{MemSource, RunFault, Sink, Source, Status};
+use fmp_run_partial::{Shown, run_partial};
 use fmp_run_wave::run_save;
 use fmp_trace_check::Verdict;
+use std::alloc::Global;
 
 /// Writes what is asked of a trace, and judges it.
-fn judged<D: Desk>(desk: &D, paths: &Paths<'_>, asked: Asked) -> Result<Verdict, Ending> {
-    let alloc = desk.alloc();
-    let (texts, mut trace) = both_read(desk, paths)?;
-    let mut sink = WriteSink::new(alloc, desk.output())?;
-    let run = judge(
-        alloc,
-        &mut MemSource::new(texts.config.as_slice()),
-        &mut trace,
-        &mut sink,
-        asked,
-    );
-    kept(settled(run, sink.is_closed()), texts)
+#[derive(Clone, Copy)]
+struct Judging {
+    asked: Asked,
+}
+
+impl Work for Judging {
+    type Done = Verdict;
+
+    type Fault = RunFault;
+
+    fn run<S: Source, W: Sink>(
+        &mut self,
+        alloc: Global,
+        config: &[u8],
+        text: &mut S,
+        output: &mut W,
+    ) -> Result<Verdict, RunFault> {
+        let mut config = MemSource::new(config);
+        judge(alloc, &mut config, text, output, self.asked)
+    }
 }
 
 /// Writes what is asked of a trace, and reports the first line that is not the machine's where nothing that is written does.
@@ -33,7 +41,7 @@ fn trace<D: Desk>(
     asked: Asked,
     line: LineForm,
 ) -> Result<Status, Ending> {
-    let verdict = judged(desk, paths, asked)?;
+    let verdict = worked(desk, paths, &mut Judging { asked })?;
     if let Verdict::No(number) = verdict {
         let lines = differs_lines(desk.alloc(), line, paths.text, asked, number);
         put_lines(desk, lines);
@@ -48,6 +56,36 @@ pub fn traced<D: Desk>(desk: &D, paths: &Paths<'_>, asked: Asked, line: LineForm
     ended(desk, paths, FaultForm { line, text }, run)
 }
 
+/// Judges a partial trace, and writes what is asked of it.
+#[derive(Clone, Copy)]
+struct JudgingPartly {
+    asked: Partly,
+}
+
+impl Work for JudgingPartly {
+    type Done = Shown;
+
+    type Fault = RunFault;
+
+    fn run<S: Source, W: Sink>(
+        &mut self,
+        alloc: Global,
+        config: &[u8],
+        text: &mut S,
+        output: &mut W,
+    ) -> Result<Shown, RunFault> {
+        match self.asked {
+            Partly::Page | Partly::DifferencesPage => {
+                view_partly(alloc, config, text, output, self.asked)
+            }
+            asked => {
+                let mut config = MemSource::new(config);
+                run_partial(alloc, &mut config, text, output, shown_for(asked))
+            }
+        }
+    }
+}
+
 /// Judges a partial trace, writes what is asked of it, and reports what that does not show.
 fn partial<D: Desk>(
     desk: &D,
@@ -55,13 +93,8 @@ fn partial<D: Desk>(
     asked: Partly,
     line: LineForm,
 ) -> Result<Status, Ending> {
-    let alloc = desk.alloc();
-    let (texts, mut trace) = both_read(desk, paths)?;
-    let mut sink = WriteSink::new(alloc, desk.output())?;
-    let config = texts.config.as_slice();
-    let run = judge_partly(alloc, config, &mut trace, &mut sink, asked);
-    let shown = kept(settled(run, sink.is_closed()), texts)?;
-    put_lines(desk, partly_lines(alloc, line, paths, asked, &shown));
+    let shown = worked(desk, paths, &mut JudgingPartly { asked })?;
+    put_lines(desk, partly_lines(desk.alloc(), line, paths, asked, &shown));
     Ok(shown.verdict.status())
 }
 
@@ -78,22 +111,30 @@ pub fn partly_traced<D: Desk>(
 }
 
 /// Writes GTKWave's save file for a configuration.
-fn save<D: Desk>(desk: &D, paths: &Paths<'_>) -> Result<Status, Ending> {
-    let alloc = desk.alloc();
-    let texts = config_alone(desk, paths)?;
-    let mut sink = WriteSink::new(alloc, desk.output())?;
-    let run = run_save(
-        alloc,
-        &mut MemSource::new(texts.config.as_slice()),
-        &mut sink,
-    );
-    kept(settled(run, sink.is_closed()), texts)?;
-    Ok(Status::Done)
+#[derive(Clone, Copy)]
+struct Saving;
+
+impl Work for Saving {
+    type Done = Status;
+
+    type Fault = RunFault;
+
+    fn run<S: Source, W: Sink>(
+        &mut self,
+        alloc: Global,
+        config: &[u8],
+        _text: &mut S,
+        output: &mut W,
+    ) -> Result<Status, RunFault> {
+        run_save(alloc, &mut MemSource::new(config), output)?;
+        Ok(Status::Done)
+    }
 }
 
 /// How writing GTKWave's save file ends the program. A fault is reported.
 pub fn saved<D: Desk>(desk: &D, paths: &Paths<'_>, line: LineForm) -> Status {
     // No other text is read, so that of its forms any will do.
     let text = TextForm::Events;
-    ended(desk, paths, FaultForm { line, text }, save(desk, paths))
+    let run = worked_alone(desk, paths, &mut Saving);
+    ended(desk, paths, FaultForm { line, text }, run)
 }

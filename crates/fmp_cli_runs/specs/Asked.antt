@@ -10,8 +10,8 @@ use Rattle.fmp_run_wave.specs.Runs.{WritesWave}
 use Rattle.fmp_run_view.specs.Runs.{WritesPage}
 use Rattle.fmp_trace_check.specs.declared.checking.Verdict.{Verdict}
 use Rattle.fmp_search_orders.specs.declared.rules.Rules.{Rules}
-use Rattle.fmp_cli_explore.specs.declared.ExploreRequest.{ExploreRequest}
-use Rattle.fmp_cli_table.specs.declared.SmpRequest.{SmpRequest}
+use Rattle.fmp_cli.specs.declared.explore.ExploreRequest.{ExploreRequest}
+use Rattle.fmp_cli.specs.declared.smp.SmpRequest.{SmpRequest}
 use Rattle.fmp_run_seeds.specs.declared.orders.SeedOrder.TheVariants.{Drawn, InTurn}
 use Rattle.fmp_run_seeds.specs.declared.orders.SeedRuns.{SeedRuns}
 use Rattle.fmp_run_view.specs.declared.run.PageKind.TheVariants as kind

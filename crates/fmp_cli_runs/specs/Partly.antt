@@ -32,12 +32,3 @@ page_of asked _ = None
 abbrev pub IsPaged : Option PageKind → List ℕ → List ℕ → List ℕ → List ℕ → Type 0
 IsPaged None config_text lines old new = new ≡ old
 IsPaged (Some kind) config_text lines old new = (verdict : Verdict) × view.Shown kind config_text lines old new verdict
-
--- what was written after old, with what is shown of a partial trace
-abbrev pub IsOut : Partly → List ℕ → Shown → List ℕ → List ℕ → Type 0
-IsOut asks.Verdict config_text s old new = new ≡ old ++ s.text.items
-IsOut asks.First config_text s old new = new ≡ old ++ s.text.items
-IsOut asks.Each config_text s old new = new ≡ old ++ s.text.items
-IsOut asks.Order config_text s old new = new ≡ old ++ s.text.items
-IsOut asks.Page config_text s old new = IsPaged (page_of asks.Page s.verdict) config_text s.text.items old new
-IsOut asks.DifferencesPage config_text s old new = IsPaged (page_of asks.DifferencesPage s.verdict) config_text s.text.items old new

@@ -13,10 +13,10 @@ use Rattle.fmp_run_explore.specs.declared.fault.ExploreFault.{ExploreFault}
 use Rattle.fmp_run_explore.specs.declared.fault.ExploreFault.TheVariants.{Run}
 use Rattle.fmp_run_explore.specs.declared.finding.Finding.{Finding}
 use Rattle.fmp_run_explore.specs.declared.finding.Finding.TheVariants as finding
-use Rattle.fmp_run_explore.specs.declared.layer.Outcome.{Outcome}
+use Rattle.fmp_run_explore.specs.declared.searched.Outcome.{Outcome}
 use Rattle.fmp_run_explore.specs.Explored.{IsEndedBy, IsExplored}
 use Rattle.fmp_run_explore.specs.Faults.{IsConfigFault, IsFirstOfQuestion, IsScriptFault, OfRun, QuestionFaultOver}
-use Rattle.fmp_run_explore.specs.Left.{LeavesLayer}
+use Rattle.fmp_run_explore.specs.Searched.{IsOfTexts}
 use Rattle.fmp_run_forever.specs.declared.staying.Stayed.{Stayed}
 use Rattle.fmp_run_forever.specs.declared.staying.Staying.{Staying}
 use Rattle.fmp_run_forever.specs.declared.staying.Staying.TheVariants as staying
@@ -59,9 +59,9 @@ kept found = kept_of found.finding found
 -- The reply to a question of steps: what a search through all orders of the one text's machine, by the other's scripts, found of what the third asks.
 pub record RepliesSteps (config_text script_text question_text : List ℕ) (rules : Rules) (turns room : ℕ) (over : Bool) (reply : Replied) : Type 0 where
   pub found : Outcome
-  -- the search found this, wrote what the reply has, and leaves this to go on from
+  -- the search found this, and wrote what the reply has
   pub explored : IsExplored config_text script_text question_text rules turns room [] reply.trace.items found.finding
-  pub leaves : LeavesLayer config_text script_text question_text rules turns found.finding found.layer
+  pub searched : IsOfTexts config_text script_text question_text rules found.searched
   -- it knows less than was asked for, with room that is left, only where it was ended
   pub ended : IsEndedBy over found.finding
   -- and that is the answer

@@ -9,7 +9,7 @@ ghost use Rattle.fmp_run_forever.specs.Asked as forever_faults;
 ghost use Rattle.fmp_run_forever.specs.Stayed.{IsBegun, IsExplored};
 
 use crate::orders::rules_of;
-use fmp_cli_explore::ExploreRequest;
+use fmp_cli::ExploreRequest;
 use fmp_run_devices::{Sink, Source};
 use fmp_run_events::RunFault;
 use fmp_run_explore::{ExploreFault, Progress, SearchRequest};

@@ -9,7 +9,7 @@ ghost use Rattle.fmp_run_most.specs.Runs.{IsBegun, IsTold};
 ghost use Rattle.fmp_run_most.specs.declared.settling.Reach.{Reach as AnyReach};
 
 use crate::orders::rules_of;
-use fmp_cli_explore::ExploreRequest;
+use fmp_cli::ExploreRequest;
 use fmp_run_devices::{Sink, Source};
 use fmp_run_events::{RunFault, Status};
 use fmp_run_explore::Progress;

@@ -8,13 +8,13 @@ ghost use Rattle.fmp_run_explore.specs.Faults.{OwesSearch};
 ghost use Rattle.fmp_run_explore.specs.Explored as spec;
 ghost use Rattle.fmp_run_explore.specs.Explored.{IsBegun, IsEndedBy, IsExplored};
 ghost use Rattle.fmp_run_explore.specs.Faults as faults;
-ghost use Rattle.fmp_run_explore.specs.Left.{LeavesLayer};
+ghost use Rattle.fmp_run_explore.specs.Searched.{IsOfTexts};
 ghost use Rattle.fmp_run_explore.specs.declared.finding.Finding.{Finding as AnyFinding};
 ghost use Rattle.fmp_run_explore_from.specs.Explored.{IsBegunFrom, IsExploredFrom};
 ghost use Rattle.fmp_run_explore_from.specs.Faults as from_faults;
 ghost use Rattle.fmp_cli_runs.specs.Asked as asked;
 
-use fmp_cli_explore::ExploreRequest;
+use fmp_cli::ExploreRequest;
 use fmp_run_devices::{Sink, Source};
 use fmp_run_events::{RunFault, Status};
 use fmp_run_explore::{ExploreFault, Outcome, Progress, Rules, SearchRequest, run_explore};
@@ -34,7 +34,7 @@ pub(crate) fn rules_of(request: &ExploreRequest<'_>) -> Rules
     }
 }
 
-/// Writes whether an order shows what the request asks. What was found is given, with the orders from which a search is to go on.
+/// Writes whether an order shows what the request asks. What was found is given, with what was searched.
 pub fn search<R: Source, S: Source, W: Sink, P: Progress>(
     alloc: Global,
     config: &mut R,
@@ -63,10 +63,10 @@ pub fn search<R: Source, S: Source, W: Sink, P: Progress>(
     // Less is known than was asked for, with room that is left, only where the search was ended.
     ensures ended { IfOk result (λ o. IsEndedBy (P.over progress.new) o.finding) }
 
-    // Beside that it gives the orders from which a search is to go on.
-    ensures layer { IsKnown (R.left config.old) → IsKnown (S.left scripts.old)
-        → IfOk result (λ o. LeavesLayer (bytes_of (R.left config.old)) (bytes_of (S.left scripts.old)) request.now.question.now
-        (asked.rules_of request.now) request.now.bounds.turns.count o.finding o.layer) }
+    // Beside that it gives what it searched, for what may be asked besides.
+    ensures searched { IsKnown (R.left config.old) → IsKnown (S.left scripts.old)
+        → IfOk result (λ o. IsOfTexts (bytes_of (R.left config.old)) (bytes_of (S.left scripts.old)) request.now.question.now
+        (asked.rules_of request.now) o.searched) }
 {
     let asked = SearchRequest {
         question: request.question.as_bytes(),

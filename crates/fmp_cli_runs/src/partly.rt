@@ -1,4 +1,4 @@
-//! What `fmpsim check` and `fmpsim view` do of a partial trace.
+//! What `fmpsim check` writes of a partial trace, and the page that `fmpsim view` shows of one.
 ghost use Rattle.std.specs.Prelude.{◌≡◌, ◌-◌, ◌^◌, ◌<◌, IfOk};
 ghost use Rattle.fmp_run_devices.specs.Devices.{IsKnown, bytes_of};
 ghost use Rattle.fmp_run_partial.specs.Partials.{CheckedPartly};
@@ -12,7 +12,7 @@ use fmp_run_view::{PageKind, run_view};
 use std::alloc::Global;
 
 /// What is written of a partial trace of which this is asked. A page shows these lines.
-fn shown_for(asked: Partly) -> PartialShown
+pub fn shown_for(asked: Partly) -> PartialShown
     ensures { result ≡ spec.shown_for asked }
 {
     match asked {
@@ -37,8 +37,8 @@ fn page_of(asked: Partly, verdict: PartialVerdict) -> Option<PageKind>
     }
 }
 
-/// Judges a partial trace, and writes the page of the whole lines that are made of it, if this page has some.
-fn view_partly<S: Source, W: Sink>(
+/// Judges a partial trace, and writes the page of the whole lines that are made of it, if this page has some. No clause says what is written where it fails.
+pub fn view_partly<S: Source, W: Sink>(
     alloc: Global,
     config: &[u8],
     trace: &mut S,
@@ -47,13 +47,22 @@ fn view_partly<S: Source, W: Sink>(
 ) -> Result<Shown, RunFault>
     requires trace_calls { S.failures trace.old < 2 ^ 64 - 1 }
     requires page_calls { W.failures page.old < 2 ^ 64 - 1 }
+
+    // The verdict is right, and so are the lines that the page shows.
     ensures checked { IsKnown (S.left trace.old) → IfOk result (CheckedPartly (spec.shown_for asked) config.now (bytes_of (S.left trace.old))) }
+
+    // The page that shows them is written, if there is one.
     ensures shown { IsKnown (W.written page.old) → IfOk result (λ s. spec.IsPaged (spec.page_of asked s.verdict) config.now s.text.items
         (bytes_of (W.written page.old)) (bytes_of (W.written page.new))) }
 {
     let mut whole = GrowingSink::new(alloc);
     let mut read = MemSource::new(config);
-    let shown = run_partial(alloc, &mut read, trace, &mut whole, shown_for(asked))?;
+    let shown = match run_partial(alloc, &mut read, trace, &mut whole, shown_for(asked)) {
+        Ok(shown) => shown,
+        // The lines are kept in memory, for want of which alone a write there fails.
+        Err(RunFault::Write) => return Err(RunFault::Memory),
+        Err(fault) => return Err(fault),
+    };
     let Some(kind) = page_of(asked, shown.verdict) else {
         return Ok(shown);
     };
@@ -62,32 +71,5 @@ fn view_partly<S: Source, W: Sink>(
     match run_view(alloc, &mut read, &mut lines, page, kind) {
         Ok(_) => Ok(shown),
         Err(fault) => Err(fault),
-    }
-}
-
-/// Judges a partial trace, and writes what is asked of it. No clause says what is written where it fails.
-pub fn judge_partly<S: Source, W: Sink>(
-    alloc: Global,
-    config: &[u8],
-    trace: &mut S,
-    output: &mut W,
-    asked: Partly,
-) -> Result<Shown, RunFault>
-    requires trace_calls { S.failures trace.old < 2 ^ 64 - 1 }
-    requires output_calls { W.failures output.old < 2 ^ 64 - 1 }
-
-    // The verdict is right, and so are the lines that are written or shown.
-    ensures checked { IsKnown (S.left trace.old) → IfOk result (CheckedPartly (spec.shown_for asked) config.now (bytes_of (S.left trace.old))) }
-
-    // These lines are written, or the page that shows them, if there is one.
-    ensures written { IsKnown (W.written output.old) → IfOk result (λ s. spec.IsOut asked config.now s
-        (bytes_of (W.written output.old)) (bytes_of (W.written output.new))) }
-{
-    match asked {
-        Partly::Page | Partly::DifferencesPage => view_partly(alloc, config, trace, output, asked),
-        _ => {
-            let mut read = MemSource::new(config);
-            run_partial(alloc, &mut read, trace, output, shown_for(asked))
-        }
     }
 }

@@ -7,7 +7,7 @@ ghost use Rattle.fmp_cli_runs.specs.Replies.{IsUnreplied, RepliesLasting, Replie
 
 use crate::forever::search_forever;
 use crate::orders::search;
-use fmp_cli_explore::ExploreRequest;
+use fmp_cli::ExploreRequest;
 use fmp_cli_questions::{Answer, Judgement};
 use fmp_run_devices::{GrowingSink, MemSource};
 use fmp_run_explore::{ExploreFault, Finding, Outcome, Progress};

@@ -13,7 +13,7 @@ ghost use Rattle.fmp_run_smp.specs.Scripted.{IsPlayBegun, IsPlayedToEnd};
 ghost use Rattle.fmp_cli_runs.specs.Asked as asked;
 ghost use Rattle.fmp_world.specs.declared.finishing.Ended.{Ended as AnyEnded};
 
-use fmp_cli_table::SmpRequest;
+use fmp_cli::SmpRequest;
 use fmp_run_devices::{Sink, Source};
 use fmp_run_events::{RunFault, Status};
 use fmp_run_explore::ExploreFault;

@@ -9,7 +9,7 @@ ghost use Rattle.fmp_run_shrink.specs.Shrunk as spec;
 ghost use Rattle.fmp_run_shrink.specs.Shrunk.{IsBegun, IsShrunkOut};
 ghost use Rattle.fmp_run_shrink.specs.declared.finding.Shrinking.{Shrinking as AnyShrinking};
 
-use fmp_cli_explore::ShrinkRequest;
+use fmp_cli::ShrinkRequest;
 use fmp_run_devices::{Sink, Source};
 use fmp_run_events::{RunFault, Status};
 use fmp_run_shrink::{ExploreFault, run_shrink};

@@ -4,9 +4,9 @@ use Rattle.fmp_run_view.specs.declared.run.PageKind.{PageKind}
 use Rattle.fmp_cli_runs.specs.Partly.{IsPaged}
 use Rattle.fmp_cli_runs.proofs.partly.view_partly.Goals as goal
 
-pub returns-in-Ok-clause-shown : goal.returns-in-Ok-clause-shown
-returns-in-Ok-clause-shown g c = λ known.
-    subst (λ (page : Option PageKind). IsPaged page c.args.config.now c.in_ok-shown.shown.text.items (bytes_of (g.W.Sink.written c.args.page.now))
+pub returns-in-Ok-run_view-clause-shown : goal.returns-in-Ok-run_view-clause-shown
+returns-in-Ok-run_view-clause-shown g c = λ known.
+    subst (λ (page : Option PageKind). IsPaged page c.args.config.now c.in-Ok.shown.text.items (bytes_of (g.W.Sink.written c.args.page.now))
     (bytes_of (g.W.Sink.written c.run_view.new.page)))
     (sym c.in-Some.is ∙ c.page_of.ensures)
-    (c.in-Ok.field-0, rw (c.new-read-2.ensures.bytes.0, c.new-lines.ensures.bytes.0, c.as_slice.ensures.value) at (c.in-Ok.ensures.writes.shown refl refl known))
+    (c.in-Ok-run_view.field-0, rw (c.new-read-2.ensures.bytes.0, c.new-lines.ensures.bytes.0, c.as_slice.ensures.value) at (c.in-Ok-run_view.ensures.writes.shown refl refl known))
