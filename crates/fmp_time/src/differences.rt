@@ -154,12 +154,19 @@ impl Differences {
         self.is_empty() && other.is_empty()
     }
 
+    /// Whether both are the same in each number that they keep, so that no item needs a look. Where it says no they may be the same all the same.
+    fn is_identical(&self, other: &Differences) -> bool
+        ensures { IsTrue result → self.now ≡ other.now }
+    {
+        self.links.is_same(&other.links) && self.more == other.more
+    }
+
     /// Whether each item stands in the same list of both, with the same ticks left, or in none. Which of those with equal ticks
     /// left comes first does not matter: it shows nowhere.
     pub fn has_same_lefts(&self, other: &Differences) -> bool
         ensures { IsTrue result → (k : ℕ) → k < 128 → left_in self.now k ≡ left_in other.now k }
     {
-        self.are_empty(other) || self.has_each_left(other)
+        self.are_empty(other) || self.is_identical(other) || self.has_each_left(other)
     }
 
     /// Whether each item stands so, by a look at each.
@@ -189,13 +196,8 @@ impl Differences {
         if self.is_empty() {
             return;
         }
-        for item in 0..128usize {
-            if !self.stands(item) {
-                continue;
-            }
-            if let Some(ticks) = self.left(item) {
-                digest.add(ticks << 7 ^ item as u64);
-            }
+        for list in 0..8usize {
+            digest.add(mixed(&self.links, &self.more, list));
         }
     }
 
@@ -269,6 +271,29 @@ impl Differences {
         }
         marks
     }
+}
+
+/// A number made of the ticks left of all items of a list, whatever the order of those with equal ticks left.
+fn mixed(links: &Links<136, 128>, more: &[u64; 128], list: usize) -> u64
+    requires { list < 8 }
+{
+    let mut mixed = 0u64;
+    let mut ticks = 0u64;
+    let mut here = links.first(list);
+    for _ in 0..128usize {
+        let Some(item) = here else {
+            return mixed;
+        };
+        if item >= 128 {
+            return mixed;
+        }
+        ticks = ticks.wrapping_add(more[item]);
+        let mut digest = Digest::new();
+        digest.add(ticks << 7 ^ item as u64);
+        mixed = mixed.wrapping_add(digest.value());
+        here = links.next(item);
+    }
+    mixed
 }
 
 /// The first item of a list that adds something.
