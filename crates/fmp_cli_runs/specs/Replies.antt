@@ -37,6 +37,7 @@ abbrev pub answer_of : Finding → List ℕ → Answer
 answer_of finding.Shown trace = answer.Shown (lines_in trace)
 answer_of finding.Never trace = answer.Never
 answer_of (finding.NotWithin n) trace = answer.NotWithin n
+answer_of (finding.Wanting n) trace = answer.NotWithin n
 answer_of (finding.Ended n) trace = answer.NotWithin n
 
 -- likewise of what stays for ever
@@ -51,6 +52,7 @@ abbrev pub kept_of : Finding → Outcome → Option Outcome
 kept_of finding.Never found = Some found
 kept_of finding.Shown found = None
 kept_of (finding.NotWithin n) found = None
+kept_of (finding.Wanting n) found = None
 kept_of (finding.Ended n) found = None
 
 abbrev pub kept : Outcome → Option Outcome

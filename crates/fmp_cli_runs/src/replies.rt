@@ -40,7 +40,9 @@ fn answer_of(finding: Finding, trace: &[u8]) -> Answer
     match finding {
         Finding::Shown => Answer::Shown(lines_in(trace)),
         Finding::Never => Answer::Never,
-        Finding::NotWithin(lines) | Finding::Ended(lines) => Answer::NotWithin(lines),
+        Finding::NotWithin(lines) | Finding::Wanting(lines) | Finding::Ended(lines) => {
+            Answer::NotWithin(lines)
+        }
     }
 }
 
@@ -61,7 +63,7 @@ fn kept(found: Outcome) -> Option<Outcome>
 {
     match found.finding {
         Finding::Never => Some(found),
-        Finding::Shown | Finding::NotWithin(_) | Finding::Ended(_) => None,
+        Finding::Shown | Finding::NotWithin(_) | Finding::Wanting(_) | Finding::Ended(_) => None,
     }
 }
 

@@ -16,9 +16,12 @@ use Rattle.fmp_run_texts.specs.declared.status.Status.TheVariants.{Limit}
 use Rattle.fmp_run_explore.specs.Explored.{Finds, status_of}
 
 -- what was found does not say whether some order shows the question
-pub is_unknown : (found : Finding) → ((n : ℕ) × (found ≡ finding.NotWithin n)) ⊎ ((n : ℕ) × (found ≡ finding.Ended n)) → status_of found ≡ Limit
+pub is_unknown :
+    (found : Finding) → ((n : ℕ) × (found ≡ finding.NotWithin n)) ⊎ (((n : ℕ) × (found ≡ finding.Wanting n)) ⊎ ((n : ℕ) × (found ≡ finding.Ended n))) →
+    status_of found ≡ Limit
 is_unknown found (inl within) = ap status_of within.1
-is_unknown found (inr over) = ap status_of over.1
+is_unknown found (inr (inl wanting)) = ap status_of wanting.1
+is_unknown found (inr (inr over)) = ap status_of over.1
 
 module _ (c : Setup) (scripts : List Steps) (rules : Rules) where
   -- the order of no records shows a question without a step

@@ -30,13 +30,15 @@ pub record IsShown (c : Setup) (scripts : List Steps) (rules : Rules) (question 
   pub answers : PrintsAnswers c text (events_of records)
 
 -- what is known of all orders, and the text that tells it. Where that is less than was asked for, the room for places was used up,
--- or the search was ended
+-- memory for them was wanting, or the search was ended
 abbrev pub Finds : Setup → List Steps → Rules → List Step → ℕ → ℕ → List ℕ → Finding → Type 0
 Finds c scripts rules question turns room text finding.Shown = IsShown c scripts rules question turns text
 Finds c scripts rules question turns room text finding.Never = NoneShows c scripts rules question × (text ≡ codes "never\n")
 Finds c scripts rules question turns room text (finding.NotWithin n) =
     (n ≤ turns) × NoneShowsWithin c scripts rules question n × (text ≡ codes "not within " ++ decimal n ++ codes "\n")
     × (n < turns → UsedUp after (origin c scripts rules question) n room)
+Finds c scripts rules question turns room text (finding.Wanting n) =
+    (n < turns) × NoneShowsWithin c scripts rules question n × (text ≡ codes "not within " ++ decimal n ++ codes "\n")
 Finds c scripts rules question turns room text (finding.Ended n) =
     (n < turns) × NoneShowsWithin c scripts rules question n × (text ≡ codes "not within " ++ decimal n ++ codes "\n")
 
@@ -45,6 +47,7 @@ abbrev pub IsEndedBy : Bool → Finding → Type 0
 IsEndedBy over finding.Shown = Unit {0}
 IsEndedBy over finding.Never = Unit {0}
 IsEndedBy over (finding.NotWithin n) = Unit {0}
+IsEndedBy over (finding.Wanting n) = Unit {0}
 IsEndedBy over (finding.Ended n) = over ≡ true
 
 -- the output says whether orders of the one text's machine, by the other's scripts, show what the third asks, where there is room for so
@@ -81,4 +84,5 @@ abbrev pub status_of : Finding → Status
 status_of finding.Shown = Different
 status_of finding.Never = Done
 status_of (finding.NotWithin n) = Limit
+status_of (finding.Wanting n) = Limit
 status_of (finding.Ended n) = Limit

@@ -16,4 +16,5 @@ abbrev pub IsGone : Searched → Finding → Option Extent → Type 0
 IsGone s finding.Shown e = e ≡ None
 IsGone s finding.Never e = WentThrough after (origin_of s) e
 IsGone s (finding.NotWithin n) e = WentAlong after (origin_of s) n e
+IsGone s (finding.Wanting n) e = WentAlong after (origin_of s) n e
 IsGone s (finding.Ended n) e = WentAlong after (origin_of s) n e

@@ -31,7 +31,7 @@ impl Searched {
             match found {
                 Finding::Shown => come = middle,
                 Finding::Never => beyond = middle,
-                Finding::NotWithin(_) | Finding::Ended(_) => return Ok(None),
+                Finding::NotWithin(_) | Finding::Wanting(_) | Finding::Ended(_) => return Ok(None),
             }
         }
         Ok(Some(come))

@@ -13,6 +13,8 @@ pub enum Finding {
     Never,
     /// None of at most so many lines does.
     NotWithin(u32),
+    /// Likewise, where there was no memory for more places.
+    Wanting(u32),
     /// Likewise, where the search was ended before more is known.
     Ended(u32),
 }
@@ -25,7 +27,7 @@ impl Finding {
         match self {
             Finding::Shown => Status::Different,
             Finding::Never => Status::Done,
-            Finding::NotWithin(_) | Finding::Ended(_) => Status::Limit,
+            Finding::NotWithin(_) | Finding::Wanting(_) | Finding::Ended(_) => Status::Limit,
         }
     }
 }

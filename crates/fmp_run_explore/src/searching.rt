@@ -123,6 +123,11 @@ pub(crate) fn found<P: Progress>(
             text: not_within(alloc, turns)?,
             extent,
         }),
+        Answer::Wanting(turns) => Ok(Report {
+            finding: Finding::Wanting(turns),
+            text: not_within(alloc, turns)?,
+            extent,
+        }),
         Answer::Ended(turns) => Ok(Report {
             finding: Finding::Ended(turns),
             text: not_within(alloc, turns)?,

@@ -30,13 +30,15 @@ pub record IsShownFrom (c : Setup) (scripts : List Steps) (rules : Rules) (quest
   pub answers : PrintsAnswers c text (events_of records)
 
 -- what is known of all orders that go on from one, and the text that tells it. Where that is less than was asked for, the room for places was
--- used up, or the search was ended
+-- used up, memory for them was wanting, or the search was ended
 abbrev pub FindsFrom : Setup → List Steps → Rules → List Step → List Record → ℕ → ℕ → List ℕ → Finding → Type 0
 FindsFrom c scripts rules question begun turns room text finding.Shown = IsShownFrom c scripts rules question begun turns text
 FindsFrom c scripts rules question begun turns room text finding.Never = NoneShowsFrom c scripts rules question begun × (text ≡ codes "never\n")
 FindsFrom c scripts rules question begun turns room text (finding.NotWithin n) =
     (n ≤ turns) × NoneShowsWithinFrom c scripts rules question begun n × (text ≡ codes "not within " ++ decimal n ++ codes "\n")
     × (n < turns → UsedUp (guided_after after) (guide (choices_of begun) (origin c scripts rules question)) n room)
+FindsFrom c scripts rules question begun turns room text (finding.Wanting n) =
+    (n < turns) × NoneShowsWithinFrom c scripts rules question begun n × (text ≡ codes "not within " ++ decimal n ++ codes "\n")
 FindsFrom c scripts rules question begun turns room text (finding.Ended n) =
     (n < turns) × NoneShowsWithinFrom c scripts rules question begun n × (text ≡ codes "not within " ++ decimal n ++ codes "\n")
 

@@ -88,6 +88,7 @@ fn report_from<P: Progress>(
         }
         Answer::Never => Ok((Finding::Never, never(alloc)?)),
         Answer::NotWithin(turns) => Ok((Finding::NotWithin(turns), not_within(alloc, turns)?)),
+        Answer::Wanting(turns) => Ok((Finding::Wanting(turns), not_within(alloc, turns)?)),
         Answer::Ended(turns) => Ok((Finding::Ended(turns), not_within(alloc, turns)?)),
     }
 }

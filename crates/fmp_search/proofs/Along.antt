@@ -139,4 +139,5 @@ module _ {P : Type 0} (after : P → ℕ → Option P) where
     says_along most room (answer.Found steps) says = (says.0, along_shortest steps.items says.1)
     says_along most room answer.Never says = along_ever says
     says_along most room (answer.NotWithin n) says = (says.0, along_within n says.1, says.2)
+    says_along most room (answer.Wanting n) says = (says.0, along_within n says.1)
     says_along most room (answer.Ended n) says = (says.0, along_within n says.1)

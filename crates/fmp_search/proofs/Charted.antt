@@ -13,7 +13,7 @@ use Rattle.fmp_search.specs.Runs.{Watches}
 use Rattle.fmp_search.specs.Trees.{found_at, IsAt}
 use Rattle.fmp_search.specs.declared.chart.Chart.{Chart}
 use Rattle.fmp_search.specs.Growth.{Extends}
-use Rattle.fmp_search.specs.Charts.{Charting, IsBlank, IsTrueEdge, AreTrue, IsJoined}
+use Rattle.fmp_search.specs.Charts.{Charting, IsBlank, IsCharted, IsTrueEdge, AreTrue, IsJoined}
 use Rattle.fmp_search.specs.Meeting.{AreNoted, IsMarked}
 use Rattle.fmp_search.proofs.Noted.{noted_none, noted_same}
 
@@ -138,6 +138,17 @@ module _ {P : Type 0} (after : P → ℕ → Option P) (passes : P → ℕ → �
       let had = joined r (rw (← extends.stays i few) goes) in
       let to = (sure had.number had.edge had.is_one).to in
       record { number = had.number; edge = had.edge; is_one = had.is_one; leaves = had.leaves; by = had.by; comes = rw (extends.stays had.edge.to to) had.comes }
+
+  -- no edge more
+  pub charted_there : (old new : Chart) → new.opened ≡ old.opened → new.edges ≡ old.edges → IsCharted after passes q nodes old → IsCharted after passes q more new
+  charted_there old new opened same before =
+      let low = before.few in
+      let longer = extends.longer in record {
+        sure = subst (λ (es : List Edge). AreTrue after passes q more es) (sym same) (trues_there old.edges before.sure);
+        joined = λ i t lt. subst (λ (es : List Edge). IsJoined after passes q more es i t) (sym same)
+            (joined_there old.edges i t (omega (arith, lt, opened, low)) before.sure (before.joined i t (omega (arith, lt, opened))));
+        few = omega (arith, opened, low, longer);
+      }
 
   -- one edge more, of a step of the place that is opened
   pub charting_more :

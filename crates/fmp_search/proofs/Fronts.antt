@@ -10,13 +10,13 @@ use Rattle.fmp_search.specs.declared.layer.Layer.TheVariants as layer
 use Rattle.fmp_search.specs.declared.nodes.Node.{Node}
 use Rattle.fmp_search.specs.Answers.{IsShortest}
 use Rattle.fmp_search.specs.Cache.{AreNear}
-use Rattle.fmp_search.specs.Charts.{Adds}
+use Rattle.fmp_search.specs.Charts.{Adds, AreLeft}
 use Rattle.fmp_search.specs.Fronts.{Advances, IsFront, IsOpen, IsStopped, Stays}
 use Rattle.fmp_search.specs.Growth.{AreBefore, AreTried, Extends, IsTried}
 use Rattle.fmp_search.specs.Runs.{AreClosed, Watches}
 use Rattle.fmp_search.specs.Trees.{Found, found_at, Has, IsAt, IsRunOver, Stands}
 use Rattle.fmp_search.proofs.Apart.{before_more, before_place, before_step}
-use Rattle.fmp_search.proofs.Charted.{charting_more, charting_next, charting_same, edge_is_true, joined_by, none_needed, none_there, not_there, step_there}
+use Rattle.fmp_search.proofs.Charted.{charted_there, charting_more, charting_next, charting_same, edge_is_true, joined_by, none_needed, none_there, not_there, step_there}
 use Rattle.fmp_search.proofs.Growth.{found_here, stepped, tried_at, tried_more}
 use Rattle.fmp_search.proofs.InCache.{cache_stays}
 use Rattle.fmp_search.proofs.Layers.{is-shortest}
@@ -126,6 +126,7 @@ module _ {P X : Type 0} (place : X → P) (room : X → ℕ) (origin : X → P) 
       Advances place room origin after passes wanted q n first most false nodes cache chart at step how → Advances place room origin after passes wanted q n first most over nodes left chart later next how
   stops_on most over nodes cache left chart at step later next (layer.Found steps) not x = x
   stops_on most over nodes cache left chart at step later next layer.Full not x = x
+  stops_on most over nodes cache left chart at step later next layer.Wanting not x = x
   stops_on most over nodes cache left chart at step later next layer.Over not x = absurd (let is = x.1 in search (rules, is))
   stops_on most over nodes cache left chart at step later next layer.Done not x = absurd (not refl)
 
@@ -164,7 +165,15 @@ module _ {P X : Type 0} (place : X → P) (room : X → ℕ) (origin : X → P) 
                 (is-shortest after wanted q nodes n first at step over_it.before r x.front.explored lt over_it.leads few goes_there is),
           )
 
-      -- or to another, and its edge was added
+      -- or to another, and its edge was not added
+      pub stopped_more : (more : List Node) (new : Chart) → IsFront place room origin after wanted q n first more cache at (step + 1) → Extends after q nodes more → AreLeft chart new →
+          IsStopped after passes q n more new
+      stopped_more more new front extends left = record {
+        found = found_here after q wanted more n first at at (step + 1) front.explored front.before;
+        charted = λ kept. charted_there after passes q nodes more extends chart new left.opened left.edges (x.charting.charted (sym left.kept ∙ kept));
+      }
+
+      -- or it was added
       pub open_more : (more : List Node) (new : Chart) (number : ℕ) → IsFront place room origin after wanted q n first more cache at (step + 1) → Extends after q nodes more → IsAt after q more number r →
           Adds (record { passes = t; from = at; to = number; step = step }) chart new → Open more cache new at (step + 1)
       open_more more new number front extends is adds =

@@ -47,6 +47,11 @@ module _ (kinds more : List Kind) (kept : AreKindsOf kinds more) where
       let lt = known k l (subst (λ (ls : List Link). slice_get ls k ≡ Some l) same is) in
       slice_get_within more l.kind _ (kept l.kind _ (slice_get-get_or kinds l.kind no_kind lt))
 
+  -- the same links are the same edges
+  pub edges_stay : (links list : List Link) → list ≡ links → AreKnown kinds links → edges_of more list ≡ edges_of kinds links
+  unfolding edges_of
+  edges_stay links list same known = ap (map (edge_of more)) same ∙ mapped_stay links known
+
   known_one : (links : List Link) (link : Link) (kind : Kind) → AreKnown kinds links → slice_get more link.kind ≡ Some kind → (k : ℕ) (l : Link) →
       (slice_get links k ≡ Some l) ⊎ ((k ≡ length links) × (link ≡ l)) → l.kind < length more
   known_one links link kind known has k l (inl is) = known_stay links links refl known k l is

@@ -60,6 +60,7 @@ module _ {P X : Type 0} (place : X → P) (room : X → ℕ) (origin : X → P) 
       IsStopped after passes q n nodes chart × IsOverBy over how
   stopped_by (layer.Found steps) not x = (x.0, tt)
   stopped_by layer.Full not x = (x.0, tt)
+  stopped_by layer.Wanting not x = (x, tt)
   stopped_by layer.Over not x = (x.0, x.1)
   stopped_by layer.Done not x = absurd (not refl)
 
@@ -67,6 +68,7 @@ module _ {P X : Type 0} (place : X → P) (room : X → ℕ) (origin : X → P) 
       Advances place room origin after passes wanted q n first most over nodes cache chart at step how → GoesSo after wanted q turns asked nodes n opened how
   through_by (layer.Found steps) turns asked opened not lt none same x = let few = x.1 in (omega (arith, lt), omega (arith, lt, few), x.2)
   through_by layer.Full turns asked opened not lt none same x = (lt, none, x.1 ∙ same)
+  through_by layer.Wanting turns asked opened not lt none same x = (lt, none)
   through_by layer.Over turns asked opened not lt none same x = (lt, none)
   through_by layer.Done turns asked opened not lt none same x = absurd (not refl)
 

@@ -50,6 +50,13 @@ pub record Adds (edge : Edge) (old new : Chart) : Type 0 where
   pub opened : new.opened ≡ old.opened
   pub kept : new.kept ≡ old.kept
 
+-- no edge was added
+pub record AreLeft (old new : Chart) : Type 0 where
+  pub edges : new.edges ≡ old.edges
+  pub marks : new.marks.items ≡ old.marks.items
+  pub opened : new.opened ≡ old.opened
+  pub kept : new.kept ≡ old.kept
+
 -- so many places were opened, and if edges are kept, those of the first steps from the next are there too, as the marks of what was told of all these steps are
 pub record Charting {P : Type 0} (after : P → ℕ → Option P) (passes : P → ℕ → ℕ) (q : P) (nodes : List Node) (chart : Chart) (at steps : ℕ) : Type 0 where
   pub opened : chart.opened ≡ at

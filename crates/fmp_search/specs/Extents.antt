@@ -38,6 +38,7 @@ abbrev pub Went : {P : Type 0} → (P → ℕ → Option P) → P → Answer →
 Went after q (answer.Found steps) e = e ≡ None
 Went after q answer.Never e = WentThrough after q e
 Went after q (answer.NotWithin n) e = WentAlong after q n e
+Went after q (answer.Wanting n) e = WentAlong after q n e
 Went after q (answer.Ended n) e = WentAlong after q n e
 
 -- the places are those of all runs, where the answer says something of all, or of all of so many steps

@@ -33,9 +33,9 @@ module _ {P X : Type 0} (place : X → P) (room : X → ℕ) (origin : X → P) 
     pub before : AreBefore nodes at step
     pub all : IsCache place room origin after q nodes cache
 
-  -- the number that a place has, to which a step leads: it is one of the places that were found, or was added to them. There is none where there is no room for it
+  -- the number that a place has, to which a step leads: it is one of the places that were found, or was added to them. There is none where there is no room or no memory for it
   abbrev pub Numbers : ℕ → List Node → List (Cached X) → ℕ → ℕ → P → Option ℕ → List Node → Type 0
-  Numbers most nodes cache at step r None more = (more ≡ nodes) × (length nodes ≡ most)
+  Numbers most nodes cache at step r None more = more ≡ nodes
   Numbers most nodes cache at step r (Some number) more = IsFront more cache at (step + 1) × Extends after q nodes more × IsAt after q more number r
 
 module _ {P X : Type 0} (place : X → P) (room : X → ℕ) (origin : X → P) (after : P → ℕ → Option P) (passes : P → ℕ → ℕ) (wanted : P → Bool) (q : P) (n first : ℕ) where
@@ -48,5 +48,6 @@ module _ {P X : Type 0} (place : X → P) (room : X → ℕ) (origin : X → P) 
   abbrev pub Advances : ℕ → Bool → List Node → List (Cached X) → Chart → ℕ → ℕ → Layer → Type 0
   Advances most over nodes cache chart at step (layer.Found steps) = IsStopped after passes q n nodes chart × (length steps.items ≤ n + 1) × IsShortest after wanted q steps.items
   Advances most over nodes cache chart at step layer.Full = IsStopped after passes q n nodes chart × (length nodes ≡ most)
+  Advances most over nodes cache chart at step layer.Wanting = IsStopped after passes q n nodes chart
   Advances most over nodes cache chart at step layer.Over = IsStopped after passes q n nodes chart × (over ≡ true)
   Advances most over nodes cache chart at step layer.Done = IsOpen nodes cache chart at step

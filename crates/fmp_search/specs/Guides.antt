@@ -66,4 +66,5 @@ SaysAlong after wanted q cs most room (answer.Found steps) = (length steps.items
 SaysAlong after wanted q cs most room answer.Never = NoneEverAlong after wanted q cs
 SaysAlong after wanted q cs most room (answer.NotWithin n) =
     (n ≤ most) × NoneWithinAlong after wanted q cs n × (n < most → UsedUp (guided_after after) (guide cs q) n room)
+SaysAlong after wanted q cs most room (answer.Wanting n) = (n < most) × NoneWithinAlong after wanted q cs n
 SaysAlong after wanted q cs most room (answer.Ended n) = (n < most) × NoneWithinAlong after wanted q cs n

@@ -31,6 +31,7 @@ pub record IsThrough {P : Type 0} (after : P → ℕ → Option P) (wanted : P �
 abbrev pub GoesSo : {P : Type 0} → (P → ℕ → Option P) → (P → Bool) → P → ℕ → ℕ → List Node → ℕ → ℕ → Layer → Type 0
 GoesSo after wanted q turns room nodes n opened (layer.Found steps) = (n ≤ turns) × (length steps.items ≤ turns) × IsShortest after wanted q steps.items
 GoesSo after wanted q turns room nodes n opened layer.Full = (n < turns) × NoneWithin after wanted q n × (length nodes ≡ room)
+GoesSo after wanted q turns room nodes n opened layer.Wanting = (n < turns) × NoneWithin after wanted q n
 GoesSo after wanted q turns room nodes n opened layer.Over = (n < turns) × NoneWithin after wanted q n
 GoesSo after wanted q turns room nodes n opened layer.Done = IsThrough after wanted q turns nodes n opened
 

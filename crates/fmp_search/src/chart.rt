@@ -1,6 +1,6 @@
 //! The edges between places that were found, and the numbers that were told of them.
-ghost use Rattle.std.specs.Prelude.{IfOk};
-ghost use Rattle.fmp_search.specs.Charts.{Adds, IsBlank};
+ghost use Rattle.std.specs.Prelude.{IfOk, OnErr};
+ghost use Rattle.fmp_search.specs.Charts.{Adds, AreLeft, IsBlank};
 ghost use Rattle.fmp_search.specs.Meeting.{Notes};
 
 use crate::edges::{Edge, Edges};
@@ -39,14 +39,15 @@ impl Chart {
         })
     }
 
-    /// Marks what is told of an edge, and adds the edge after the others, if they are kept. The error is want of memory.
+    /// Marks what is told of an edge, and adds the edge after the others, if they are kept. The error is want of memory, and leaves all as it was.
     pub(crate) fn add(&mut self, alloc: Global, edge: Edge) -> Result<(), AllocError>
-        ensures { IfOk result (λ done. Adds edge self.old self.new) }
+        ensures adds { IfOk result (λ done. Adds edge self.old self.new) }
+        ensures left { OnErr result (AreLeft self.old self.new) }
     {
-        mark(&mut self.marks, edge.passes);
         if self.kept {
             self.edges.push(alloc, edge)?;
         }
+        mark(&mut self.marks, edge.passes);
         Ok(())
     }
 }

@@ -1,5 +1,5 @@
 //! The steps between places that were found, in 12 bytes each.
-ghost use Rattle.std.specs.Prelude.{◌≡◌, ◌<◌, ◌++◌, ◌∷◌, [], length, slice_get, Some, OnOk};
+ghost use Rattle.std.specs.Prelude.{◌≡◌, ◌<◌, ◌++◌, ◌∷◌, [], length, slice_get, Some, OnOk, OnErr};
 
 use crate::kinds::{Kind, Kinds};
 use std::alloc::{AllocError, Global};
@@ -74,9 +74,10 @@ impl Edges {
         }
     }
 
-    /// Adds an edge after the others. The error is want of memory.
+    /// Adds an edge after the others. The error is want of memory, and leaves them as they were.
     pub(crate) fn push(&mut self, alloc: Global, edge: Edge) -> Result<(), AllocError>
-        ensures { OnOk result (self.new ≡ self.old ++ edge ∷ []) }
+        ensures added { OnOk result (self.new ≡ self.old ++ edge ∷ []) }
+        ensures left { OnErr result (self.new ≡ self.old) }
     {
         let kind = self.kinds.number(
             alloc,

@@ -19,6 +19,8 @@ pub enum Answer {
     Never,
     /// No run of at most so many steps does.
     NotWithin(u32),
+    /// Likewise, where there was no memory for more places.
+    Wanting(u32),
     /// Likewise, where the search was ended before more is known.
     Ended(u32),
 }
@@ -28,8 +30,8 @@ pub enum Answer {
 /// one looks at what was found before, and one stands where all runs begin. Others of its kind are made, which stand at the places that were
 /// opened last.
 ///
-/// Where the room does not do, `NotWithin` says for how many steps it did, and then all of it was used. `Ended` is the answer only where `progress`
-/// ends the search. Beside that it gives how far the search went, unless a run was found. The error is want of memory.
+/// Where the room does not do, `NotWithin` says for how many steps it did, and then all of it was used. `Wanting` says so where the memory for the places does not do, and
+/// `Ended` only where `progress` ends the search. Beside that it gives how far the search went, unless a run was found. The error is want of memory for anything else.
 pub fn explore<W: Space + Drop, P: Progress>(
     alloc: Global,
     walker: &mut W,
@@ -59,6 +61,10 @@ pub fn explore<W: Space + Drop, P: Progress>(
         Layer::Full => {
             let extent = extent_of(alloc, &nodes)?;
             Ok((Answer::NotWithin(depth), Some(extent)))
+        }
+        Layer::Wanting => {
+            let extent = extent_of(alloc, &nodes)?;
+            Ok((Answer::Wanting(depth), Some(extent)))
         }
         Layer::Over => {
             let extent = extent_of(alloc, &nodes)?;

@@ -22,6 +22,8 @@ pub(crate) enum Layer {
     Found(Vec<u8>),
     /// There is no room for another place.
     Full,
+    /// There is no memory for another place, or for the edge to one.
+    Wanting,
     /// The search was ended before.
     Over,
     Done,
@@ -36,7 +38,7 @@ pub(crate) struct Front {
 }
 
 /// The number of the place where a walker stands, to which a step leads from the place of a number. It is added where it is new. None where there is
-/// no room for it. The error is want of memory.
+/// no room or no memory for it. The error is want of memory for the way there.
 fn number_of<W: Space + Drop>(
     alloc: Global,
     walker: &W,
@@ -63,12 +65,15 @@ fn number_of<W: Space + Drop>(
     if store.is_full() {
         return Ok(None);
     }
-    store.push(Node {
+    let node = Node {
         hash,
         parent: at as u32,
         step,
-    })?;
-    Ok(Some(store.nodes.len() as u32))
+    };
+    match store.push(node) {
+        Ok(()) => Ok(Some(store.nodes.len() as u32)),
+        Err(AllocError) => Ok(None),
+    }
 }
 
 /// Whether a number has the bit of a step.
@@ -108,7 +113,7 @@ fn step_from<W: Space + Drop>(
 }
 
 /// Tries a step from the place where `base` stands, adds the place it leads to where that is new and not looked for, and the edge to there. It is done,
-/// too, where the step cannot be made. The error is want of memory.
+/// too, where the step cannot be made. The error is want of memory for what the step needs by itself.
 fn try_step<W: Space + Drop>(
     alloc: Global,
     walker: &mut W,
@@ -142,22 +147,25 @@ fn try_step<W: Space + Drop>(
         return Ok(Layer::Found(steps_over(alloc, walker, &store.nodes, at, step)?));
     }
     let Some(to) = number_of(alloc, walker, other, cache, store, front, at, step)? else {
-        return Ok(Layer::Full);
+        if store.is_full() {
+            return Ok(Layer::Full);
+        }
+        return Ok(Layer::Wanting);
     };
-    chart.add(
-        alloc,
-        Edge {
-            passes,
-            from: at as u32,
-            to,
-            step,
-        },
-    )?;
-    Ok(Layer::Done)
+    let edge = Edge {
+        passes,
+        from: at as u32,
+        to,
+        step,
+    };
+    match chart.add(alloc, edge) {
+        Ok(()) => Ok(Layer::Done),
+        Err(AllocError) => Ok(Layer::Wanting),
+    }
 }
 
-/// Makes `base` stand at the place of a number and tries all steps from there, until one finds what is looked for or there is no room for
-/// another place. The error is want of memory.
+/// Makes `base` stand at the place of a number and tries all steps from there, until one finds what is looked for or there is no room or no
+/// memory for another place. The error is want of memory for anything else.
 fn open_place<W: Space + Drop>(
     alloc: Global,
     walker: &mut W,

@@ -48,6 +48,7 @@ pub fn meet<W: Space + Drop, P: Progress>(
             whole: chart.opened == nodes.len() + 1,
             marks: chart.marks,
         })),
+        Layer::Wanting => Err(AllocError),
         _ => Ok(None),
     }
 }

@@ -1,5 +1,5 @@
 //! All places that were found, and a table by which one is found again.
-ghost use Rattle.std.specs.Prelude.{◌≡◌, ◌≤◌, ◌<◌, ◌+◌, ◌^◌, ◌++◌, ◌∷◌, ◌↔◌, [], true, length, IfOk, IfSome};
+ghost use Rattle.std.specs.Prelude.{◌≡◌, ◌≤◌, ◌<◌, ◌+◌, ◌^◌, ◌++◌, ◌∷◌, ◌↔◌, [], true, length, IfOk, IfSome, OnErr};
 ghost use Rattle.fmp_search.specs.Cache.{AreNear};
 ghost use Rattle.fmp_search.specs.Trees.{IsAt};
 
@@ -73,10 +73,12 @@ impl Store {
         self.nodes.len() >= self.most as usize
     }
 
-    /// Adds a place after the others, which the table then has too. The error is want of memory.
+    /// Adds a place after the others, which the table then has too. The error is want of memory, and leaves the places as they were.
     pub(crate) fn push(&mut self, node: Node) -> Result<(), AllocError>
         requires { length self.old.nodes.items < self.old.most }
-        ensures { IfOk result (λ done. (self.new.nodes.items ≡ self.old.nodes.items ++ node ∷ []) × (self.new.most ≡ self.old.most)) }
+        ensures added { IfOk result (λ done. self.new.nodes.items ≡ self.old.nodes.items ++ node ∷ []) }
+        ensures left { OnErr result (self.new.nodes.items ≡ self.old.nodes.items) }
+        ensures same { self.new.most ≡ self.old.most }
     {
         make_room(&mut self.table, self.first, &self.nodes, self.most)?;
         let place = self.nodes.len() as u32 + 1;

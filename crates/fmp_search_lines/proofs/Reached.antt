@@ -51,6 +51,7 @@ module _ {S : Type 0} (plays : S → ℕ → Option S) (lasts : List ℕ) (musts
       right_goal (lines_of (last_at lasts) (length lasts) steps.items) (say.found steps.items h.1.place h.1.leads h.1.is_wanted)
   says_goal turns room answer.Never none = λ few begins. say.never few none (beginning_end begins)
   says_goal turns room (answer.NotWithin n) h = tt
+  says_goal turns room (answer.Wanting n) h = tt
   says_goal turns room (answer.Ended n) h = tt
 
 -- what a search of one who begins there says

@@ -17,6 +17,7 @@ abbrev pub SaysGoal : {S : Type 0} → (S → ℕ → Option S) → (ℕ → ℕ
 SaysGoal plays last count must s goal (answer.Found steps) = IsRight plays last count must goal s (lines_of last count steps.items)
 SaysGoal plays last count must s goal answer.Never = FewOpen last count → IsBeginning plays last count must goal s → ⊥
 SaysGoal plays last count must s goal (answer.NotWithin n) = Unit {0}
+SaysGoal plays last count must s goal (answer.Wanting n) = Unit {0}
 SaysGoal plays last count must s goal (answer.Ended n) = Unit {0}
 
 -- a goal that was reached is the low one of two then, and one that is never reached the high one
@@ -24,4 +25,5 @@ abbrev pub Narrows : Answer → ℕ → Bracket → Bracket → Type 0
 Narrows (answer.Found steps) goal old new = (new.low ≡ goal) × (new.high ≡ old.high)
 Narrows answer.Never goal old new = (new.low ≡ old.low) × (new.high ≡ goal)
 Narrows (answer.NotWithin n) goal old new = ⊥
+Narrows (answer.Wanting n) goal old new = ⊥
 Narrows (answer.Ended n) goal old new = ⊥

@@ -67,7 +67,7 @@ impl Bracket {
                 self.high = goal;
                 self.guess = goal - self.step();
             }
-            Answer::NotWithin(_) | Answer::Ended(_) => return false,
+            Answer::NotWithin(_) | Answer::Wanting(_) | Answer::Ended(_) => return false,
         }
         self.stride = self.stride.saturating_mul(2);
         true

@@ -22,7 +22,7 @@ pub enum Orders {
     Without(u32, Vec<u32>),
     /// At this line more than 16 lines before it may still come after it, and it is the first such line. Counted from 0.
     Crowded(u32),
-    /// Not known: there are more places than there is room for. No clause says when this is the answer.
+    /// Not known: there are more places than there is room or memory for. No clause says when this is the answer.
     NotKnown,
 }
 
@@ -95,6 +95,6 @@ pub fn search_orders<P: Player + Drop>(
     match answer {
         Answer::Found(steps) => Ok(Orders::Right(order_of(alloc, lasts, &steps)?)),
         Answer::Never => first_without(alloc, player, lasts, musts, reached, most),
-        Answer::NotWithin(_) | Answer::Ended(_) => Ok(Orders::NotKnown),
+        Answer::NotWithin(_) | Answer::Wanting(_) | Answer::Ended(_) => Ok(Orders::NotKnown),
     }
 }

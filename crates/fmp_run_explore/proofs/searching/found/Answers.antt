@@ -47,6 +47,13 @@ returns-in_ok-not_within-in-NotWithin-clause-finds g c =
     let says = subst (λ a. Says after is_seen begin c.args.bounds.turns.count (c.args.bounds.places.count - 1) a) c.in-NotWithin.is c.in_ok-answer.ensures.says in
     (says.0, law.within c.in-NotWithin.turns says.1, c.in_ok-not_within-in-NotWithin.ensures, says.2)
 
+pub returns-in_ok-not_within-in-Wanting-clause-finds : goal.returns-in_ok-not_within-in-Wanting-clause-finds
+returns-in_ok-not_within-in-Wanting-clause-finds g c =
+    let begin = origin c.args.orders.now.config.now c.args.orders.now.scripts.now c.args.orders.now.rules c.args.question.now in
+    let law = c.places_answer.ensures c.args.orders.now.config.now c.args.orders.now.scripts.now c.args.orders.now.rules c.args.question.now c.names-names.ensures.valid in
+    let says = subst (λ a. Says after is_seen begin c.args.bounds.turns.count (c.args.bounds.places.count - 1) a) c.in-Wanting.is c.in_ok-answer.ensures.says in
+    (says.0, law.within c.in-Wanting.turns says.1, c.in_ok-not_within-in-Wanting.ensures)
+
 pub returns-in_ok-not_within-in-Ended-clause-finds : goal.returns-in_ok-not_within-in-Ended-clause-finds
 returns-in_ok-not_within-in-Ended-clause-finds g c =
     let begin = origin c.args.orders.now.config.now c.args.orders.now.scripts.now c.args.orders.now.rules c.args.question.now in
@@ -68,6 +75,11 @@ pub returns-in_ok-not_within-in-NotWithin-clause-went : goal.returns-in_ok-not_w
 returns-in_ok-not_within-in-NotWithin-clause-went g c =
     let begin = origin c.args.orders.now.config.now c.args.orders.now.scripts.now c.args.orders.now.rules c.args.question.now in
     subst (λ a. Went after begin a c.in_ok-answer.extent) c.in-NotWithin.is c.in_ok-answer.ensures.went
+
+pub returns-in_ok-not_within-in-Wanting-clause-went : goal.returns-in_ok-not_within-in-Wanting-clause-went
+returns-in_ok-not_within-in-Wanting-clause-went g c =
+    let begin = origin c.args.orders.now.config.now c.args.orders.now.scripts.now c.args.orders.now.rules c.args.question.now in
+    subst (λ a. Went after begin a c.in_ok-answer.extent) c.in-Wanting.is c.in_ok-answer.ensures.went
 
 pub returns-in_ok-not_within-in-Ended-clause-went : goal.returns-in_ok-not_within-in-Ended-clause-went
 returns-in_ok-not_within-in-Ended-clause-went g c =

@@ -39,6 +39,17 @@ returns-in_ok-not_within-in-NotWithin-clause-finds g c = λ begun order chosen.
       λ less. subst (λ (cs : List Choice). UsedUp (guided_after after) (guide cs begin) n (c.args.bounds.places.count - 1)) chosen (says.2 less),
     )
 
+pub returns-in_ok-not_within-in-Wanting-clause-finds : goal.returns-in_ok-not_within-in-Wanting-clause-finds
+returns-in_ok-not_within-in-Wanting-clause-finds g c = λ begun order chosen.
+    let begin = origin c.args.orders.now.config.now c.args.orders.now.scripts.now c.args.orders.now.rules c.args.question.now in
+    let law = c.begun_answer.ensures c.args.orders.now.config.now c.args.orders.now.scripts.now c.args.orders.now.rules c.args.question.now begun c.names-names.ensures.valid order in
+    let says = subst (λ a. SaysAlong after is_seen begin c.args.choices.now c.args.bounds.turns.count (c.args.bounds.places.count - 1) a) c.in-Wanting.is c.in_ok-steps.ensures.says in
+    let n = c.in-Wanting.turns in (
+      says.0,
+      law.within n (subst (λ (cs : List Choice). NoneWithinAlong after is_seen begin cs n) chosen says.1),
+      c.in_ok-not_within-in-Wanting.ensures,
+    )
+
 pub returns-in_ok-not_within-in-Ended-clause-finds : goal.returns-in_ok-not_within-in-Ended-clause-finds
 returns-in_ok-not_within-in-Ended-clause-finds g c = λ begun order chosen.
     let begin = origin c.args.orders.now.config.now c.args.orders.now.scripts.now c.args.orders.now.rules c.args.question.now in

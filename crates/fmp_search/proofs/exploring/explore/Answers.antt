@@ -26,6 +26,13 @@ returns-in-Full-clause-went g c =
     let all = c.in_ok-how.ensures.surveys.surveyed.found in
     (nodes, gone g.W.Space.after q nodes _ _ all.tree all.apart c.deref.ensures.value c.in_ok-extent-in-Full.ensures, all.complete)
 
+pub returns-in-Wanting-clause-went : goal.returns-in-Wanting-clause-went
+returns-in-Wanting-clause-went g c =
+    let nodes = c.in_ok-how.field-0.nodes.items in
+    let q = g.W.Space.origin c.args.walker.now in
+    let all = c.in_ok-how.ensures.surveys.surveyed.found in
+    (nodes, gone g.W.Space.after q nodes _ _ all.tree all.apart c.deref-in-Wanting.ensures.value c.in_ok-extent-in-Wanting.ensures, all.complete)
+
 pub returns-in-Over-clause-went : goal.returns-in-Over-clause-went
 returns-in-Over-clause-went g c =
     let nodes = c.in_ok-how.field-0.nodes.items in

@@ -13,8 +13,8 @@ find-requires-clause-near g c =
     subst (λ x. AreNear W.place W.room W.origin W.after x nodes c.args.cache.now) (sym c.requires.origins)
     (near_of W.place W.room W.origin W.after W.wanted q c.args.front.depth c.args.front.end nodes c.args.cache.now c.args.at c.args.step c.args.front.shallow c.requires.front)
 
-pub overflow_cast-at : goal.overflow_cast-at
-overflow_cast-at g c =
+pub overflow_cast-node : goal.overflow_cast-node
+overflow_cast-node g c =
     let few = c.requires.front.explored.few in
     let small = c.args.store.now.small in
     let place = c.requires.place in
@@ -33,15 +33,12 @@ returns-in-Some g c =
       stays = (refl, c.in_ok-number.ensures.0);
     }
 
-pub returns : goal.returns
-returns g c =
+pub returns-in-Ok-clause-number : goal.returns-in-Ok-clause-number
+returns-in-Ok-clause-number g c =
     let W = g.W.Space in
     let q = W.origin c.args.walker.now in
     let nodes = c.args.store.now.nodes.items in
     let count = c.len.ensures in
     let long = c.push.new.self.nodes.ok.0 in
-    record {
-      number = front_more W.place W.room W.origin W.after W.wanted q c.args.front.depth c.args.front.end nodes c.push.new.self.nodes.items c.args.cache.now c.args.at c.args.step _ _
-          (W.place c.args.walker.now) c.requires.place c.requires.made c.requires.clean c.in_ok-push.ensures.0 (omega (arith, count, long)) c.requires.front;
-      stays = (c.in_ok-push.ensures.1, c.in_ok-number.ensures.0);
-    }
+    front_more W.place W.room W.origin W.after W.wanted q c.args.front.depth c.args.front.end nodes c.push.new.self.nodes.items c.args.cache.now c.args.at c.args.step _ _
+    (W.place c.args.walker.now) c.requires.place c.requires.made c.requires.clean (rw c.in-Ok.is at c.push.ensures.added) (omega (arith, count, long)) c.requires.front

@@ -1,10 +1,9 @@
-use Rattle.std.proofs.Common.{ℕ, ◌≡◌, ◌∙◌, List, Option, Some, length, refl, ap, arith, subst, sym}
+use Rattle.std.proofs.Common.{ℕ, ◌≡◌, ◌∙◌, List, Option, Some, refl, arith, subst, sym}
 use Rattle.fmp_search.specs.declared.nodes.Node.{Node}
 use Rattle.fmp_search.specs.Runs.{Watches}
 use Rattle.fmp_search.specs.Trees.{found_at, IsRunOver, IsTree}
 use Rattle.fmp_search.specs.Fronts.{IsFront, IsStopped, Numbers}
-use Rattle.fmp_search.specs.Growth.{Extends}
-use Rattle.fmp_search.proofs.Fronts.{extends_same, found_there, goes_there, open_more, open_same, stopped_here}
+use Rattle.fmp_search.proofs.Fronts.{extends_same, found_there, goes_there, open_more, open_same, stopped_here, stopped_more}
 use Rattle.fmp_search.proofs.Growth.{none_of}
 use Rattle.fmp_search.proofs.layer.try_step.Goals as goal
 
@@ -74,36 +73,39 @@ number_of-requires g c =
       origins = c.requires.other ∙ sym same;
     }
 
-pub returns-in_default-2 : goal.returns-in_default-2
-returns-in_default-2 g c =
+pub returns-then-is_full-clause-advances : goal.returns-then-is_full-clause-advances
+returns-then-is_full-clause-advances g c =
     let W = g.W.Space in
     let q = W.origin c.args.walker.now in
     let nodes = c.args.store.now.nodes.items in
     let more = c.number_of.new.store.nodes.items in
     let front = c.args.front in
-    let most = c.args.store.now.most in
     let none = none_of c.in_ok-to.field-0 c.in_default-2.not-Some in
-    let number = subst (λ (o : Option ℕ). Numbers W.place W.room W.origin W.after W.wanted (W.origin c.step_from.new.walker) front.depth front.end most nodes c.args.cache.now c.args.at c.args.step
-    (W.place c.step_from.new.walker) o more) none c.in_ok-to.ensures.number in record {
-      advances = (
-        subst (λ (ns : List Node). IsStopped W.after W.passes q front.depth ns c.args.chart.now) (sym number.0)
-            (stopped_here W.place W.room W.origin W.after W.passes W.wanted q front.depth front.end nodes c.args.cache.now c.args.chart.now c.args.at c.args.step c.requires.opening),
-        ap (λ (ns : List Node). length ns) number.0 ∙ number.1,
-      );
-      stays = record {
-        walker_origin = c.step_from.ensures.origin;
-        base_origin = c.requires.base.same;
-        other_origin = c.in_ok-to.ensures.stays.1 ∙ c.requires.other;
-        same_room = c.in_ok-to.ensures.stays.0;
-        same = refl;
-        marks = refl;
-      };
-      extends = subst (λ (ns : List Node). Extends W.after q nodes ns) (sym number.0) (extends_same W.after q nodes);
-      closed = c.in_ok-passes.ensures.watched.closed;
-    }
+    let same = subst (λ (o : Option ℕ). Numbers W.place W.room W.origin W.after W.wanted (W.origin c.step_from.new.walker) front.depth front.end c.args.store.now.most nodes c.args.cache.now
+    c.args.at c.args.step (W.place c.step_from.new.walker) o more) none c.in_ok-to.ensures.number in
+    let all = c.is_full.ensures.0 c.if-is_full.true in
+    let few = c.number_of.new.store.few in
+    let room = c.in_ok-to.ensures.stays.0 in (
+      subst (λ (ns : List Node). IsStopped W.after W.passes q front.depth ns c.args.chart.now) (sym same)
+          (stopped_here W.place W.room W.origin W.after W.passes W.wanted q front.depth front.end nodes c.args.cache.now c.args.chart.now c.args.at c.args.step c.requires.opening),
+      omega (arith, all, few, room),
+    )
 
-pub returns : goal.returns
-returns g c =
+pub returns-in_default-2-clause-advances : goal.returns-in_default-2-clause-advances
+returns-in_default-2-clause-advances g c =
+    let W = g.W.Space in
+    let q = W.origin c.args.walker.now in
+    let nodes = c.args.store.now.nodes.items in
+    let more = c.number_of.new.store.nodes.items in
+    let front = c.args.front in
+    let none = none_of c.in_ok-to.field-0 c.in_default-2.not-Some in
+    let same = subst (λ (o : Option ℕ). Numbers W.place W.room W.origin W.after W.wanted (W.origin c.step_from.new.walker) front.depth front.end c.args.store.now.most nodes c.args.cache.now
+    c.args.at c.args.step (W.place c.step_from.new.walker) o more) none c.in_ok-to.ensures.number in
+    subst (λ (ns : List Node). IsStopped W.after W.passes q front.depth ns c.args.chart.now) (sym same)
+    (stopped_here W.place W.room W.origin W.after W.passes W.wanted q front.depth front.end nodes c.args.cache.now c.args.chart.now c.args.at c.args.step c.requires.opening)
+
+pub returns-in-Ok-clause-advances : goal.returns-in-Ok-clause-advances
+returns-in-Ok-clause-advances g c =
     let W = g.W.Space in
     let q = W.origin c.args.walker.now in
     let nodes = c.args.store.now.nodes.items in
@@ -116,17 +118,24 @@ returns g c =
     let there = subst (λ (o : Option ℕ). Numbers W.place W.room W.origin W.after W.wanted (W.origin c.step_from.new.walker) front.depth front.end c.args.store.now.most nodes c.args.cache.now c.args.at
     c.args.step r o more) c.in-Some-2.is c.in_ok-to.ensures.number in
     let number = subst (λ x. Numbers W.place W.room W.origin W.after W.wanted x front.depth front.end c.args.store.now.most nodes c.args.cache.now c.args.at c.args.step r (Some to) more)
-    c.step_from.ensures.origin there in record {
-      advances = open_more W.place W.room W.origin W.after W.passes W.wanted q front.depth front.end nodes c.args.cache.now c.args.chart.now c.args.at c.args.step c.requires.opening c.requires.place p r
-          c.requires.base.stands.there c.in-Some.passes watched more c.add.new.self to number.0 number.1 number.2 c.in_ok-add.ensures;
-      stays = record {
-        walker_origin = c.step_from.ensures.origin;
-        base_origin = c.requires.base.same;
-        other_origin = c.in_ok-to.ensures.stays.1 ∙ c.requires.other;
-        same_room = c.in_ok-to.ensures.stays.0;
-        same = c.in_ok-add.ensures.kept;
-        marks = c.in_ok-add.ensures.noted.long;
-      };
-      extends = number.1;
-      closed = c.in_ok-passes.ensures.watched.closed;
-    }
+    c.step_from.ensures.origin there in
+    open_more W.place W.room W.origin W.after W.passes W.wanted q front.depth front.end nodes c.args.cache.now c.args.chart.now c.args.at c.args.step c.requires.opening c.requires.place p r
+    c.requires.base.stands.there c.in-Some.passes watched more c.add.new.self to number.0 number.1 number.2 (rw c.in-Ok.is at c.add.ensures.adds)
+
+pub returns-in-Err-clause-advances : goal.returns-in-Err-clause-advances
+returns-in-Err-clause-advances g c =
+    let W = g.W.Space in
+    let q = W.origin c.args.walker.now in
+    let nodes = c.args.store.now.nodes.items in
+    let more = c.number_of.new.store.nodes.items in
+    let front = c.args.front in
+    let p = W.place c.args.base.now in
+    let r = W.place c.step_from.new.walker in
+    let to = c.in-Some-2.to in
+    let watched = subst (λ (o : Option ℕ). Watches (W.after p c.args.step) (W.passes p c.args.step) o r) c.in-Some.is c.in_ok-passes.ensures.watched.goes in
+    let there = subst (λ (o : Option ℕ). Numbers W.place W.room W.origin W.after W.wanted (W.origin c.step_from.new.walker) front.depth front.end c.args.store.now.most nodes c.args.cache.now c.args.at
+    c.args.step r o more) c.in-Some-2.is c.in_ok-to.ensures.number in
+    let number = subst (λ x. Numbers W.place W.room W.origin W.after W.wanted x front.depth front.end c.args.store.now.most nodes c.args.cache.now c.args.at c.args.step r (Some to) more)
+    c.step_from.ensures.origin there in
+    stopped_more W.place W.room W.origin W.after W.passes W.wanted q front.depth front.end nodes c.args.cache.now c.args.chart.now c.args.at c.args.step c.requires.opening c.requires.place p r
+    c.requires.base.stands.there c.in-Some.passes watched more c.add.new.self number.0 number.1 (rw c.in-Err.is at c.add.ensures.left)

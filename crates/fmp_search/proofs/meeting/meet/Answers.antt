@@ -24,12 +24,13 @@ meets after passes wanted q nodes n opened turns count m through noted long whol
 
 -- a search that did not go through all places was ended by what it met, by the room or by who may end it
 left_open : {P : Type 0} (after : P → ℕ → Option P) (wanted : P → Bool) (q : P) (turns room : ℕ) (nodes : List Node) (n opened : ℕ) (over : Bool) (how : Layer) →
-    (how ≡ layer.Done → ⊥) → GoesSo after wanted q turns room nodes n opened how → IsOverBy over how → AreFound after q n nodes → IsLeftOpen after wanted q turns room over
-left_open after wanted q turns room nodes n opened over (layer.Found steps) not goes by all = inl (steps.items, goes.2)
-left_open after wanted q turns room nodes n opened over layer.Full not goes by all =
+    (how ≡ layer.Done → ⊥) → (how ≡ layer.Wanting → ⊥) → GoesSo after wanted q turns room nodes n opened how → IsOverBy over how → AreFound after q n nodes → IsLeftOpen after wanted q turns room over
+left_open after wanted q turns room nodes n opened over (layer.Found steps) not some goes by all = inl (steps.items, goes.2)
+left_open after wanted q turns room nodes n opened over layer.Full not some goes by all =
     inr (inl (n, goes.0, record { nodes = nodes; tree = all.tree; all = goes.2; near = all.near; apart = all.apart }))
-left_open after wanted q turns room nodes n opened over layer.Over not goes by all = inr (inr by)
-left_open after wanted q turns room nodes n opened over layer.Done not goes by all = absurd (not refl)
+left_open after wanted q turns room nodes n opened over layer.Wanting not some goes by all = absurd (some refl)
+left_open after wanted q turns room nodes n opened over layer.Over not some goes by all = inr (inr by)
+left_open after wanted q turns room nodes n opened over layer.Done not some goes by all = absurd (not refl)
 
 pub returns-in-Done-clause-meets : goal.returns-in-Done-clause-meets
 returns-in-Done-clause-meets g c =
@@ -51,5 +52,5 @@ returns g c =
     record {
       meets = tt;
       none = λ same. left_open g.W.Space.after g.W.Space.wanted (g.W.Space.origin c.args.walker.now) c.args.turns c.args.most found.nodes.items found.depth
-          found.chart.opened _ found.how c.in_default.not-Done is.surveys.through is.surveys.ended is.surveys.surveyed.found;
+          found.chart.opened _ found.how c.in_default.not-Done c.in_default.not-Wanting is.surveys.through is.surveys.ended is.surveys.surveyed.found;
     }

@@ -24,6 +24,7 @@ says_more after passes q tests n m (stay.NotKnown k) le h = omega (arith, le, h)
 within_turns : {P : Type 0} (after : P → ℕ → Option P) (wanted : P → Bool) (q : P) (turns room n opened : ℕ) (nodes : List Node) (how : Layer) → GoesSo after wanted q turns room nodes n opened how → n ≤ turns
 within_turns after wanted q turns room n opened nodes (layer.Found steps) so = so.0
 within_turns after wanted q turns room n opened nodes layer.Full so = let lt = so.0 in omega (arith, lt)
+within_turns after wanted q turns room n opened nodes layer.Wanting so = let lt = so.0 in omega (arith, lt)
 within_turns after wanted q turns room n opened nodes layer.Over so = let lt = so.0 in omega (arith, lt)
 within_turns after wanted q turns room n opened nodes layer.Done so = so.within
 
