@@ -1,27 +1,29 @@
 //! The text of events.
-ghost use Rattle.std.specs.Prelude.{◌≡◌, ◌≤◌, ◌++◌, length, All, IfOk, OnOk};
+ghost use Rattle.std.specs.Prelude.{◌≤◌, ◌≡◌, length, All, IfOk};
 ghost use Rattle.fmp_calls.specs.Arguments.{EventInBits};
 ghost use Rattle.fmp_codes.specs.Records.{AreOn};
+ghost use Rattle.fmp_out.specs.Putting.{Adds};
 ghost use Rattle.fmp_text.specs.Limits.{most_events};
 ghost use Rattle.fmp_run_shrink.specs.Written.Telling as spec;
 ghost use Rattle.fmp_run_shrink.specs.Written.Telling.{IsReadBack};
 
 use fmp_codes::Event;
 use fmp_names::Names;
-use fmp_trace::{put_event, put_number};
+use fmp_out::Text;
+use fmp_trace::put_event;
 use std::alloc::{AllocError, Global};
 
 /// Adds the line of an event.
 #[tactic(auto, unfolding(crate::specs::Written::Telling::event_line))]
-fn put_event_line(out: &mut Vec<u8>, names: &Names, event: Event) -> Result<(), AllocError>
-    ensures { OnOk result (out.new.items ≡ out.old.items ++ spec.event_line names.now event) }
+fn put_event_line(out: &mut Text, names: &Names, event: Event)
+    ensures { Adds (spec.event_line names.now event) out.old out.new }
 {
-    out.push(b'P')?;
-    put_number(out, u64::from(event.processor().number))?;
-    out.push(b' ')?;
-    put_event(out, names, event)?;
-    out.push(b'\n')?;
-    Ok(())
+    out.put_byte(b'P');
+    out.put_number(u64::from(event.processor().number));
+    out.put_byte(b' ');
+    let added = put_event(out.as_mut_vec(), names, event);
+    out.note(added);
+    out.put_byte(b'\n');
 }
 
 /// A line for each of these events. Where they are such as a list of events may have, which are on the processors of the names, within
@@ -32,9 +34,9 @@ pub fn events_text(alloc: Global, names: &Names, events: &[Event]) -> Result<Vec
         → IfOk result (λ text. IsReadBack names.now text.items events.now) }
 {
     names.validity();
-    let mut out = Vec::new(alloc);
+    let mut out = Text::new(alloc);
     for event in events {
-        put_event_line(&mut out, names, *event)?;
+        put_event_line(&mut out, names, *event);
     }
-    Ok(out)
+    out.finish()
 }
