@@ -9,7 +9,7 @@ _fmpsim() {
         *,wave,-*) words='--gtkw --context --help --diagnostics=gcc' ;;
         *,view,-*) words='--differences --partial --context --help --diagnostics=gcc' ;;
         *,smp,-*) words='--ticks --turns --seed --seeds --find --late --stalls --seconds --strict --progress --context --color --help --diagnostics=gcc' ;;
-        *,explore,-*) words='--ticks --turns --find --most --prompt --drift --pace --spurious --places --from --seconds --questions --tap --junit --traces --progress --context --help --diagnostics=gcc' ;;
+        *,explore,-*) words='--ticks --turns --find --most --prompt --drift --pace --spurious --places --memory --from --seconds --questions --tap --junit --traces --progress --context --help --diagnostics=gcc' ;;
         *,shrink,-*) words='--find --runs --context --help --diagnostics=gcc' ;;
         *,list,-*) words='--context --help --diagnostics=gcc' ;;
         2,help,*) words='calls check wave view smp explore shrink list help' ;;

@@ -1,5 +1,5 @@
 -- The command line of a search through all orders, and what it gives.
-use Rattle.std.specs.Prelude.{◌≡◌, ◌≤◌, ℕ, Bool, ◌&&◌, ◌||◌, is_some, List, [], ◌∷◌, Option, Some, None, codes, option_map, if◌then◌else◌}
+use Rattle.std.specs.Prelude.{◌≡◌, ◌⊎◌, ◌≤◌, ◌*◌, ◌^◌, ℕ, Bool, ◌&&◌, ◌||◌, is_some, List, [], ◌∷◌, ◌++◌, Option, Some, None, codes, option_map, if◌then◌else◌}
 use Rattle.std.specs.Option.{SomeIff}
 use Rattle.std.specs.Str.Parse.{IsNumeral, without_leading_plus}
 use Rattle.clap.specs.Words.{App, Row, Text, first_of, matches_of, one_of}
@@ -7,6 +7,8 @@ use Rattle.fmp_cli.specs.Found.{IsFlag, text_of}
 use Rattle.fmp_cli.specs.Numbers.{number_of}
 use Rattle.fmp_cli.specs.Parts.{flag_rule, line_of, path_rule, value_rule}
 use Rattle.fmp_search_question.specs.Lasting.{is_lasting}
+use Rattle.fmp_cli.specs.declared.rooms.Memory.{Memory}
+use Rattle.fmp_cli.specs.declared.rooms.Memory.TheVariants as memory
 use Rattle.fmp_cli.specs.declared.explore.ExploreRequest.{ExploreRequest}
 
 -- the whole command line, as a parse reads it
@@ -14,7 +16,7 @@ abbrev pub explore_line : App
 explore_line = line_of (codes "explore") (
     path_rule (codes "CFG") ∷ path_rule (codes "SCRIPTS") ∷ value_rule (codes "ticks") ∷ value_rule (codes "turns") ∷ value_rule (codes "find")
     ∷ flag_rule (codes "most") ∷ flag_rule (codes "prompt") ∷ value_rule (codes "drift") ∷ value_rule (codes "pace") ∷ flag_rule (codes "spurious")
-    ∷ value_rule (codes "places") ∷ value_rule (codes "from") ∷ value_rule (codes "seconds")
+    ∷ value_rule (codes "places") ∷ value_rule (codes "memory") ∷ value_rule (codes "from") ∷ value_rule (codes "seconds")
     ∷ value_rule (codes "questions") ∷ flag_rule (codes "tap") ∷ value_rule (codes "junit") ∷ value_rule (codes "traces")
     ∷ flag_rule (codes "progress") ∷ flag_rule (codes "context") ∷ [])
 
@@ -47,10 +49,35 @@ abbrev pub IsBound : Option Text → Option ℕ → Type 0
 IsBound None n = n ≡ None
 IsBound (Some t) n = (k : ℕ) × (n ≡ Some k) × IsNumberWithin 1 1000000 t (Some k)
 
--- 1,000,000 without a text, or its number
+-- 10,000,000 without a text, or its number
 abbrev pub IsPlaces : Option Text → ℕ → Type 0
 IsPlaces None n = n ≡ 10000000
 IsPlaces (Some t) n = IsNumberWithin 1 100000000 t (Some n)
+
+-- a text ends in the letter of a unit, which has so many bytes
+abbrev pub EndsInUnit : Text → Text → ℕ → Type 0
+EndsInUnit t digits unit =
+    ((t ≡ digits ++ codes "K") × (unit ≡ 2 ^ 10)) ⊎ (((t ≡ digits ++ codes "M") × (unit ≡ 2 ^ 20)) ⊎ ((t ≡ digits ++ codes "G") × (unit ≡ 2 ^ 30)))
+
+-- it is a number of units, and writes so many bytes, which are within these limits
+pub record IsSize (t : Text) (n : ℕ) : Type 0 where
+  pub digits : Text
+  pub unit : ℕ
+  pub written : EndsInUnit t digits unit
+  pub numeral : IsNumeral 10 (without_leading_plus digits)
+  pub bytes : n ≡ number_of digits * unit
+  pub least : 2 ^ 20 ≤ n
+  pub most : n ≤ 2 ^ 40
+
+abbrev pub IsGiven : Text → Memory → Type 0
+IsGiven t (memory.Given n) = IsSize t n
+IsGiven t (memory.Free n) = ⊥
+IsGiven t memory.Unknown = ⊥
+
+-- nothing is said of memory without a text, or what it writes
+abbrev pub IsMemory : Option Text → Memory → Type 0
+IsMemory None m = m ≡ memory.Unknown
+IsMemory (Some t) m = IsGiven t m
 
 -- `deadlock` without a text, or the text
 abbrev pub IsQuestion : Option Text → Text → Type 0
@@ -73,6 +100,8 @@ pub record Asks (rows : List Row) (r : ExploreRequest) : Type 0 where
   pub turns : IsTurns (first_of (codes "turns") rows) r.bounds.turns.count
   pub says_turns : r.says_turns ≡ is_some (first_of (codes "turns") rows)
   pub places : IsPlaces (first_of (codes "places") rows) r.bounds.places.count
+  pub says_places : r.says_places ≡ is_some (first_of (codes "places") rows)
+  pub memory : IsMemory (first_of (codes "memory") rows) r.memory
   pub from : option_map (λ t. t.now) r.from ≡ first_of (codes "from") rows
   pub seconds : IsBound (first_of (codes "seconds") rows) r.seconds
   pub questions : option_map (λ t. t.now) r.questions ≡ first_of (codes "questions") rows

@@ -9,10 +9,11 @@ ghost use Rattle.fmp_cli.specs.Found.{rows_in, text_of};
 ghost use Rattle.fmp_cli.specs.Explore.{Asks, IsPlaces, IsTurns, explore_line, found_in, has_conflict, has_conflict_of_one};
 
 use crate::found::{flag_in, option_in, text_in};
-use crate::numbers::{bound_in, places_in, question_in, tick_limit_in, turns_in};
+use crate::numbers::{bound_in, memory_in, places_in, question_in, tick_limit_in, turns_in};
 use crate::parts::{
     CONFIG_PART, CONTEXT_PART, Form, PROGRESS_PART, Part, SCRIPTS_PART, Title, line,
 };
+use crate::rooms::Memory;
 use clap::error::ErrorKind;
 use clap::{ArgMatches, Command, Error};
 use fmp_ranges::{Bounds, Places, Turns};
@@ -86,10 +87,11 @@ Exit status:
   3  a file could not be read, or the output not be written
   4  want of memory
   5  an order shows it, and its trace was written; or one of --questions is not ok
-  6  not within so many lines: --turns, --places or --seconds did not do; or one is not known";
+  6  not within so many lines: --turns, --places, --memory or --seconds did not do; or one is
+     not known";
 
 const WRONG_NUMBER: &str =
-    "--ticks is `any` or a number from 0 to 1000000, --turns, --drift, --pace and --seconds are numbers from 1 to 1000000, and --places is one from 1 to 100000000";
+    "--ticks is `any` or a number from 0 to 1000000, --turns, --drift, --pace and --seconds are numbers from 1 to 1000000, --places is one from 1 to 100000000, and --memory is a size from 1M to 1024G, as 512M";
 
 const ONE_QUESTION: &str =
     "--questions has questions of its own, each of them about all orders: neither --find nor --from goes with it";
@@ -159,7 +161,12 @@ const PARTS: &[Part<'static>] = &[
     Part {
         id: "places",
         form: Form::Value("N"),
-        about: "For how many places there is room, 1 to 100000000, or else for 10000000",
+        about: "For how many places there is room, 1 to 100000000, or else in what memory holds",
+    },
+    Part {
+        id: "memory",
+        form: Form::Value("SIZE"),
+        about: "How much memory places may take, 1M to 1024G, or else half of what is free",
     },
     Part {
         id: "from",
@@ -223,6 +230,10 @@ pub struct ExploreRequest<'a> {
     pub bounds: Bounds,
     /// Whether it says something of the number of lines.
     pub says_turns: bool,
+    /// Whether it says something of the number of places.
+    pub says_places: bool,
+    /// Which memory the places may take.
+    pub memory: Memory,
     /// The path of the trace where the orders begin. Without it they begin at boot.
     pub from: Option<&'a str>,
     /// After how many seconds the search ends. Without it none is too long.
@@ -272,6 +283,9 @@ fn request_of<'a>(matches: &ArgMatches<'a>) -> Option<ExploreRequest<'a>>
     let pace = bound_in(option_in(matches, "pace"))?;
     let bounds = bounds_of(matches)?;
     let seconds = bound_in(option_in(matches, "seconds"))?;
+    let room = option_in(matches, "places");
+    let size = option_in(matches, "memory");
+    let memory = memory_in(size)?;
     Some(ExploreRequest {
         config: text_in(matches, "CFG"),
         scripts: text_in(matches, "SCRIPTS"),
@@ -286,6 +300,8 @@ fn request_of<'a>(matches: &ArgMatches<'a>) -> Option<ExploreRequest<'a>>
         spurious: flag_in(matches, "spurious"),
         bounds,
         says_turns: option_in(matches, "turns").is_some(),
+        says_places: room.is_some(),
+        memory,
         from: option_in(matches, "from"),
         seconds,
         questions: option_in(matches, "questions"),

@@ -17,6 +17,7 @@ mod explore;
 mod found;
 mod numbers;
 mod parts;
+mod rooms;
 mod seeds;
 mod shrink;
 mod smp;
@@ -33,6 +34,7 @@ pub use parts::{
     COLOUR_PART, CONFIG_PART, CONTEXT_PART, EVENTS_PART, Form, PROGRESS_PART, Part, SCRIPTS_PART,
     SECONDS_PART, Title, line,
 };
+pub use rooms::{Memory, places_within};
 pub use seeds::Seeds;
 pub use shrink::{ShrinkRequest, parse_shrink, shrink_command};
 pub use smp::{SmpRequest, parse_smp, smp_command};

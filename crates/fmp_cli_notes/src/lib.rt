@@ -1,11 +1,12 @@
 //! What stands beside the answer of a search, line by line: how far it went, which calls of the scripts no order makes, how much of a question comes, why
 //! nothing has what it asks for, and from which line on something stays.
 //!
-//! Who is told is [`Notes`], and how far these searches have come a [`Progress`](fmp_run_explore::Progress). Nothing that is told is known by these
+//! Who is told is [`Notes`](fmp_cli_diagnostics::Notes), and how far these searches have come a [`Progress`](fmp_run_explore::Progress). Nothing that is told is known by these
 //! functions alone: each line repeats a number, a finding or a word that `fmp_run_explore` or `fmp_run_forever` promises. The words of the lines are tested
 //! (`tests/cases/searches`). A line for which memory is wanting is not told.
 #![tactic(auto)]
 
+mod extent;
 mod never_so;
 mod notes;
 mod patterns;
@@ -13,7 +14,8 @@ mod staying;
 mod unmade;
 mod unshown;
 
-pub use notes::{About, Notes};
+pub use extent::note_extent;
+pub use notes::About;
 pub use staying::note_stayed;
-pub use unmade::{note_extent, note_unmade};
+pub use unmade::note_unmade;
 pub use unshown::note_unshown;

@@ -1,6 +1,7 @@
 //! Why no event of any order has a pattern, where the configuration or the way of `explore` says so.
-use crate::notes::{About, Notes, tell};
+use crate::notes::{About, tell};
 use crate::patterns::put_item;
+use fmp_cli_diagnostics::Notes;
 use fmp_facts::{Asked, Fact, Subject, Thing};
 use fmp_run_explore::Searched;
 use fmp_search_pattern::{Item, Wanted};

@@ -1,12 +1,7 @@
 //! Lines that stand beside an answer.
+use fmp_cli_diagnostics::Notes;
 use fmp_out::Text;
 use std::alloc::Global;
-
-/// Who is told what stands beside an answer.
-pub trait Notes {
-    /// Takes a line, which ends with a line feed.
-    fn note(&mut self, line: &[u8]);
-}
 
 /// What the lines are about.
 #[derive(Clone, Copy)]

@@ -1,9 +1,11 @@
 //! What is told of something that stays for ever.
-use crate::notes::{About, Notes, tell};
+use crate::extent::{Reach, tell_extent};
+use crate::notes::{About, tell};
 use crate::patterns::{put_between, put_item};
-use crate::unmade::{note_calls_unmade, note_extent};
+use crate::unmade::note_calls_unmade;
+use fmp_cli::ExploreRequest;
+use fmp_cli_diagnostics::Notes;
 use fmp_out::Text;
-use fmp_ranges::Bounds;
 use fmp_run_explore::{Orders, Progress};
 use fmp_run_forever::{Stayed, Staying};
 use fmp_search_pattern::Moment;
@@ -54,15 +56,31 @@ fn tell_never<N: Notes + Progress>(
     notes: &mut N,
     about: About<'_>,
     stayed: &Stayed,
-    bounds: Bounds,
+    request: &ExploreRequest<'_>,
 ) {
-    note_extent(notes, about, stayed.extent, true);
+    tell_extent(notes, about, stayed.extent, Reach::All, request);
     let orders = Orders {
         config: &stayed.asked.config,
         scripts: &stayed.asked.scripts,
         rules: stayed.rules,
     };
-    note_calls_unmade(notes, about, orders, stayed.extent, bounds);
+    note_calls_unmade(notes, about, orders, stayed.extent, request.bounds);
+}
+
+/// Why a search that knows less than was asked for found no more places, of which so many lines were gone through.
+fn reach_of<N: Progress>(
+    notes: &mut N,
+    stayed: &Stayed,
+    lines: u32,
+    request: &ExploreRequest<'_>,
+) -> Reach {
+    if stayed.extent.places >= request.bounds.places.count as usize {
+        Reach::Room
+    } else if lines < request.bounds.turns.count && !notes.is_over() {
+        Reach::Wanting
+    } else {
+        Reach::Part
+    }
 }
 
 /// Tells what is known beside the trace that was written, or beside `never` and `not within`.
@@ -70,7 +88,7 @@ pub fn note_stayed<N: Notes + Progress>(
     notes: &mut N,
     about: About<'_>,
     stayed: &Stayed,
-    bounds: Bounds,
+    request: &ExploreRequest<'_>,
 ) {
     match stayed.staying {
         Staying::Shortest(number, line) => tell_from(notes, about.alloc, stayed, number, line),
@@ -78,7 +96,10 @@ pub fn note_stayed<N: Notes + Progress>(
             tell_from(notes, about.alloc, stayed, number, line);
             tell_longer(notes, about.alloc);
         }
-        Staying::Never => tell_never(notes, about, stayed, bounds),
-        Staying::NotWithin(_) => note_extent(notes, about, stayed.extent, false),
+        Staying::Never => tell_never(notes, about, stayed, request),
+        Staying::NotWithin(lines) => {
+            let reach = reach_of(notes, stayed, lines, request);
+            tell_extent(notes, about, stayed.extent, reach, request);
+        }
     }
 }

@@ -1,6 +1,7 @@
-//! What is told beside `never` and `not within`: how far the search went, and which calls of the scripts no order makes. Where a call is never made, an
-//! answer `never` may say less than it seems to.
-use crate::notes::{About, Notes, tell};
+//! What is told beside `never` and `not within` of the calls of the scripts that no order makes. Where a call is never made, an answer `never` may say less
+//! than it seems to.
+use crate::notes::{About, tell};
+use fmp_cli_diagnostics::Notes;
 use fmp_cli_hints_config::{is_misplaced, put_misplaced};
 use fmp_codes::{Event, NameKind, Proc};
 use fmp_out::Text;
@@ -124,23 +125,6 @@ fn tell_calls<N: Notes>(
     }
 }
 
-/// Tells how far a search went that found no order: through all places, or through those within so many lines.
-pub fn note_extent<N: Notes>(notes: &mut N, about: About<'_>, extent: Extent, all: bool) {
-    let mut line = about.line();
-    line.put(if all {
-        b"places gone through: ".as_slice()
-    } else {
-        b"places found: ".as_slice()
-    });
-    line.put_number(extent.places as u64);
-    if all {
-        line.put(b", all there are");
-    }
-    line.put(b"; lines to the farthest: ");
-    line.put_number(u64::from(extent.farthest));
-    tell(notes, line);
-}
-
 /// Tells of the calls that have no mark, or without marks of those that are always refused.
 fn tell_without<N: Notes>(
     notes: &mut N,
@@ -154,7 +138,7 @@ fn tell_without<N: Notes>(
     }
 }
 
-/// Whether the search used up the room for places, and that for the calls would, too. A question of one step without `without` lets both go through the same places.
+/// Whether the search used up the room or the memory for places, and that for the calls would, too. A question of one step without `without` lets both go through the same places.
 fn has_no_room(outcome: &Outcome, bounds: Bounds) -> bool {
     let is_full = match outcome.extent {
         Some(extent) => extent.places >= bounds.places.count as usize,
@@ -166,7 +150,8 @@ fn has_no_room(outcome: &Outcome, bounds: Bounds) -> bool {
     };
     let is_ended =
         matches!(outcome.finding, Finding::NotWithin(turns) if turns < bounds.turns.count);
-    is_ended && is_full && is_one
+    let is_wanting = matches!(outcome.finding, Finding::Wanting(_));
+    is_wanting || is_ended && is_full && is_one
 }
 
 /// Which calls are made, where all of them are made by a part of the lines to the farthest place of a search. Few places are that near.

@@ -1,8 +1,9 @@
 //! What is told beside `never`: how many steps of the question come in some order, and whether an event has the patterns of the next one.
 use crate::never_so::tell_fact;
-use crate::notes::{About, Notes, tell};
+use crate::notes::{About, tell};
 use crate::patterns::put_item;
 use fmp_cli::ExploreRequest;
+use fmp_cli_diagnostics::Notes;
 use fmp_ranges::Bounds;
 use fmp_run_explore::{Finding, Outcome, Progress, Searched};
 use fmp_search_pattern::{Item, Moment, Part, Question, Step};
@@ -127,7 +128,7 @@ fn has_event<P: Progress>(
     match found.ok()? {
         Finding::Shown => Some(true),
         Finding::Never => Some(false),
-        Finding::NotWithin(_) | Finding::Ended(_) => None,
+        Finding::NotWithin(_) | Finding::Wanting(_) | Finding::Ended(_) => None,
     }
 }
 

@@ -1,6 +1,6 @@
 use Rattle.std.proofs.Common.{◌≡◌, ◌∙◌, ℕ, List, Option, None, Some, refl, ap, subst}
 use Rattle.std.specs.Prelude.{is_some, option_map}
-use Rattle.fmp_cli.specs.Explore.{IsBound, IsQuestion, IsTickLimit}
+use Rattle.fmp_cli.specs.Explore.{IsBound, IsMemory, IsQuestion, IsTickLimit}
 use Rattle.fmp_cli.proofs.explore.request_of.Goals as goal
 
 some_mapped : {A B : Type 0} (f : A → B) (o : Option A) → is_some o ≡ is_some (option_map f o)
@@ -23,6 +23,8 @@ returns c = record {
   turns = c.in_ok-bounds.ensures.turns;
   says_turns = c.is_some-2.ensures ∙ some_mapped _ c.option_in-4.result ∙ ap is_some c.option_in-4.ensures;
   places = c.in_ok-bounds.ensures.places;
+  says_places = c.is_some-3.ensures ∙ some_mapped _ c.option_in-room.result ∙ ap is_some c.option_in-room.ensures;
+  memory = subst (λ (o : Option (List ℕ)). IsMemory o c.in_ok-memory.memory) c.option_in-size.ensures c.in_ok-memory.ensures;
   from = c.option_in-5.ensures;
   seconds = subst (λ (o : Option (List ℕ)). IsBound o c.in_ok-seconds.seconds) c.option_in-3.ensures c.in_ok-seconds.ensures;
   questions = c.option_in-6.ensures;
