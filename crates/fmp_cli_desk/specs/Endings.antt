@@ -13,7 +13,7 @@ use Rattle.fmp_run_events.specs.declared.lives.LifeFault.{LifeFault}
 use Rattle.fmp_run_events.specs.declared.lives.LifeFault.TheVariants as life
 use Rattle.fmp_cli_desk.specs.declared.ending.Ending.{Ending}
 use Rattle.fmp_cli_desk.specs.declared.ending.Ending.TheVariants as ending
-use Rattle.fmp_cli_desk.specs.declared.texts.Kept.{Kept}
+use Rattle.fmp_cli_desk.specs.declared.keeping.Kept.{Kept}
 
 -- the status of a run that ended before its time
 abbrev pub status_of : Ending → Status
@@ -24,7 +24,7 @@ status_of (ending.NoText cause) = Device
 status_of ending.OneInput = Usage
 status_of ending.Unread = Device
 status_of (ending.Question fault place) = Faulty
-status_of ending.NoTrace = Device
+status_of (ending.NoTrace cause) = Device
 status_of ending.LongTrace = Faulty
 status_of (ending.Stray line) = Faulty
 status_of (ending.Asked fault place config) = Faulty
@@ -57,11 +57,6 @@ of_begun (from.Stray line) closed = ending.Stray line
 abbrev pub of_life : LifeFault → Bool → Ending
 of_life (life.Run fault) closed = of_run fault closed
 of_life (life.Name index) closed = ending.Name index
-
--- what became of a trace with which a search was to begin, where this happened when it was read
-abbrev pub of_trace : RunFault → Ending
-of_trace run.Read = ending.NoTrace
-of_trace fault = ending.Fault fault
 
 -- what ends a run of which these texts were read: they are kept where what stands beside a fault is in them
 abbrev pub with_texts : Ending → Kept → Ending

@@ -1,4 +1,8 @@
 //! All that the program has of the system that it runs on.
+ghost use Rattle.std.specs.Prelude.{◌≡◌};
+ghost use Rattle.fmp_cli_desk.specs.Places.{shows_place};
+
+use fmp_cli::Paths;
 use fmp_cli_diagnostics::LineForm;
 use fmp_cli_hints::TextForm;
 use fmp_out::Text;
@@ -53,6 +57,9 @@ pub trait Desk {
 
     /// The time since some moment, in thousandths of a second. There is none where the clock says nothing.
     fn thousandths(&self) -> Option<u64>;
+
+    /// How many bytes of memory are free. None where that is not known.
+    fn free_memory(&self) -> Option<u64>;
 }
 
 /// How a fault is reported.
@@ -62,6 +69,15 @@ pub struct FaultForm {
     pub line: LineForm,
     /// What the other text is.
     pub text: TextForm,
+}
+
+impl FaultForm {
+    /// Whether the place of a fault in a text at these paths is shown: in its line, or below that.
+    pub fn shows_place(self, paths: &Paths<'_>) -> bool
+        ensures { result ≡ shows_place self.line paths.now.context }
+    {
+        matches!(self.line, LineForm::Gcc) || paths.context.is_some()
+    }
 }
 
 /// Reports whole lines on standard error, unless memory was wanting for them.

@@ -6,7 +6,7 @@ ghost use Rattle.fmp_run_texts.specs.declared.fault.RunFault.TheVariants as run;
 ghost use Rattle.fmp_cli_desk.specs.declared.ending.Ending.TheVariants as ending;
 ghost use Rattle.fmp_cli_desk.specs.Endings as spec;
 
-use crate::texts::Kept;
+use crate::keeping::Kept;
 use fmp_run_events::{LifeFault, RunFault, Status};
 use fmp_run_explore::ExploreFault;
 use fmp_run_explore_from::FromFault;
@@ -21,9 +21,9 @@ pub enum Ending {
     Fault(RunFault),
     /// This is reported of a run that has read these texts.
     Faulty(RunFault, Kept),
-    /// The configuration cannot be opened, for this cause.
+    /// The configuration cannot be opened or read, for this cause.
     NoConfig(io::Error),
-    /// The other text cannot be opened, for this cause.
+    /// The other text cannot be opened or read, for this cause.
     NoText(io::Error),
     /// More than one text was to come from standard input.
     OneInput,
@@ -31,8 +31,8 @@ pub enum Ending {
     Unread,
     /// The question has this fault, at the byte of this number from 0.
     Question(QuestionFault, usize),
-    /// The trace with which a search begins cannot be read.
-    NoTrace,
+    /// The trace with which a search begins, or the text of many questions, cannot be opened or read, for this cause.
+    NoTrace(io::Error),
     /// It is too long.
     LongTrace,
     /// Its line of this number, from 1, is the first that no order has there.
@@ -69,22 +69,12 @@ impl Ending {
             Ending::NoConfig(_)
             | Ending::NoText(_)
             | Ending::Unread
-            | Ending::NoTrace
+            | Ending::NoTrace(_)
             | Ending::Unmade(..) => Status::Device,
             Ending::OneInput | Ending::Name(_) | Ending::Unnamed(..) => Status::Usage,
             Ending::Question(..) | Ending::LongTrace | Ending::Stray(_) | Ending::Asked(..) => {
                 Status::Faulty
             }
-        }
-    }
-
-    /// That of a trace with which a search was to begin, where this happened when it was read.
-    pub fn of_trace(fault: RunFault) -> Ending
-        ensures { result ≡ spec.of_trace fault }
-    {
-        match fault {
-            RunFault::Read => Ending::NoTrace,
-            fault => Ending::Fault(fault),
         }
     }
 

@@ -1,19 +1,16 @@
-//! What is reported of a fault: its line, why a file cannot be read, and with `--context` the place of a fault. For the place the configuration was kept, and
-//! of events the lines that were read last. Scripts and a trace are read once more, or were kept, too, where they came from a pipe.
+//! What is reported of a fault: its line, why a text cannot be read, and with `--context` the place of a fault. What is reported of a text is told by what was
+//! kept of it: none is opened here.
 use crate::desk::{Desk, FaultForm};
-use crate::texts::{Kept, STANDARD_INPUT};
+use crate::keeping::{Kept, KeptText};
+use crate::texts::STANDARD_INPUT;
 use fmp_cli::Paths;
 use fmp_cli_diagnostics::{LineForm, Spot};
 use fmp_cli_faults::{
-    Found, beside, config_again, fault_diagnostic, found_in, name_hint, question_beside,
-    question_diagnostic, spot_in,
+    Place, advice, fault_diagnostic, name_hint, question_beside, question_diagnostic,
 };
-use fmp_cli_hints::{TextForm, text_advice};
-use fmp_run_events::{FaultLine, ReadSource, RunFault, read_up_to};
+use fmp_run_events::{FaultLine, RunFault};
 use fmp_run_explore::QuestionLine;
 use fmp_search_question::QuestionFault;
-use fmp_text::{MOST_BYTES, TextFault, TextKind};
-use std::io::Read;
 use std::{fmt, io};
 
 /// The line below a fault of a device: why the file at a path cannot be opened, read or written.
@@ -58,96 +55,15 @@ pub fn report_question<D: Desk>(desk: &D, form: LineForm, fault: QuestionFault, 
     }
 }
 
-/// Whether what is at a path came from standard input, a pipe or a device, so that it cannot be read once more.
-fn is_gone<D: Desk>(desk: &D, path: &str) -> bool {
-    path == STANDARD_INPUT || !desk.is_file(path)
-}
-
-/// A file, read up to a limit. There is none where it cannot be read, or is longer, and where there is no file but a pipe or a device, at which a second
-/// reader would wait for ever.
-pub fn whole<D: Desk>(desk: &D, path: &str, limit: usize) -> Option<Vec<u8>> {
-    if is_gone(desk, path) {
-        return None;
-    }
-    let text = desk.open(path).ok()?;
-    let text = read_up_to(desk.alloc(), &mut ReadSource::new(text), limit).ok()?;
-    if text.len() <= limit {
-        Some(text)
-    } else {
-        None
-    }
-}
-
-/// The fault of the other text, where that was kept and has it, or can be read once more and has it still.
-fn text_again<D: Desk>(
-    desk: &D,
-    paths: &Paths<'_>,
-    form: TextForm,
-    texts: &mut Kept,
-    fault: TextFault,
-) -> Option<Found> {
-    if fault.kind == TextKind::Memory || fault.line == 0 {
-        return None;
-    }
-    let alloc = desk.alloc();
-    let config = texts.config.as_slice();
-    if let Some(text) = texts.text.take() {
-        let found = found_in(alloc, form, config, text, fault, false);
-        if found.is_some() {
-            return found;
-        }
-    }
-    let text = whole(desk, paths.text, MOST_BYTES)?;
-    found_in(alloc, form, config, text, fault, true)
-}
-
-/// The fault with its text, where that has it still.
-fn find_again<D: Desk>(
-    desk: &D,
-    paths: &Paths<'_>,
-    form: TextForm,
-    texts: &mut Kept,
-    fault: &RunFault,
-) -> Option<Found> {
-    match fault {
-        RunFault::Config(fault) => config_again(desk.alloc(), texts.config.as_slice(), fault),
-        RunFault::Text(fault) => text_again(desk, paths, form, texts, *fault),
-        _ => None,
-    }
-}
-
-/// What stands below a fault whose line cannot be shown: of a text that cannot be read once more, and of one that is too long.
-fn advice<D: Desk>(desk: &D, path: &str, fault: &RunFault) -> Option<Vec<u8>> {
-    match fault {
-        RunFault::Text(fault) if fault.kind == TextKind::Memory => None,
-        RunFault::Text(fault) if fault.line == 0 || is_gone(desk, path) => {
-            text_advice(desk.alloc(), fault.kind).ok()
-        }
-        _ => None,
-    }
-}
-
-/// Why a file cannot be read, if it cannot.
-fn cause<D: Desk>(desk: &D, path: &str) -> Option<io::Error> {
-    let mut byte = [0u8; 1];
-    match desk.open(path) {
-        Ok(mut text) => text.read(&mut byte).err(),
-        Err(error) => Some(error),
-    }
-}
-
 /// Reports the cause for which the file at a path cannot be opened, read or written.
 pub fn report_path<D: Desk>(desk: &D, path: &str, error: &io::Error) {
     desk.put_line(CauseLine { path, error });
 }
 
-/// Reports why a file cannot be read, if it cannot. Standard input is none.
-pub fn report_cause<D: Desk>(desk: &D, path: &str) {
-    if path == STANDARD_INPUT {
-        return;
-    }
-    if let Some(error) = cause(desk, path) {
-        report_path(desk, path, &error);
+/// Reports why the file at a path cannot be opened or read. Standard input is none.
+pub fn report_cause<D: Desk>(desk: &D, path: &str, error: &io::Error) {
+    if path != STANDARD_INPUT {
+        report_path(desk, path, error);
     }
 }
 
@@ -158,29 +74,20 @@ pub fn report_beside<D: Desk>(desk: &D, text: Option<Vec<u8>>) {
     }
 }
 
-/// Reports the line of a fault, and gives the fault with its text, where that is asked for and the text has it still.
+/// Reports the line of a fault, with its place where that is known and lines have the form of compilers.
 fn report_line<D: Desk>(
     desk: &D,
     paths: &Paths<'_>,
-    fault_form: FaultForm,
-    texts: &mut Kept,
+    form: LineForm,
+    place: Option<&Place<'_>>,
     fault: &RunFault,
-) -> Option<Found> {
-    if matches!(fault_form.line, LineForm::Gcc) {
-        let found = find_again(desk, paths, fault_form.text, texts, fault);
-        let config = texts.config.as_slice();
-        let spot = match &found {
-            Some(found) => spot_in(desk.alloc(), fault_form.text, config, found, fault),
-            None => None,
-        };
-        report_placed(desk, paths, fault, spot);
-        return found;
-    }
-    report_plainly(desk, paths, fault);
-    if paths.context.is_some() {
-        find_again(desk, paths, fault_form.text, texts, fault)
-    } else {
-        None
+) {
+    match (form, place) {
+        (LineForm::Gcc, Some(place)) => {
+            report_placed(desk, paths, fault, place.spot(desk.alloc()));
+        }
+        (LineForm::Gcc, None) => report_placed(desk, paths, fault, None),
+        _ => report_plainly(desk, paths, fault),
     }
 }
 
@@ -190,26 +97,27 @@ pub fn report_faulty<D: Desk>(
     desk: &D,
     paths: &Paths<'_>,
     fault_form: FaultForm,
-    mut texts: Kept,
+    texts: &Kept,
     fault: &RunFault,
 ) {
-    let found = report_line(desk, paths, fault_form, &mut texts, fault);
-    if matches!(fault, RunFault::Read) {
-        report_cause(desk, paths.text);
-    }
-    if paths.context.is_none() {
-        return;
-    }
-    let text = match &found {
-        Some(found) => beside(
-            desk.alloc(),
-            fault_form.text,
-            texts.config.as_slice(),
-            found,
-        ),
-        None => advice(desk, paths.text, fault),
+    let alloc = desk.alloc();
+    let place = if fault_form.shows_place(paths) {
+        let config = texts.config.as_slice();
+        Place::of_fault(alloc, fault_form.text, config, texts.text.lines(), fault)
+    } else {
+        None
     };
-    report_beside(desk, text);
+    report_line(desk, paths, fault_form.line, place.as_ref(), fault);
+    if let (RunFault::Read, KeptText::Unreadable(error)) = (fault, &texts.text) {
+        report_cause(desk, paths.text, error);
+    }
+    if paths.context.is_some() {
+        let text = match &place {
+            Some(place) => place.beside(alloc),
+            None => advice(alloc, fault),
+        };
+        report_beside(desk, text);
+    }
 }
 
 /// Reports what stands beside a fault of a question, where that is asked for.

@@ -23,18 +23,10 @@ pub const NO_PATHS: Paths<'static> = Paths {
     context: None,
 };
 
-/// Reports that a text cannot be opened, with the cause.
-fn report_unopened<D: Desk>(desk: &D, paths: &Paths<'_>, path: &str, error: &io::Error) {
-    report_plainly(desk, paths, &RunFault::Read);
-    report_path(desk, path, error);
-}
-
-/// Reports a fault where none of the texts was read.
-fn report_fault<D: Desk>(desk: &D, paths: &Paths<'_>, fault: &RunFault) {
-    report_plainly(desk, paths, fault);
-    if matches!(fault, RunFault::Read) {
-        report_cause(desk, paths.config);
-    }
+/// Reports that the text at a path cannot be opened or read, with the cause.
+fn report_unread<D: Desk>(desk: &D, path: &str, error: &io::Error) {
+    report_plainly(desk, &NO_PATHS, &RunFault::Read);
+    report_cause(desk, path, error);
 }
 
 /// Reports why a run ended before its time. Of a trace with which it was to begin, and of a name, it is reported elsewhere.
@@ -47,15 +39,15 @@ fn report_ending<D: Desk>(desk: &D, paths: &Paths<'_>, fault_form: FaultForm, en
             report_plainly(desk, paths, &RunFault::Write);
             report_path(desk, path.as_str(), &error);
         }
-        Ending::Fault(fault) => report_fault(desk, paths, &fault),
-        Ending::Faulty(fault, texts) => report_faulty(desk, paths, fault_form, texts, &fault),
-        Ending::NoConfig(error) => report_unopened(desk, paths, paths.config, &error),
-        Ending::NoText(error) => report_unopened(desk, paths, paths.text, &error),
+        Ending::Fault(fault) => report_plainly(desk, paths, &fault),
+        Ending::Faulty(fault, texts) => report_faulty(desk, paths, fault_form, &texts, &fault),
+        Ending::NoConfig(error) => report_unread(desk, paths.config, &error),
+        Ending::NoText(error) => report_unread(desk, paths.text, &error),
         Ending::Question(fault, place) | Ending::Asked(fault, place, _) => {
             report_question(desk, fault_form.line, fault, place);
         }
         Ending::Unread
-        | Ending::NoTrace
+        | Ending::NoTrace(_)
         | Ending::LongTrace
         | Ending::Stray(_)
         | Ending::Name(_)
@@ -122,10 +114,7 @@ fn report_long<D: Desk>(desk: &D, path: &str) {
 /// Reports what is wrong with the trace at this path with which a search was to begin, or that many questions cannot be read there.
 pub fn report_begun<D: Desk>(desk: &D, path: &str, line: LineForm, run: &Result<Status, Ending>) {
     match run {
-        Err(Ending::NoTrace) => {
-            report_plainly(desk, &NO_PATHS, &RunFault::Read);
-            report_cause(desk, path);
-        }
+        Err(Ending::NoTrace(error)) => report_unread(desk, path, error),
         Err(Ending::LongTrace) => report_long(desk, path),
         Err(Ending::Stray(number)) => put_lines(
             desk,

@@ -2,7 +2,7 @@
 ghost use Rattle.std.specs.Prelude.{◌≡◌, Bool};
 
 use crate::desk::{Desk, put_lines};
-use fmp_cli_notes::Notes;
+use fmp_cli_diagnostics::Notes;
 use fmp_out::Text;
 use fmp_run_explore::Progress;
 use fmp_run_seeds::SeedProgress;

@@ -1,10 +1,12 @@
-//! The texts that a run reads: a configuration, and beside it another text. One of them may come from standard input.
-ghost use Rattle.std.specs.Prelude.{◌≡◌, ◌≤◌, length, IfErr, IfOk, IfSome};
+//! The texts that a run reads: a configuration, and beside it another text. One of them may come from standard input. Each is opened once, and why it cannot
+//! be read is kept.
+ghost use Rattle.std.specs.Prelude.{◌≡◌, IfErr, IfOk};
 ghost use Rattle.fmp_run_devices.specs.Either.{of_either};
 ghost use Rattle.fmp_cli_desk.specs.declared.ending.Ending.TheVariants.{OneInput};
 
-use crate::desk::Desk;
+use crate::desk::{Desk, FaultForm};
 use crate::ending::Ending;
+use crate::keeping::{ErrorKeeper, Kept, KeptText};
 use fmp_cli::Paths;
 use fmp_config::{MOST_BYTES as MOST_CONFIG_BYTES, read_config};
 use fmp_run_devices::{ReadFault, TextOr, TextSource};
@@ -16,17 +18,6 @@ use std::io::{ErrorKind, Read};
 
 /// The path in whose place a text is read from standard input.
 pub const STANDARD_INPUT: &str = "-";
-
-/// How many bytes of a text that cannot be read twice are kept at most for what stands beside a fault.
-const MOST_KEPT: usize = 1 << 24;
-
-/// What is kept of the texts of a run, for what stands beside a fault.
-#[derive(Drop)]
-pub struct Kept {
-    pub config: Vec<u8>,
-    /// The other text, or the lines of it that were read last. There is none where that can be read once more, or is too long.
-    pub text: Option<Vec<u8>>,
-}
 
 /// A text that was opened, or one that could not be read.
 #[derive(Drop)]
@@ -47,84 +38,44 @@ impl<T: Read> Read for Opened<T> {
     }
 }
 
-/// A reader of lines that are judged as they come, each before more is read. It keeps those of which one may be at fault: what was read last, from the
-/// beginning of its first line on.
+/// Why a text was not read.
 #[derive(Drop)]
-pub struct LineKeeper<T> {
-    text: T,
-    /// There is none where a line is too long, or memory was wanting.
-    last: Option<Vec<u8>>,
-    /// How many bytes of it were read last. Before these there is no end of a line.
-    piece: usize,
+enum Unread {
+    Failed(io::Error),
+    Memory,
 }
 
-impl<T: Read + Drop> LineKeeper<T> {
-    /// A reader that has read nothing.
-    pub fn new(alloc: Global, text: T) -> LineKeeper<T> {
-        LineKeeper {
-            text,
-            last: Some(Vec::new(alloc)),
-            piece: 0,
-        }
-    }
-
-    /// What it keeps.
-    pub fn into_last(self) -> Option<Vec<u8>> {
-        self.last
+/// A text, read to its end, or beyond a limit.
+fn text_up_to<T: Read + Drop>(alloc: Global, text: T, limit: usize) -> Result<Vec<u8>, Unread> {
+    let mut text = ErrorKeeper::new(text);
+    let mut source = ReadSource::new(&mut text);
+    let read = read_up_to(alloc, &mut source, limit);
+    drop(source);
+    match read {
+        Ok(bytes) => Ok(bytes),
+        Err(ReadFault::Memory) => Err(Unread::Memory),
+        Err(ReadFault::Failed) => Err(Unread::Failed(
+            text.into_error()
+                .unwrap_or(io::Error::from(ErrorKind::Other)),
+        )),
     }
 }
 
-/// Where the line begins that is not at its end yet, of a text with line ends in its last bytes alone, which are so many.
-fn last_line(text: &[u8], piece: usize) -> usize
-    ensures { result ≤ length text.now }
-{
-    let from = text.len().saturating_sub(piece);
-    match text[from..].iter().rev().position(|byte| *byte == b'\n') {
-        Some(after) => text.len().saturating_sub(after),
-        None => 0,
-    }
-}
-
-/// The line that is not at its end yet, and what was read after it. Of what was there before so many bytes were read last.
-fn with_piece(mut last: Vec<u8>, before: usize, piece: &[u8]) -> Option<Vec<u8>> {
-    let begun = last_line(last.as_slice(), before);
-    if begun > 0 {
-        let rest = last.len().saturating_sub(begun);
-        last.copy_within(begun.., 0);
-        last.truncate(rest);
-    }
-    if last.len().saturating_add(piece.len()) > MOST_KEPT {
-        return None;
-    }
-    last.extend_from_slice(piece).ok()?;
-    Some(last)
-}
-
-impl<T: Read> Read for LineKeeper<T> {
-    fn read(&mut self, buffer: &mut [u8]) -> io::Result<usize> {
-        let count = self.text.read(buffer)?;
-        if let Some(last) = self.last.take() {
-            self.last = with_piece(last, self.piece, &buffer[..count]);
-        }
-        self.piece = count;
-        Ok(count)
-    }
-}
-
-/// A configuration, read to its end, or beyond its greatest length. It is kept for what stands beside a fault, since a pipe cannot be
-/// read twice.
+/// A configuration, read to its end, or beyond its greatest length. It is kept for what stands beside a fault.
 fn config_read<T: Read + Drop>(alloc: Global, text: T) -> Result<Vec<u8>, Ending> {
-    match read_up_to(alloc, &mut ReadSource::new(text), MOST_CONFIG_BYTES) {
-        Ok(text) => Ok(text),
-        Err(fault) => Err(Ending::Fault(RunFault::from(fault))),
+    match text_up_to(alloc, text, MOST_CONFIG_BYTES) {
+        Ok(config) => Ok(config),
+        Err(Unread::Failed(error)) => Err(Ending::NoConfig(error)),
+        Err(Unread::Memory) => Err(Ending::Fault(RunFault::Memory)),
     }
 }
 
 /// Another text, read to its end, or beyond its greatest length.
-pub fn text_read<T: Read + Drop>(alloc: Global, text: T) -> Result<Vec<u8>, RunFault> {
-    match read_up_to(alloc, &mut ReadSource::new(text), MOST_BYTES) {
+pub fn text_read<T: Read + Drop>(alloc: Global, text: T) -> Result<Vec<u8>, Ending> {
+    match text_up_to(alloc, text, MOST_BYTES) {
         Ok(text) => Ok(text),
-        Err(fault) => Err(RunFault::from(fault)),
+        Err(Unread::Failed(error)) => Err(Ending::NoText(error)),
+        Err(Unread::Memory) => Err(Ending::Fault(RunFault::Memory)),
     }
 }
 
@@ -133,7 +84,7 @@ pub fn config_alone<D: Desk>(desk: &D, paths: &Paths<'_>) -> Result<Kept, Ending
     match desk.open(paths.config) {
         Ok(text) => Ok(Kept {
             config: config_read(desk.alloc(), text)?,
-            text: None,
+            text: KeptText::Nothing,
         }),
         Err(error) => Err(Ending::NoConfig(error)),
     }
@@ -141,12 +92,23 @@ pub fn config_alone<D: Desk>(desk: &D, paths: &Paths<'_>) -> Result<Kept, Ending
 
 /// The trace with which a search begins, or the text of many questions, read to its end, or beyond its greatest length.
 pub fn trace_read<D: Desk>(desk: &D, path: &str) -> Result<Vec<u8>, Ending> {
-    let Ok(text) = desk.open(path) else {
-        return Err(Ending::NoTrace);
+    let text = match desk.open(path) {
+        Ok(text) => text,
+        Err(error) => return Err(Ending::NoTrace(error)),
     };
-    match text_read(desk.alloc(), text) {
+    match text_up_to(desk.alloc(), text, MOST_BYTES) {
         Ok(text) => Ok(text),
-        Err(fault) => Err(Ending::of_trace(fault)),
+        Err(Unread::Failed(error)) => Err(Ending::NoTrace(error)),
+        Err(Unread::Memory) => Err(Ending::Fault(RunFault::Memory)),
+    }
+}
+
+/// The trace with which a search over texts begins. Where the other text cannot be read it is not opened, and nothing is given: the search says which one
+/// comes first that cannot be read.
+pub fn begun_read<D: Desk>(desk: &D, texts: &Kept, path: &str) -> Result<Vec<u8>, Ending> {
+    match texts.text {
+        KeptText::Unreadable(_) => Ok(Vec::new(desk.alloc())),
+        _ => trace_read(desk, path),
     }
 }
 
@@ -181,57 +143,46 @@ fn is_refused(alloc: Global, config: &[u8]) -> bool {
     read_config(alloc, config).is_err()
 }
 
-/// A copy of a text, unless it is too long, or memory is wanting.
-pub fn copy_of(alloc: Global, text: &[u8]) -> Option<Vec<u8>>
-    ensures { IfSome result (λ copy. copy.items ≡ text.now) }
-{
-    if text.len() > MOST_KEPT {
-        return None;
-    }
-    Vec::from_slice(alloc, text).ok()
-}
-
 /// The other text, read whole, with what is kept of both.
 fn whole_read<T: Read + Drop>(
     alloc: Global,
     config: Vec<u8>,
     text: T,
-    is_file: bool,
+    shows_place: bool,
 ) -> Result<(Kept, WholeText<T>), Ending>
     ensures { IfOk result (λ both. of_either (λ _. 0) (λ source. source.failures) both.1 ≡ 0) }
 {
-    match read_up_to(alloc, &mut ReadSource::new(text), MOST_BYTES) {
-        Ok(text) => {
-            let kept = Kept {
-                config,
-                text: if is_file {
-                    None
-                } else {
-                    copy_of(alloc, text.as_slice())
-                },
-            };
-            Ok((kept, TextOr::Text(TextSource::new(alloc, text))))
+    match text_up_to(alloc, text, MOST_BYTES) {
+        Ok(bytes) => {
+            let text = KeptText::of_whole(alloc, bytes.as_slice(), shows_place);
+            let source = TextSource::new(alloc, bytes);
+            Ok((Kept { config, text }, TextOr::Text(source)))
         }
-        Err(ReadFault::Failed) => {
-            let unreadable = ReadSource::new(Opened::Unreadable);
-            Ok((Kept { config, text: None }, TextOr::Other(unreadable)))
+        Err(Unread::Failed(error)) => {
+            let text = KeptText::Unreadable(error);
+            let source = ReadSource::new(Opened::Unreadable);
+            Ok((Kept { config, text }, TextOr::Other(source)))
         }
-        Err(ReadFault::Memory) => Err(Ending::Fault(RunFault::Memory)),
+        Err(Unread::Memory) => Err(Ending::Fault(RunFault::Memory)),
     }
 }
 
 /// The configuration, read, and the other text for a run that reads it whole. That is read now: then its bytes are known, and what the run promises of such
 /// a text it promises of this one. Where it cannot be read, the run says so when it comes to it, behind a fault of the configuration. Standard input and a
-/// pipe may be long in coming: they are read only where the configuration has no fault, which is reported at once, and kept, since they cannot be read twice.
-pub fn both_read<D: Desk>(desk: &D, paths: &Paths<'_>) -> Result<(Kept, WholeText<D::Text>), Ending>
+/// pipe may be long in coming: they are read only where the configuration has no fault, which is reported at once.
+pub fn both_read<D: Desk>(
+    desk: &D,
+    paths: &Paths<'_>,
+    fault_form: FaultForm,
+) -> Result<(Kept, WholeText<D::Text>), Ending>
     ensures { IfOk result (λ both. of_either (λ _. 0) (λ source. source.failures) both.1 ≡ 0) }
 {
     let alloc = desk.alloc();
     let (config, text) = both_opened(desk, paths)?;
-    let is_file = desk.is_file(paths.text);
-    if !is_file && is_refused(alloc, config.as_slice()) {
+    if !desk.is_file(paths.text) && is_refused(alloc, config.as_slice()) {
         let unread = ReadSource::new(Opened::Text(text));
-        return Ok((Kept { config, text: None }, TextOr::Other(unread)));
+        let text = KeptText::Nothing;
+        return Ok((Kept { config, text }, TextOr::Other(unread)));
     }
-    whole_read(alloc, config, text, is_file)
+    whole_read(alloc, config, text, fault_form.shows_place(paths))
 }

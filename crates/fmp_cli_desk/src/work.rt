@@ -2,9 +2,10 @@
 ghost use Rattle.std.specs.Prelude.{◌≡◌, ◌-◌, ◌<◌, ◌^◌};
 ghost use Rattle.fmp_run_devices.specs.Either.{of_either};
 
-use crate::desk::Desk;
+use crate::desk::{Desk, FaultForm};
 use crate::ending::{Ending, Fault, kept, settled};
-use crate::texts::{Kept, WholeText, both_read, config_alone};
+use crate::keeping::Kept;
+use crate::texts::{WholeText, both_read, config_alone};
 use fmp_cli::Paths;
 use fmp_cli_colour::ColourSink;
 use fmp_run_devices::MemSource;
@@ -64,13 +65,14 @@ pub fn worked_over<D: Desk, R: Work>(
     kept(run, texts)
 }
 
-/// Reads both texts, and runs over them.
+/// Reads both texts, and runs over them. What the form of faults wants is kept of them.
 pub fn worked<D: Desk, R: Work>(
     desk: &D,
     paths: &Paths<'_>,
+    fault_form: FaultForm,
     work: &mut R,
 ) -> Result<R::Done, Ending> {
-    let (texts, text) = both_read(desk, paths)?;
+    let (texts, text) = both_read(desk, paths, fault_form)?;
     worked_over(desk, texts, text, work)
 }
 

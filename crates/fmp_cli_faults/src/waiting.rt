@@ -74,7 +74,7 @@ fn placed_lines(alloc: Global, path: &str, waiting: Waiting<'_>, scripts: &[u8])
     text
 }
 
-/// The tasks, a line each. The scripts are those at this path, or empty where they cannot be read again.
+/// The tasks, a line each. The scripts are those at this path, or empty where they were not kept.
 pub fn waiting_lines(
     alloc: Global,
     form: LineForm,

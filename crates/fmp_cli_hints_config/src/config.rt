@@ -1,13 +1,12 @@
 //! What stands beside a fault line of a configuration.
-ghost use Rattle.std.specs.Prelude.{◌≤◌, length, IfSome};
+ghost use Rattle.std.specs.Prelude.{◌≤◌, length};
 ghost use Rattle.fmp_config.specs.Limits.{most_bytes};
 
 use crate::foreign::{foreign_spot, put_numbered, words_at};
 use crate::hints::put_word_hint;
 use crate::numbers::is_numeric;
-use crate::opened::{end_of_text, is_misplaced, is_stray, missing_at};
+use crate::place::Place;
 use crate::projects::put_project_line;
-use crate::statements::statement_at;
 use fmp_bytes::{Class, cut, is_identifier};
 use fmp_cli_diagnostics::Spot;
 use fmp_cli_help::{put_config_advice, put_statement};
@@ -43,28 +42,6 @@ fn put_placed(out: &mut Text, text: &[u8], place: usize)
     put_excerpt(out, line, column.min(line.len()));
 }
 
-/// The place from which on so many bytes are left.
-fn place_of(text: &[u8], left: usize) -> Option<usize>
-    ensures { IfSome result (λ place. place ≤ length text.now) }
-{
-    if 0 < left && left <= text.len() {
-        Some(text.len() - left)
-    } else {
-        None
-    }
-}
-
-/// Whether a fault is told with the form of its statement.
-fn wants_form(kind: ConfigKind) -> bool {
-    matches!(
-        kind,
-        ConfigKind::Syntax
-            | ConfigKind::OutOfRange
-            | ConfigKind::BadAttribute
-            | ConfigKind::BadClass
-    )
-}
-
 /// Adds the form of a statement, after its label, if there is one.
 fn put_form(out: &mut Text, name: Option<StatementName>) {
     if let Some(name) = name {
@@ -73,52 +50,14 @@ fn put_form(out: &mut Text, name: Option<StatementName>) {
     }
 }
 
-/// Whether nothing is wrong with the form of a statement: none is open, or it stands at the wrong place.
-fn is_formed(text: &[u8], place: usize, word: &[u8]) -> bool
-    requires within { place ≤ length text.now }
-    requires few { length text.now ≤ most_bytes }
-{
-    is_stray(text, place) || is_misplaced(text, place, word)
-}
-
-/// Adds the form of the statement at the place of a fault, if the fault is told with it.
-fn put_form_at(out: &mut Text, text: &[u8], place: usize, fault: &ConfigFault)
-    requires within { place ≤ length text.now }
-    requires few { length text.now ≤ most_bytes }
-{
-    if wants_form(fault.kind) && !is_formed(text, place, fault.word.as_bytes()) {
-        put_form(out, statement_at(text, place, fault.word.as_bytes()));
-    }
-}
-
-/// Adds the line in which a byte is missing after what stands before a place, a caret there, and the form of its statement.
-fn put_missed(out: &mut Text, text: &[u8], place: usize, missing: (StatementName, u8))
-    requires { place ≤ length text.now }
-{
-    let (name, _byte) = missing;
-    put_placed(out, text, end_of_text(&text[..place]));
-    put_form(out, Some(name));
-}
-
-/// Adds the line of the token at a place, a caret under it, and the form of its statement.
-fn put_refused(out: &mut Text, text: &[u8], place: usize, fault: &ConfigFault)
-    requires within { place ≤ length text.now }
-    requires few { length text.now ≤ most_bytes }
-{
-    put_placed(out, text, place);
-    put_form_at(out, text, place, fault);
-}
-
-/// Adds the line of a fault, with a caret where a token is at fault, or where one is missing.
-fn put_fault(out: &mut Text, text: &[u8], fault: &ConfigFault)
-    requires { length text.now ≤ most_bytes }
-{
-    let Some(place) = place_of(text, fault.left) else {
-        return put_numbered(out, text, fault.line);
-    };
-    match missing_at(text, place, fault.kind) {
-        Some(missing) => put_missed(out, text, place, missing),
-        None => put_refused(out, text, place, fault),
+/// Adds the line of a fault, with a caret at its place, and the form of its statement.
+fn put_fault(out: &mut Text, text: &[u8], fault: &ConfigFault, place: Option<&Place<'_>>) {
+    match place {
+        Some(place) => {
+            put_placed(out, place.text(), place.caret());
+            put_form(out, place.formed());
+        }
+        None => put_numbered(out, text, fault.line),
     }
 }
 
@@ -155,12 +94,9 @@ fn is_name_cut(word: &[u8], text: &[u8]) -> bool {
 }
 
 /// Adds the byte that is missing at a place, or where a number or a name goes on there with a sign that neither has.
-fn put_missing(out: &mut Text, text: &[u8], place: usize, byte: u8)
-    requires within { place ≤ length text.now }
-    requires few { length text.now ≤ most_bytes }
-{
-    let before = &text[..place];
-    let rest = &text[place..];
+fn put_missing(out: &mut Text, place: &Place<'_>, byte: u8) {
+    let before = place.head();
+    let rest = place.rest();
     let word = last_word(before);
     if begins_with_sign(rest) && is_numeric(before, word) {
         out.put(COMPUTED);
@@ -171,32 +107,27 @@ fn put_missing(out: &mut Text, text: &[u8], place: usize, byte: u8)
     }
 }
 
-/// Adds what is told of the token at fault, of what is missing there, or of a character that no token has.
-fn put_reported(
-    alloc: Global,
-    out: &mut Text,
-    text: &[u8],
-    fault: &ConfigFault,
-) -> Result<(), AllocError>
-    requires { length text.now ≤ most_bytes }
-{
-    let Some(place) = place_of(text, fault.left) else {
-        out.put(words_at(text, fault.line));
-        return Ok(());
-    };
-    match missing_at(text, place, fault.kind) {
-        Some((_name, byte)) => put_missing(out, text, place, byte),
-        None => put_word_hint(alloc, out, text, place, fault)?,
+/// Adds what is told of the token at a place, or of what is missing there.
+fn put_token(alloc: Global, out: &mut Text, place: &Place<'_>) -> Result<(), AllocError> {
+    match place.missing() {
+        Some((_name, byte)) => put_missing(out, place, byte),
+        None => put_word_hint(alloc, out, place)?,
     }
     Ok(())
 }
 
-/// What is told of the token at fault.
-fn report(alloc: Global, text: &[u8], fault: &ConfigFault) -> Result<Vec<u8>, AllocError>
-    requires { length text.now ≤ most_bytes }
-{
+/// What is told of the token at fault, of what is missing there, or of a character that no token has.
+fn report(
+    alloc: Global,
+    text: &[u8],
+    fault: &ConfigFault,
+    place: Option<&Place<'_>>,
+) -> Result<Vec<u8>, AllocError> {
     let mut out = Text::new(alloc);
-    put_reported(alloc, &mut out, text, fault)?;
+    match place {
+        Some(place) => put_token(alloc, &mut out, place)?,
+        None => out.put(words_at(text, fault.line)),
+    }
     out.finish()
 }
 
@@ -234,9 +165,10 @@ pub fn config_context(
 ) -> Result<Vec<u8>, AllocError>
     requires { length text.now ≤ most_bytes }
 {
-    let report = report(alloc, text, fault)?;
+    let place = Place::of_fault(text, fault);
+    let report = report(alloc, text, fault, place.as_ref())?;
     let mut out = Text::new(alloc);
-    put_fault(&mut out, text, fault);
+    put_fault(&mut out, text, fault, place.as_ref());
     let likeness = likeness_at(text, fault.line, fault.kind);
     put_reported_or_advice(&mut out, report.as_slice(), likeness, fault.kind);
     put_project_line(&mut out, text, fault);
@@ -269,11 +201,8 @@ fn spot_at(text: &[u8], place: usize) -> Spot
 pub fn config_spot(text: &[u8], fault: &ConfigFault) -> Spot
     requires { length text.now ≤ most_bytes }
 {
-    let Some(place) = place_of(text, fault.left) else {
-        return foreign_spot(text, fault.line);
-    };
-    match missing_at(text, place, fault.kind) {
-        Some(_) => spot_at(text, end_of_text(&text[..place])),
-        None => spot_at(text, place),
+    match Place::of_fault(text, fault) {
+        Some(place) => spot_at(place.text(), place.caret()),
+        None => foreign_spot(text, fault.line),
     }
 }

@@ -1,16 +1,12 @@
 //! What is told of the word of a configuration that is at fault.
-ghost use Rattle.std.specs.Prelude.{◌≤◌, length};
-ghost use Rattle.fmp_config.specs.Limits.{most_bytes};
-
 use crate::classes::near_class;
 use crate::numbers::put_number_hint;
-use crate::opened::{is_misplaced, is_stray, item_in};
-use crate::statements::statement_at;
+use crate::place::Place;
 use crate::taken::put_taken_hint;
 use fmp_bytes::following;
 use fmp_cli_help::{is_left_out, near_attribute, near_statement, put_left_out, statement_word};
 use fmp_cli_hints::put_near;
-use fmp_config::{ConfigFault, ConfigKind};
+use fmp_config::ConfigKind;
 use fmp_config_statements::{Item, StatementName, find_statement};
 use fmp_out::Text;
 use std::alloc::{AllocError, Global};
@@ -121,40 +117,30 @@ const MISPLACED: &[u8] =
 
 /// Adds what is told of a token that does not fit: that a `;` or a `}` stands where nothing is open, that a statement stands at the
 /// wrong place, or which word has to stand there.
-fn put_syntax_hint(out: &mut Text, text: &[u8], place: usize, word: &[u8])
-    requires within { place ≤ length text.now }
-    requires few { length text.now ≤ most_bytes }
-{
-    if is_stray(text, place) {
+fn put_syntax_hint(out: &mut Text, place: &Place<'_>) {
+    if place.is_stray() {
         out.put(STRAY);
-    } else if is_misplaced(text, place, word) {
+    } else if place.is_misplaced() {
         out.put(MISPLACED);
     } else {
-        put_item(out, item_in(&text[..place]));
+        put_item(out, place.item());
     }
 }
 
-/// Adds what is told of the word at a place, with this fault.
+/// Adds what is told of the word at a place.
 pub(crate) fn put_word_hint(
     alloc: Global,
     out: &mut Text,
-    text: &[u8],
-    place: usize,
-    fault: &ConfigFault,
-) -> Result<(), AllocError>
-    requires within { place ≤ length text.now }
-    requires few { length text.now ≤ most_bytes }
-{
-    let word = fault.word.as_bytes();
-    match fault.kind {
-        ConfigKind::Syntax => put_syntax_hint(out, text, place, word),
-        ConfigKind::NameTaken => put_taken_hint(out, &text[..place], word),
-        ConfigKind::BadAttribute => {
-            put_attribute_hint(alloc, out, statement_at(text, place, word), word)?;
-        }
+    place: &Place<'_>,
+) -> Result<(), AllocError> {
+    let word = place.word();
+    match place.kind() {
+        ConfigKind::Syntax => put_syntax_hint(out, place),
+        ConfigKind::NameTaken => put_taken_hint(out, place.head(), word),
+        ConfigKind::BadAttribute => put_attribute_hint(alloc, out, place.statement(), word)?,
         ConfigKind::Unsupported => put_statement_hint(alloc, out, word)?,
-        ConfigKind::UnknownClass => put_near(out, near_class(alloc, &text[..place], word)?),
-        ConfigKind::OutOfRange => put_number_hint(out, text, place),
+        ConfigKind::UnknownClass => put_near(out, near_class(alloc, place.head(), word)?),
+        ConfigKind::OutOfRange => put_number_hint(out, place),
         ConfigKind::TooMany => out.put(many_words(word)),
         _ => {}
     }

@@ -18,8 +18,8 @@ mod functions;
 mod hints;
 mod numbers;
 mod opened;
+mod place;
 mod projects;
-mod statements;
 mod taken;
 
 pub use config::{config_context, config_spot};

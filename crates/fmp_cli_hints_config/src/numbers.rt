@@ -1,8 +1,7 @@
 //! Why a word of a configuration is no number there.
-ghost use Rattle.std.specs.Prelude.{◌≤◌, ◌<◌, ◌+◌, ◌^◌, length};
-ghost use Rattle.fmp_config.specs.Limits.{most_bytes};
+ghost use Rattle.std.specs.Prelude.{◌<◌, ◌+◌, ◌^◌, length};
 
-use crate::opened::item_in;
+use crate::place::Place;
 use fmp_bytes::{Class, is_identifier, split_prefix};
 use fmp_cli_help::statement_word;
 use fmp_config_statements::{Item, StatementName, numeral};
@@ -99,12 +98,9 @@ fn put_later(out: &mut Text, line: Option<u32>) {
 }
 
 /// Adds what is told of a name where a number has to stand, before or after its `#define`.
-fn put_named(out: &mut Text, text: &[u8], place: usize, word: &[u8])
-    requires within { place ≤ length text.now }
-    requires few { length text.now ≤ most_bytes }
-{
-    let before = defined_line(&text[..place], word);
-    let anywhere = defined_line(text, word);
+fn put_named(out: &mut Text, place: &Place<'_>, word: &[u8]) {
+    let before = defined_line(place.head(), word);
+    let anywhere = defined_line(place.text(), word);
     if before.is_none() && anywhere.is_some() {
         put_later(out, anywhere);
     } else if before.is_none() && is_processor_word(word) {
@@ -131,16 +127,13 @@ fn put_field(out: &mut Text, item: Option<(StatementName, Item)>) {
 }
 
 /// Adds what is told of the word at a place of a configuration, where it is no number that may stand there.
-pub(crate) fn put_number_hint(out: &mut Text, text: &[u8], place: usize)
-    requires within { place ≤ length text.now }
-    requires few { length text.now ≤ most_bytes }
-{
-    let (word, _rest) = split_prefix(Class::Word, &text[place..]);
+pub(crate) fn put_number_hint(out: &mut Text, place: &Place<'_>) {
+    let (word, _rest) = split_prefix(Class::Word, place.rest());
     if is_identifier(word) {
-        put_named(out, text, place, word);
+        put_named(out, place, word);
     } else if numeral(word).is_none() {
         out.put(DIGITS);
     } else {
-        put_field(out, item_in(&text[..place]));
+        put_field(out, place.item());
     }
 }

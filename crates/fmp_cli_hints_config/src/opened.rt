@@ -1,12 +1,10 @@
-//! The statement that is open at a place of a configuration, and the mark that has to follow there.
-ghost use Rattle.std.specs.Prelude.{◌≡◌, ◌≤◌, ◌<◌, ◌+◌, ◌^◌, length, IfSome};
-ghost use Rattle.fmp_config.specs.Limits.{most_bytes};
+//! The statement that is open behind a token of a configuration, and what has to follow there.
+ghost use Rattle.std.specs.Prelude.{◌≡◌, ◌≤◌, ◌<◌, ◌+◌, ◌^◌, IfSome};
 ghost use Rattle.fmp_cli_hints_config.specs.Opened as spec;
 ghost use Rattle.fmp_config_statements.specs.Parts.{depth_of};
 
-use fmp_bytes::{Class, following};
-use fmp_config_statements::{ConfigKind, Item, Part, Scan, StatementName, find_statement};
-use fmp_config_tokens::{Lexer, Token, TokenKind};
+use fmp_config_statements::{Item, Part, Scan, StatementName, find_statement};
+use fmp_config_tokens::{Token, TokenKind};
 use std::marker::Model;
 
 /// A statement that is open: what has to follow of the part that is being read, and the parts after it.
@@ -110,20 +108,6 @@ pub(crate) fn after_token(inside: bool, opened: Option<Opened>, token: &Token<'_
     }
 }
 
-/// The statement that is open at the end of a text.
-fn opened_in(text: &[u8]) -> Option<Opened>
-    requires { length text.now + 1 < 2 ^ 32 }
-{
-    let mut lexer = Lexer::new(text);
-    let mut opened = None;
-    let mut inside = false;
-    while let Some(token) = lexer.next_token() {
-        opened = after_token(inside, opened, &token);
-        inside = is_inside(inside, &token);
-    }
-    opened
-}
-
 /// The byte that the first of these parts is.
 fn first_mark(rest: &[Part]) -> Option<u8> {
     match rest {
@@ -144,15 +128,6 @@ fn mark_at(scan: Scan, rest: &[Part]) -> Option<u8> {
     }
 }
 
-/// The statement that is open at the end of a text, and the byte that has to follow, where it has to be a byte.
-fn missing_in(text: &[u8]) -> Option<(StatementName, u8)>
-    requires { length text.now + 1 < 2 ^ 32 }
-{
-    let opened = opened_in(text)?;
-    let byte = mark_at(opened.scan, opened.rest)?;
-    Some((opened.name, byte))
-}
-
 /// The word that the first of these parts begins with.
 fn first_item(rest: &[Part]) -> Option<Item> {
     match rest {
@@ -167,6 +142,28 @@ fn item_at(scan: Scan, rest: &[Part]) -> Option<Item> {
         Scan::One(item) | Scan::Next(_, item) => Some(item),
         Scan::Nothing => first_item(rest),
         _ => None,
+    }
+}
+
+/// The open statement, and the byte that has to follow in it, where it has to be a byte.
+pub(crate) fn missing_in(opened: &Option<Opened>) -> Option<(StatementName, u8)> {
+    match opened {
+        Some(opened) => {
+            let byte = mark_at(opened.scan, opened.rest)?;
+            Some((opened.name, byte))
+        }
+        None => None,
+    }
+}
+
+/// The open statement, and the word that has to follow in it, where it has to be a word.
+pub(crate) fn item_in(opened: &Option<Opened>) -> Option<(StatementName, Item)> {
+    match opened {
+        Some(opened) => {
+            let item = item_at(opened.scan, opened.rest)?;
+            Some((opened.name, item))
+        }
+        None => None,
     }
 }
 
@@ -187,55 +184,4 @@ pub(crate) fn awaits_name(opened: &Option<Opened>) -> bool {
         Some(opened) => matches!(item_at(opened.scan, opened.rest), Some(Item::Name)),
         None => false,
     }
-}
-
-/// Whether a `;` or a `}` stands at a place where no statement is open.
-pub(crate) fn is_stray(text: &[u8], place: usize) -> bool
-    requires within { place ≤ length text.now }
-    requires few { length text.now ≤ most_bytes }
-{
-    let rest = &text[place..];
-    (following(b';', rest).is_some() || following(b'}', rest).is_some())
-        && opened_in(&text[..place]).is_none()
-}
-
-/// Whether the first word of a statement stands at a place where no statement is open.
-pub(crate) fn is_misplaced(text: &[u8], place: usize, word: &[u8]) -> bool
-    requires within { place ≤ length text.now }
-    requires few { length text.now ≤ most_bytes }
-{
-    find_statement(word).is_some() && opened_in(&text[..place]).is_none()
-}
-
-/// The statement that is open at the end of a text, and the word that has to follow, where it has to be a word.
-pub(crate) fn item_in(text: &[u8]) -> Option<(StatementName, Item)>
-    requires { length text.now + 1 < 2 ^ 32 }
-{
-    let opened = opened_in(text)?;
-    let item = item_at(opened.scan, opened.rest)?;
-    Some((opened.name, item))
-}
-
-/// The statement that a token at a place does not go on with, and the byte that has to stand there in its place.
-pub(crate) fn missing_at(text: &[u8], place: usize, kind: ConfigKind) -> Option<(StatementName, u8)>
-    requires within { place ≤ length text.now }
-    requires few { length text.now ≤ most_bytes }
-{
-    match kind {
-        ConfigKind::Syntax => missing_in(&text[..place]),
-        _ => None,
-    }
-}
-
-/// The place after the last byte that is no blank.
-pub(crate) fn end_of_text(text: &[u8]) -> usize
-    ensures { result ≤ length text.now }
-{
-    let mut end = 0;
-    for (index, byte) in text.iter().enumerate() {
-        if !Class::Space.has(*byte) {
-            end = index + 1;
-        }
-    }
-    end
 }

@@ -35,15 +35,16 @@ impl Work for Answering {
     }
 }
 
-/// Opens both texts, and runs over the events as they come.
+/// Opens both texts, and runs over the events as they come. What the form of faults wants is kept of them.
 fn streamed<D: Desk, R: Work>(
     desk: &D,
     paths: &Paths<'_>,
+    fault_form: FaultForm,
     coloured: bool,
     work: &mut R,
 ) -> Result<R::Done, Ending> {
     let (config, events) = both_opened(desk, paths)?;
-    let mut events = LineKeeper::new(desk.alloc(), events);
+    let mut events = LineKeeper::new(desk.alloc(), events, fault_form.shows_place(paths));
     let mut text = ReadSource::new(&mut events);
     let run = written(desk, config.as_slice(), &mut text, coloured, work);
     drop(text);
@@ -51,7 +52,7 @@ fn streamed<D: Desk, R: Work>(
         run,
         Kept {
             config,
-            text: events.into_last(),
+            text: events.into_kept(),
         },
     )
 }
@@ -64,14 +65,13 @@ pub fn called<D: Desk>(
     colour: Colour,
     line: LineForm,
 ) -> Status {
+    let Some(coloured) = is_coloured(desk, colour) else {
+        return uncoloured(desk);
+    };
     let text = TextForm::Events;
-    match is_coloured(desk, colour) {
-        Some(coloured) => {
-            let run = streamed(desk, paths, coloured, &mut Answering { report });
-            ended(desk, paths, FaultForm { line, text }, run)
-        }
-        None => uncoloured(desk),
-    }
+    let fault_form = FaultForm { line, text };
+    let run = streamed(desk, paths, fault_form, coloured, &mut Answering { report });
+    ended(desk, paths, fault_form, run)
 }
 
 /// Writes what the events change of the things with these names.
@@ -122,11 +122,12 @@ pub fn lived<D: Desk>(
     let Some(coloured) = is_coloured(desk, colour) else {
         return uncoloured(desk);
     };
-    let run = streamed(desk, paths, coloured, &mut Following { names });
+    let text = TextForm::Events;
+    let fault_form = FaultForm { line, text };
+    let run = streamed(desk, paths, fault_form, coloured, &mut Following { names });
     if let Err(Ending::Unnamed(index, config)) = &run {
         let name = names.split(',').nth(*index).unwrap_or("");
         report_unnamed(desk, paths.config, config.as_slice(), name);
     }
-    let text = TextForm::Events;
-    ended(desk, paths, FaultForm { line, text }, run)
+    ended(desk, paths, fault_form, run)
 }

@@ -2,8 +2,8 @@
 use crate::questions::asked;
 use fmp_cli::{ExploreRequest, Paths};
 use fmp_cli_desk::{
-    Desk, Ending, FaultForm, ProgressLine, Work, both_read, put_lines, replied, report_begun,
-    third_allowed, trace_read, worked, worked_over,
+    Desk, Ending, FaultForm, ProgressLine, Work, begun_read, both_read, put_lines, replied,
+    report_begun, third_allowed, worked, worked_over,
 };
 use fmp_cli_diagnostics::LineForm;
 use fmp_cli_faults::bounds_lines;
@@ -11,7 +11,7 @@ use fmp_cli_hints::TextForm;
 use fmp_cli_notes::{About, note_extent, note_stayed, note_unmade, note_unshown};
 use fmp_cli_runs::{search, search_forever, search_from, search_most};
 use fmp_run_events::{MemSource, RunFault, Sink, Source, Status};
-use fmp_run_explore::{ExploreFault, Finding, Outcome, Progress};
+use fmp_run_explore::{ExploreFault, Outcome, Progress};
 use fmp_run_explore_from::FromFault;
 use fmp_run_forever::Stayed;
 use fmp_search_question::is_lasting;
@@ -33,10 +33,7 @@ fn report_outcome<D: Desk>(
     line: &mut ProgressLine<'_, D>,
 ) {
     let about = about_one(alloc);
-    if let Some(extent) = outcome.extent {
-        let all = matches!(outcome.finding, Finding::Never);
-        note_extent(line, about, extent, all);
-    }
+    note_extent(line, about, outcome, request);
     line.allow_as_much();
     note_unshown(line, about, outcome, request);
     note_unmade(line, about, outcome, request.bounds);
@@ -77,6 +74,7 @@ impl<'a, 'w, 'p, P: Progress> Work for Searching<'a, 'w, 'p, P> {
 fn explore<D: Desk>(
     desk: &D,
     paths: &Paths<'_>,
+    fault_form: FaultForm,
     request: &ExploreRequest<'_>,
     progress: &mut ProgressLine<'_, D>,
 ) -> Result<Status, Ending> {
@@ -84,7 +82,7 @@ fn explore<D: Desk>(
         request,
         progress: &mut *progress,
     };
-    let outcome = worked(desk, paths, &mut work)?;
+    let outcome = worked(desk, paths, fault_form, &mut work)?;
     report_outcome(desk.alloc(), &outcome, request, progress);
     Ok(outcome.finding.status())
 }
@@ -155,6 +153,7 @@ impl<'a, 'w, 'p, P: Progress> Work for SearchingForever<'a, 'w, 'p, P> {
 fn explore_forever<D: Desk>(
     desk: &D,
     paths: &Paths<'_>,
+    fault_form: FaultForm,
     request: &ExploreRequest<'_>,
     progress: &mut ProgressLine<'_, D>,
 ) -> Result<Status, Ending> {
@@ -162,9 +161,9 @@ fn explore_forever<D: Desk>(
         request,
         progress: &mut *progress,
     };
-    let stayed = worked(desk, paths, &mut work)?;
+    let stayed = worked(desk, paths, fault_form, &mut work)?;
     progress.allow_as_much();
-    note_stayed(progress, about_one(desk.alloc()), &stayed, request.bounds);
+    note_stayed(progress, about_one(desk.alloc()), &stayed, request);
     Ok(stayed.staying.status())
 }
 
@@ -205,13 +204,14 @@ impl<'b, 'a, 'w, 'p, P: Progress> Work for SearchingFrom<'b, 'a, 'w, 'p, P> {
 fn explore_from<D: Desk>(
     desk: &D,
     paths: &Paths<'_>,
+    fault_form: FaultForm,
     request: &ExploreRequest<'_>,
     begun: &str,
     progress: &mut ProgressLine<'_, D>,
 ) -> Result<Status, Ending> {
     third_allowed(paths, begun)?;
-    let (texts, scripts) = both_read(desk, paths)?;
-    let begun = trace_read(desk, begun)?;
+    let (texts, scripts) = both_read(desk, paths, fault_form)?;
+    let begun = begun_read(desk, &texts, begun)?;
     let mut work = SearchingFrom {
         begun: begun.as_slice(),
         request,
@@ -232,19 +232,25 @@ fn searched<D: Desk>(
         return asked(desk, paths, fault_form, request, file, progress);
     }
     if let Some(begun) = request.from {
-        return explore_from(desk, paths, request, begun, progress);
+        return explore_from(desk, paths, fault_form, request, begun, progress);
     }
     if request.most {
-        return worked(desk, paths, &mut SearchingMost { request, progress });
+        return worked(
+            desk,
+            paths,
+            fault_form,
+            &mut SearchingMost { request, progress },
+        );
     }
     if is_lasting(request.question.as_bytes()) {
-        return explore_forever(desk, paths, request, progress);
+        return explore_forever(desk, paths, fault_form, request, progress);
     }
-    explore(desk, paths, request, progress)
+    explore(desk, paths, fault_form, request, progress)
 }
 
 /// How a search ends the program. A fault is reported.
 pub fn explored<D: Desk>(desk: &D, request: &ExploreRequest<'_>, line: LineForm) -> Status {
+    let request = &request.with_room(desk.free_memory());
     let text = TextForm::Scripts;
     let paths = Paths {
         config: request.config,

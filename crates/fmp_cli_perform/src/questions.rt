@@ -2,9 +2,9 @@
 use crate::lists::put_out;
 use fmp_cli::{ExploreRequest, FEW_TICKS, Paths};
 use fmp_cli_desk::{
-    Desk, Ending, FaultForm, Kept, ProgressLine, both_opened, copy_of, file_put, folder_made,
-    put_lines, report_beside, report_question_beside, settled, text_read, third_allowed, trace_put,
-    trace_read,
+    Desk, Ending, FaultForm, Kept, KeptText, ProgressLine, both_opened, file_put, folder_made,
+    kept, put_lines, report_beside, report_question_beside, settled, text_read, third_allowed,
+    trace_put, trace_read,
 };
 use fmp_cli_diagnostics::{LineForm, Spot};
 use fmp_cli_faults::{asked_line, question_diagnostic, row_line};
@@ -18,7 +18,7 @@ use fmp_cli_runs::{reply_to, status_of};
 use fmp_config::Config;
 use fmp_run_events::{MemSource, Status};
 use fmp_run_explore::{Outcome, Progress};
-use fmp_run_texts::{ScriptReader, texts_from};
+use fmp_run_texts::{RunFault, ScriptReader, texts_from};
 use fmp_search_question::{QuestionFault, ReadFault, is_lasting, read_lasting, read_question};
 use fmp_text::MOST_BYTES;
 use std::alloc::{AllocError, Global};
@@ -54,30 +54,22 @@ enum Misfit {
 fn texts_of<D: Desk>(desk: &D, asking: &Asking<'_>) -> Result<Texts, Ending> {
     third_allowed(&asking.paths, asking.file)?;
     let (config, scripts) = both_opened(desk, &asking.paths)?;
+    let scripts = text_read(desk.alloc(), scripts)?;
     let questions = trace_read(desk, asking.file)?;
-    match text_read(desk.alloc(), scripts) {
-        Ok(scripts) => Ok(Texts {
-            config,
-            scripts,
-            questions,
-        }),
-        Err(fault) => Err(Ending::Faulty(fault, Kept { config, text: None })),
-    }
+    Ok(Texts {
+        config,
+        scripts,
+        questions,
+    })
 }
 
 /// The configuration, where it has no fault and the scripts have none.
-fn config_of(alloc: Global, texts: &Texts) -> Result<Config, Ending> {
+fn config_of(alloc: Global, texts: &Texts) -> Result<Config, RunFault> {
     let mut config = MemSource::new(texts.config.as_slice());
     let mut scripts = MemSource::new(texts.scripts.as_slice());
     match texts_from(alloc, &ScriptReader, &mut config, &mut scripts) {
         Ok((config, _)) => Ok(config),
-        Err(fault) => {
-            let kept = Kept {
-                config: Vec::from_slice(alloc, texts.config.as_slice())?,
-                text: copy_of(alloc, texts.scripts.as_slice()),
-            };
-            Err(Ending::Faulty(fault, kept))
-        }
+        Err(fault) => Err(fault),
     }
 }
 
@@ -166,8 +158,8 @@ fn report_misfit<D: Desk>(
     }
 }
 
-/// Reports the fault of a row that is no question.
-fn report_row<D: Desk>(desk: &D, asking: &Asking<'_>, texts: &Texts, fault: RowFault) {
+/// Reports the fault of a row that is no question, and how that ends the program.
+fn report_row<D: Desk>(desk: &D, asking: &Asking<'_>, texts: &Texts, fault: RowFault) -> Status {
     let alloc = desk.alloc();
     let form = asking.fault_form.line;
     put_lines(
@@ -181,6 +173,22 @@ fn report_row<D: Desk>(desk: &D, asking: &Asking<'_>, texts: &Texts, fault: RowF
             row_context(alloc, texts.questions.as_slice(), line).ok(),
         );
     }
+    Status::Faulty
+}
+
+/// What is wrong with the first question that has something wrong, and its row.
+fn first_misfit<'r>(
+    alloc: Global,
+    config: &Config,
+    asking: &Asking<'_>,
+    rows: &'r Rows,
+) -> Result<Option<(&'r Row, Misfit)>, AllocError> {
+    for row in rows.rows.iter() {
+        if let Some(misfit) = misfit_of(alloc, config, &asking.request, row.question())? {
+            return Ok(Some((row, misfit)));
+        }
+    }
+    Ok(None)
 }
 
 /// Judges all questions before the first is searched for. Reports the first fault of their text, and how that ends the program, if there is one.
@@ -191,17 +199,15 @@ fn misfits<D: Desk>(
     rows: &Rows,
 ) -> Result<Option<Status>, Ending> {
     let alloc = desk.alloc();
-    let config = config_of(alloc, texts)?;
-    for row in rows.rows.iter() {
-        if let Some(misfit) = misfit_of(alloc, &config, &asking.request, row.question())? {
-            return Ok(Some(report_misfit(desk, asking, texts, row, misfit)));
-        }
+    let config = settled(config_of(alloc, texts), false)?;
+    match first_misfit(alloc, &config, asking, rows) {
+        Ok(Some((row, misfit))) => Ok(Some(report_misfit(desk, asking, texts, row, misfit))),
+        Ok(None) => match rows.fault {
+            Some(fault) => Ok(Some(report_row(desk, asking, texts, fault))),
+            None => Ok(None),
+        },
+        Err(error) => Err(Ending::from(error)),
     }
-    if let Some(fault) = rows.fault {
-        report_row(desk, asking, texts, fault);
-        return Ok(Some(Status::Faulty));
-    }
-    Ok(None)
 }
 
 /// The answer to a question, whose trace is written where that is asked for. A question that is not begun in time is not searched for.
@@ -287,8 +293,11 @@ fn report_unmade<D: Desk>(
         alloc: desk.alloc(),
         asked: "questions",
     };
-    for outcome in outcomes.iter().flatten().take(1) {
-        note_unmade(progress, about, outcome, asking.request.bounds);
+    for outcome in outcomes {
+        if let Some(outcome) = outcome {
+            note_unmade(progress, about, outcome, asking.request.bounds);
+            return;
+        }
     }
 }
 
@@ -325,6 +334,55 @@ fn make_room<D: Desk>(desk: &D, request: &ExploreRequest<'_>) -> Result<(), Endi
     Ok(())
 }
 
+/// Writes the report that is asked for.
+fn put_report<D: Desk>(
+    desk: &D,
+    request: &ExploreRequest<'_>,
+    replies: &[Reply],
+) -> Result<(), Ending> {
+    if let Some(path) = request.junit {
+        let text = junit_text(desk.alloc(), replies)?;
+        file_put(desk, path, text.as_slice())?;
+    }
+    Ok(())
+}
+
+/// Searches for each question, and reports the answers, and beside them what is known of all orders.
+fn all_answered<D: Desk>(
+    desk: &D,
+    asking: &Asking<'_>,
+    texts: &Texts,
+    rows: Vec<Row>,
+    progress: &mut ProgressLine<'_, D>,
+) -> Result<Status, Ending> {
+    let mut outcomes = Vec::new(desk.alloc());
+    let replies = replies_to(desk, asking, texts, rows, &mut outcomes, progress)?;
+    put_report(desk, &asking.request, replies.as_slice())?;
+    report_unshown(
+        desk,
+        asking,
+        replies.as_slice(),
+        outcomes.as_slice(),
+        progress,
+    );
+    Ok(status_of(judgement_of(replies.as_slice())))
+}
+
+/// Judges all questions, makes what is to be written, and searches for each.
+fn judged<D: Desk>(
+    desk: &D,
+    asking: &Asking<'_>,
+    texts: &Texts,
+    progress: &mut ProgressLine<'_, D>,
+) -> Result<Status, Ending> {
+    let rows = read_rows(desk.alloc(), texts.questions.as_slice())?;
+    if let Some(status) = misfits(desk, asking, texts, &rows)? {
+        return Ok(status);
+    }
+    make_room(desk, &asking.request)?;
+    all_answered(desk, asking, texts, rows.rows, progress)
+}
+
 /// Searches for each question of the text at a path, and reports the answers. All are judged before the first search, and what is to be written is
 /// made then.
 pub fn asked<D: Desk>(
@@ -345,23 +403,10 @@ pub fn asked<D: Desk>(
     if texts.questions.len() > MOST_BYTES {
         return Err(Ending::LongTrace);
     }
-    let rows = read_rows(desk.alloc(), texts.questions.as_slice())?;
-    if let Some(status) = misfits(desk, &asking, &texts, &rows)? {
-        return Ok(status);
-    }
-    make_room(desk, request)?;
-    let mut outcomes = Vec::new(desk.alloc());
-    let replies = replies_to(desk, &asking, &texts, rows.rows, &mut outcomes, progress)?;
-    if let Some(path) = request.junit {
-        let text = junit_text(desk.alloc(), replies.as_slice())?;
-        file_put(desk, path, text.as_slice())?;
-    }
-    report_unshown(
-        desk,
-        &asking,
-        replies.as_slice(),
-        outcomes.as_slice(),
-        progress,
-    );
-    Ok(status_of(judgement_of(replies.as_slice())))
+    let run = judged(desk, &asking, &texts, progress);
+    let kept_texts = Kept {
+        config: texts.config,
+        text: KeptText::whole(texts.scripts),
+    };
+    kept(run, kept_texts)
 }

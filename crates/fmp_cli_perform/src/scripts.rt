@@ -5,7 +5,7 @@ use crate::colours::{is_coloured, uncoloured};
 use fmp_cli::{Paths, Seeds, SmpRequest};
 use fmp_cli_colour::ColourSink;
 use fmp_cli_desk::{
-    Desk, Ending, FaultForm, ProgressLine, both_read, kept, put_lines, replied, settled, whole,
+    Desk, Ending, FaultForm, Kept, ProgressLine, both_read, kept, put_lines, replied, settled,
 };
 use fmp_cli_diagnostics::LineForm;
 use fmp_cli_faults::{LASTING, SeedMisfit, Waiting, waiting_lines};
@@ -16,7 +16,6 @@ use fmp_run_events::{MemSource, Sink, Source, Status, WriteSink};
 use fmp_run_explore::ExploreFault;
 use fmp_run_seeds::{SeedProgress, SeedSearch};
 use fmp_search_question::is_lasting;
-use fmp_text::MOST_BYTES;
 use std::alloc::Global;
 use std::sync::Wait;
 use std::thread::Threads;
@@ -43,6 +42,16 @@ enum SeedReported {
 }
 
 impl SeedReported {
+    /// What is reported of the runs of many seeds, where a question was asked or was not.
+    fn of(search: &SeedSearch, asked: bool) -> SeedReported {
+        match search {
+            SeedSearch::Found(found) if asked => SeedReported::Shown(found.seed, found.line),
+            SeedSearch::Found(found) => SeedReported::Found(found.seed),
+            SeedSearch::Passed => SeedReported::Nothing,
+            SeedSearch::Ended(seed) => SeedReported::Ended(*seed),
+        }
+    }
+
     /// The line that reports it.
     fn line(self, alloc: Global) -> Text {
         let mut text = Text::new(alloc);
@@ -80,13 +89,10 @@ impl Outcome {
     /// That of the runs of many seeds, where a question was asked or was not.
     fn of_seeds(alloc: Global, search: SeedSearch, asked: bool) -> Outcome {
         let status = search.status(asked);
-        let (seed, waiting) = match search {
-            SeedSearch::Found(found) if asked => {
-                (SeedReported::Shown(found.seed, found.line), found.waiting)
-            }
-            SeedSearch::Found(found) => (SeedReported::Found(found.seed), found.waiting),
-            SeedSearch::Passed => (SeedReported::Nothing, Vec::new(alloc)),
-            SeedSearch::Ended(seed) => (SeedReported::Ended(seed), Vec::new(alloc)),
+        let seed = SeedReported::of(&search, asked);
+        let waiting = match search {
+            SeedSearch::Found(found) => found.waiting,
+            SeedSearch::Passed | SeedSearch::Ended(_) => Vec::new(alloc),
         };
         Outcome {
             status,
@@ -96,22 +102,21 @@ impl Outcome {
     }
 }
 
-/// Reports what became of a run: the seed, with the line that shows what is asked, and then the tasks that wait. As compilers have them each is reported at its
-/// script, for which the scripts are read again.
-fn report_outcome<D: Desk>(desk: &D, path: &str, form: LineForm, config: &[u8], outcome: &Outcome) {
+/// Reports what became of a run over these texts: the seed, with the line that shows what is asked, and then the tasks that wait. As compilers have them each is
+/// reported at its script.
+fn report_outcome<D: Desk>(desk: &D, path: &str, form: LineForm, texts: &Kept, outcome: &Outcome) {
     let alloc = desk.alloc();
     put_lines(desk, outcome.seed.line(alloc));
     let waiting = Waiting {
         lines: str::from_utf8(outcome.waiting.as_slice()).unwrap_or(""),
         status: outcome.status,
-        config,
+        config: texts.config.as_slice(),
     };
-    let scripts = match form {
-        LineForm::Gcc if !waiting.lines.is_empty() => whole(desk, path, MOST_BYTES),
-        _ => None,
+    let scripts: &[u8] = match texts.text.lines() {
+        Some(lines) => lines.text,
+        None => &[],
     };
-    let scripts = scripts.unwrap_or(Vec::new(alloc));
-    let lines = waiting_lines(alloc, form, path, waiting, scripts.as_slice());
+    let lines = waiting_lines(alloc, form, path, waiting, scripts);
     put_lines(desk, lines);
 }
 
@@ -211,10 +216,10 @@ fn followed<D: Desk, T: Threads + Wait + Sync, P: SeedProgress>(
     paths: &Paths<'_>,
     request: &SmpRequest<'_>,
     coloured: bool,
-    form: LineForm,
+    fault_form: FaultForm,
     progress: &mut P,
 ) -> Result<Status, Ending> {
-    let (texts, mut scripts) = both_read(desk, paths)?;
+    let (texts, mut scripts) = both_read(desk, paths, fault_form)?;
     let config = texts.config.as_slice();
     match written(
         desk,
@@ -226,7 +231,7 @@ fn followed<D: Desk, T: Threads + Wait + Sync, P: SeedProgress>(
         progress,
     ) {
         Ok(outcome) => {
-            report_outcome(desk, paths.text, form, texts.config.as_slice(), &outcome);
+            report_outcome(desk, paths.text, fault_form.line, &texts, &outcome);
             Ok(outcome.status)
         }
         Err(ending) => kept(Err(ending), texts),
@@ -247,6 +252,7 @@ fn played<D: Desk, T: Threads + Wait + Sync>(
         text: request.scripts,
         context: request.context.then_some(text),
     };
+    let fault_form = FaultForm { line, text };
     let mut progress = ProgressLine::new(desk, request.progress, request.seconds);
     let run = followed(
         desk,
@@ -254,12 +260,12 @@ fn played<D: Desk, T: Threads + Wait + Sync>(
         &paths,
         request,
         coloured,
-        line,
+        fault_form,
         &mut progress,
     );
     SeedProgress::end(&mut progress);
     let question = request.find.unwrap_or("");
-    replied(desk, &paths, FaultForm { line, text }, question, run)
+    replied(desk, &paths, fault_form, question, run)
 }
 
 /// How a run of processors that follow scripts ends the program. A fault is reported, and what is wrong with the request.

@@ -55,14 +55,9 @@ pub fn shrunk<D: Desk>(desk: &D, request: &ShrinkRequest<'_>, line: LineForm) ->
         text: request.events,
         context: request.context.then_some(text),
     };
-    let run = worked(desk, &paths, &mut Shrinking { request });
-    let status = replied(
-        desk,
-        &paths,
-        FaultForm { line, text },
-        request.question,
-        run,
-    );
+    let fault_form = FaultForm { line, text };
+    let run = worked(desk, &paths, fault_form, &mut Shrinking { request });
+    let status = replied(desk, &paths, fault_form, request.question, run);
     if status == Status::Different {
         report_unshown(desk, paths.text);
     }

@@ -39,11 +39,11 @@ fn trace<D: Desk>(
     desk: &D,
     paths: &Paths<'_>,
     asked: Asked,
-    line: LineForm,
+    fault_form: FaultForm,
 ) -> Result<Status, Ending> {
-    let verdict = worked(desk, paths, &mut Judging { asked })?;
+    let verdict = worked(desk, paths, fault_form, &mut Judging { asked })?;
     if let Verdict::No(number) = verdict {
-        let lines = differs_lines(desk.alloc(), line, paths.text, asked, number);
+        let lines = differs_lines(desk.alloc(), fault_form.line, paths.text, asked, number);
         put_lines(desk, lines);
     }
     Ok(Status::of_verdict(verdict))
@@ -51,9 +51,10 @@ fn trace<D: Desk>(
 
 /// How judging a trace ends the program. A fault is reported.
 pub fn traced<D: Desk>(desk: &D, paths: &Paths<'_>, asked: Asked, line: LineForm) -> Status {
-    let run = trace(desk, paths, asked, line);
     let text = TextForm::Trace;
-    ended(desk, paths, FaultForm { line, text }, run)
+    let fault_form = FaultForm { line, text };
+    let run = trace(desk, paths, asked, fault_form);
+    ended(desk, paths, fault_form, run)
 }
 
 /// Judges a partial trace, and writes what is asked of it.
@@ -91,9 +92,10 @@ fn partial<D: Desk>(
     desk: &D,
     paths: &Paths<'_>,
     asked: Partly,
-    line: LineForm,
+    fault_form: FaultForm,
 ) -> Result<Status, Ending> {
-    let shown = worked(desk, paths, &mut JudgingPartly { asked })?;
+    let shown = worked(desk, paths, fault_form, &mut JudgingPartly { asked })?;
+    let line = fault_form.line;
     put_lines(desk, partly_lines(desk.alloc(), line, paths, asked, &shown));
     Ok(shown.verdict.status())
 }
@@ -105,9 +107,10 @@ pub fn partly_traced<D: Desk>(
     asked: Partly,
     line: LineForm,
 ) -> Status {
-    let run = partial(desk, paths, asked, line);
     let text = TextForm::Partial;
-    ended(desk, paths, FaultForm { line, text }, run)
+    let fault_form = FaultForm { line, text };
+    let run = partial(desk, paths, asked, fault_form);
+    ended(desk, paths, fault_form, run)
 }
 
 /// Writes GTKWave's save file for a configuration.

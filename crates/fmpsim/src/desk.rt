@@ -1,11 +1,14 @@
 //! The desk of the program: files, standard input, standard output, standard error and the clock of the system.
-use fmp_cli_desk::{Desk, STANDARD_INPUT};
+use fmp_cli_desk::{Desk, STANDARD_INPUT, available_in, text_read};
 use std::alloc::Global;
 use std::env::VarError;
 use std::fmt::Display;
 use std::io::{Input, Read, Write};
 use std::rt::{Clock, Env, Files};
 use std::{env, fs, io};
+
+/// Where Linux says how much memory is free.
+const MEMORY: &str = "/proc/meminfo";
 
 /// A text that is read as it comes: from a file, or from standard input.
 #[derive(Drop)]
@@ -106,5 +109,10 @@ where
         let now = self.rt.monotonic().ok()?;
         let seconds = now.as_secs().saturating_mul(1000);
         Some(seconds.saturating_add(u64::from(now.subsec_millis())))
+    }
+
+    fn free_memory(&self) -> Option<u64> {
+        let text = text_read(self.alloc(), self.open(MEMORY).ok()?).ok()?;
+        available_in(text.as_slice())
     }
 }

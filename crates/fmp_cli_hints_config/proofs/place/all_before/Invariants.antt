@@ -1,6 +1,6 @@
 use Rattle.std.proofs.Common.{◌+◌, ◌<◌, ◌^◌, length}
 use Rattle.fmp_cli_hints_config.specs.Opened.{depth_in}
-use Rattle.fmp_cli_hints_config.proofs.opened.opened_in.Given as goal
+use Rattle.fmp_cli_hints_config.proofs.place.all_before.Given as goal
 
 -- no more parentheses are open than tokens were read
 abbrev pub invariant-loop-token : goal.invariant-loop-token

@@ -1,5 +1,0 @@
-use Rattle.std.proofs.Common.{length}
-use Rattle.fmp_cli_hints_config.proofs.statements.last_statement.Given as goal
-
-abbrev pub decreases-loop-token : goal.decreases-loop-token
-decreases-loop-token l = length l.lexer.lexemes
