@@ -89,6 +89,16 @@ refused_lines() {
 	explore machine.cfg scripts.txt --ticks any --turns 1 --find end --drift 0
 	explore machine.cfg scripts.txt --ticks any --turns 1 --find end --places 0
 	explore machine.cfg scripts.txt --ticks any --turns 1 --find end --places 100000001
+	explore machine.cfg scripts.txt --memory 0
+	explore machine.cfg scripts.txt --memory 1
+	explore machine.cfg scripts.txt --memory 4X
+	explore machine.cfg scripts.txt --memory 4m
+	explore machine.cfg scripts.txt --memory M
+	explore machine.cfg scripts.txt --memory=
+	explore machine.cfg scripts.txt --memory 1023K
+	explore machine.cfg scripts.txt --memory 1025G
+	explore machine.cfg scripts.txt --memory 18446744073709551616K
+	explore machine.cfg scripts.txt --memory 1M --memory 1M
 	explore machine.cfg scripts.txt --most --find end
 	explore machine.cfg scripts.txt --most --from trace.txt
 	explore machine.cfg scripts.txt --most --questions machine.cfg

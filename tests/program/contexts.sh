@@ -99,6 +99,7 @@ text_from_a_pipe() {
     from=name.txt run 1 /dev/null "$(as_file printf '%s\n' 'fmpsim: -: line 2: E3 unknown name' '  act_tsk(T9)' '          ^' \
         '  expected: act_tsk(task)' "$task")" explore again.cfg - --find end --ticks 0 --turns 1 --context
     from=events.txt run 1 "$(as_file echo 1 P1 T1 tick taken)" "$(as_file echo '-:2:12: error: E3 unknown name')" --diagnostics=gcc calls "$machine" -
+    shown_from_anywhere
     lines_in_pieces
     sleep 900 > pipe.txt &
     run 1 /dev/null "$(as_file echo fmpsim: number.cfg: line 3: F7 value out of range)" check number.cfg pipe.txt
@@ -106,10 +107,45 @@ text_from_a_pipe() {
     wait
 }
 
-# A line at fault behind others that are gone, in events that come in pieces: after 30,000 comments of 20 bytes, and then one with 200,000 blanks before its
-# call, of which 100 bytes before the caret are shown. A line of more than 16 MiB is not kept.
+# Texts that are read whole show their lines alike from a file, a pipe and standard input: a trace, one that leaves out parts, scripts, and events of `shrink`.
+# The last scripts have more than 16 MiB of comments before them.
+shown_from_anywhere() {
+    local shown=$room/shown.told
+    printf '%s\n' 'fmpsim: cut.txt: line 1: E6 cut short' '  1 P1 T1 tick taken' '                    ^' \
+        '  End the last line with a line feed, and the last script with `end`.' > "$shown"
+    alike cut.txt "$shown" check "$machine" cut.txt --context
+    alike cut.txt "$(as_file echo cut.txt:1:19: error: E6 cut short)" check --show "$machine" cut.txt --diagnostics=gcc
+    printf '1 P1 T1 tick taken\n2 P1 T1 tack taken\n' > word.txt
+    alike word.txt "$(as_file echo word.txt:2:9: error: E2 bad word)" check --partial "$machine" word.txt --diagnostics=gcc
+    alike word.txt "$(as_file echo word.txt:2:9: error: E2 bad word)" view "$machine" word.txt --diagnostics=gcc
+    alike events.txt "$(as_file echo events.txt:2:12: error: E3 unknown name)" shrink "$machine" events.txt --find tick --diagnostics=gcc
+    printf '%s\n' 'fmpsim: name.txt: line 2: E3 unknown name' '  act_tsk(T9)' '          ^' '  expected: act_tsk(task)' "$task" > "$shown"
+    alike name.txt "$shown" smp again.cfg name.txt --ticks 0 --turns 1 --context
+    alike name.txt "$shown" explore again.cfg name.txt --ticks 0 --turns 1 --find end --context
+    { yes '# more' | head -n 3000000 && cat name.txt; } > far.txt
+    sed '1s/.*/fmpsim: far.txt: line 3000002: E3 unknown name/' "$shown" > "$shown.far"
+    alike far.txt "$shown.far" smp again.cfg far.txt --ticks 0 --turns 1 --context
+    rm far.txt
+}
+
+# alike PATH TOLD WORD..: with the text at this path the program on these words ends with status 1 and tells this, from whatever the text comes.
+alike() {
+    local words=("${@:3}") at
+    run 1 /dev/null "$2" "${words[@]}"
+    for at in "${!words[@]}"; do [ "${words[at]}" != "$1" ] || break; done
+    words[at]=-
+    sed "1s|$1:|-:|" "$2" > alike.told
+    from=$1 run 1 /dev/null alike.told "${words[@]}"
+    words[at]=pipe.txt
+    sed "1s|$1:|pipe.txt:|" "$2" > alike.told
+    cat "$1" > pipe.txt &
+    run 1 /dev/null alike.told "${words[@]}"
+    wait
+}
+
+# A line at fault behind others that are gone, in events that come in pieces: after 30,000 comments of 20 bytes, and then one with 200,000 or 17,000,000 blanks
+# before its call, of which 100 bytes before the caret are shown.
 lines_in_pieces() {
-    local advice='  Use the name of an object of the configuration, or a constant.'
     { yes '# nineteen bytes ..' | head -n 30000 && echo 'P1 act_tsk(T9)' && yes '# more' | head -n 30000; } > far.txt
     from=far.txt run 1 /dev/null "$(as_file printf '%s\n' 'fmpsim: -: line 30001: E3 unknown name' '  P1 act_tsk(T9)' '             ^' \
         '  expected: act_tsk(task)' "$task")" calls "$machine" - --context
@@ -118,14 +154,15 @@ lines_in_pieces() {
     from=far.txt run 1 /dev/null "$(as_file printf '%s\n' 'fmpsim: -: line 30001: E3 unknown name' "$(printf '..%92sact_tsk(T9)' '')" \
         "$(printf '%102s^' '')" '  expected: act_tsk(task)' "$task")" calls "$machine" - --context
     { echo '# one' && printf 'P1 %17000000sact_tsk(T9)\n' ''; } > far.txt
-    from=far.txt run 1 /dev/null "$(as_file printf '%s\n' 'fmpsim: -: line 2: E3 unknown name' "$advice")" calls "$machine" - --context
+    from=far.txt run 1 /dev/null "$(as_file printf '%s\n' 'fmpsim: -: line 2: E3 unknown name' "$(printf '..%92sact_tsk(T9)' '')" \
+        "$(printf '%102s^' '')" '  expected: act_tsk(task)' "$task")" calls "$machine" - --context
     rm far.txt
 }
 
 # Under a failed read stands which file it was and why, the first one that cannot be opened or read. Events and scripts from standard
 # input are no file, and a trace always is one.
 unread_with_causes() {
-    local missing='missing: No such file or directory (os error 2)'
+    local missing='missing: No such file or directory (os error 2)' words
     run 3 /dev/null "$(as_file printf 'fmpsim: read failed\n  %s\n' "$missing")" calls missing "$late/events.txt"
     run 3 /dev/null "$(as_file printf 'fmpsim: read failed\n  %s\n' "$missing")" calls --context missing "$late/events.txt"
     run 3 /dev/null "$(as_file printf 'fmpsim: read failed\n  %s\n' "$top: Is a directory (os error 21)")" check "$late/machine.cfg" "$top"
@@ -134,6 +171,13 @@ unread_with_causes() {
     from=again.txt run 3 /dev/null "$(as_file printf 'fmpsim: read failed\n  %s\n' "$missing")" smp missing - --ticks 0 --turns 1
     from=$late/trace.txt run 0 "$(as_file echo yes)" /dev/null check --context "$late/machine.cfg" -
     run 3 /dev/null "$(as_file printf 'fmpsim: read failed\n  %s\n' "$missing")" check --context missing -
+    # scripts that cannot be read come before a third text
+    for words in '--find end --from missing' '--questions missing'; do
+        # shellcheck disable=SC2086
+        run 3 /dev/null "$(as_file printf 'fmpsim: read failed\n  %s\n' "$top: Is a directory (os error 21)")" explore again.cfg "$top" --ticks 0 --turns 1 $words
+        # shellcheck disable=SC2086
+        run 3 /dev/null "$(as_file printf 'fmpsim: read failed\n  %s\n' "$missing")" explore again.cfg again.txt --ticks 0 --turns 1 $words
+    done
 }
 
 # Texts at their greatest length, and above it. The pipe has more than 1 GiB of comments.

@@ -63,11 +63,11 @@ differences_and_waits() {
     read -r _ _ seed < dead.seed
     run 7 dead.trace dead.errors "${words[@]}" --seed "$seed" --strict
     run 0 dead.trace "$(as_file sed 's/error/warning/' dead.errors)" "${words[@]}" --seed "$seed"
-    sed 's/dead.txt:[0-9]*: error/-: warning/' dead.errors > unplaced.errors
-    from=dead.txt run 0 dead.trace unplaced.errors "${words[@]/dead.txt/-}" --seed "$seed"
-    # nor is one looked for in a file that is called so
-    cp dead.txt ./-
-    from=dead.txt run 0 dead.trace unplaced.errors "${words[@]/dead.txt/-}" --seed "$seed"
+    # from standard input likewise, and no script is looked for in a file that is called so
+    sed 's/dead.txt:\([0-9]*\): error/-:\1: warning/' dead.errors > input.errors
+    from=dead.txt run 0 dead.trace input.errors "${words[@]/dead.txt/-}" --seed "$seed"
+    { echo && cat dead.txt; } > ./-
+    from=dead.txt run 0 dead.trace input.errors "${words[@]/dead.txt/-}" --seed "$seed"
     rm ./-
 }
 

@@ -21,7 +21,7 @@ help_texts() {
         unwritten "$command" --help
         well=no
         play "$command" --help
-        told "${statuses[$command]}" < "$(sed '1,/^Exit status:/d' output | sed -E 's/^ +//' | as_file)" && well=yes
+        told "${statuses[$command]}" < "$(sed '1,/^Exit status:/d' output | sed -E ':all; N; $!b all; s/\n {3,}/ /g; s/(^|\n) +/\1/g' | as_file)" && well=yes
         count "$well" "$command" --help '# its exit statuses'
     done
     well=no

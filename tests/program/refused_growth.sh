@@ -20,16 +20,17 @@ refused_growth() {
     refused_in_turn "$spin/trace.txt" smp "$spin/machine.cfg" "$spin/scripts.txt" --ticks 1 --turns 100 --seed 11
     refused_in_turn "$late/trace.vcd" wave "$late/machine.cfg" "$late/trace.txt"
     refused_in_turn "$late/trace.gtkw" wave --gtkw "$late/machine.cfg"
-    # it finds 47 places, so its table grows
+    # it finds 47 places, so its table grows, and the list of them
     refused_in_turn never.txt explore "$order/machine.cfg" "$order/scripts.txt" --ticks 0 --turns 100 --find E_PAR
     refused_in_turn threads smp "$spin/machine.cfg" "$spin/scripts.txt" --ticks 0 --turns 6
 }
 
 # refused_in_turn TEXT WORD..: with the first request for memory refused, then with the second one, and so on until none is: each run
-# writes this text, or whole lines of its beginning and that memory ran out. The last one writes the text. Where it is `threads`
+# writes this text, or whole lines of its beginning and that memory ran out; or, if it is the answer of a search, that
+# there was no memory for more places, behind `not within N`. The last one writes the text. Where it is `threads`
 # the run may write any trace that `check` says yes to, with the machine of the second word, and else nothing.
 refused_in_turn() {
-    local n=0 ended told=0 well=yes
+    local n=0 ended told=0 wanting=0 well=yes
     while n=$((n + 1)) && : > output && rm -f met; do
         (REFUSE=$n LD_PRELOAD=$PWD/refuse.so exec "$program" "${@:2}") < /dev/null > output 2> errors
         ended=$?
@@ -38,12 +39,22 @@ refused_in_turn() {
             told=$((told + 1))
             grep -qxE 'fmpsim: (.*want of memory|no thread could be started)' errors && [ "$(wc -l < errors)" = 1 ] || well=no
             [ ! -s output ] || head -n "$(wc -l < output)" "$1" | cmp - output || well=no
+        elif [ "$ended" = 6 ] && [ "$1" = never.txt ]; then
+            wanting=$((wanting + 1))
+            is_wanting || well=no
         else
             is_whole "$@" || well=no
         fi
     done
     is_whole "$@" && [ "$told" -ge 20 ] || well=no
+    [ "$1" != never.txt ] || [ "$wanting" -ge 2 ] || well=no
     count "$well" "${@:2}" '# each request for memory refused in turn'
+}
+
+# is_wanting: the search that just ended had no memory for more places.
+is_wanting() {
+    [[ "$(cat output)" =~ ^not\ within\ [0-9]+$ ]] && ! grep -qv '^fmpsim: question: ' errors \
+        && grep -qE '^fmpsim: question: places found: [0-9]+, all for which there was memory; ' errors
 }
 
 # is_whole TEXT WORD..: the run of these words that just ended wrote all that it has to. What a search says beside its answer may be missing.

@@ -414,16 +414,21 @@ tells_how_far() {
     count "$well" "${words[@]}" --progress '# on a pipe'
 }
 
-# takes_memory_for_places: room for a hundred million places takes no memory where there are few, and a search that has no memory for more of them says so.
+# takes_memory_for_places: room for a hundred million places takes no memory where there are few, and a search that has no memory for more of them says so: it has then gone through
+# the orders of at least as many lines as one that has room for fewer places.
 takes_memory_for_places() {
-    local folder=$top/examples/explore-lock-order words=(--turns 1000000 --find E_PAR) well=no
+    local folder=$top/examples/explore-lock-order words=(--turns 1000000 --find E_PAR) well=no least more
     memory=40000 run 0 "$(as_file echo never)" /dev/null explore "$folder/machine.cfg" "$folder/scripts.txt" --ticks 0 "${words[@]}" --places 100000000
     folder=$top/examples/explore-philosophers
     words=(explore "$folder/machine.cfg" "$folder/scripts.txt" --ticks 900000 "${words[@]}")
     memory=12000 play "${words[@]}" --places 1000
-    [ $? = 6 ] && well=yes
+    [ $? = 6 ] && least=$(sed -n 's/^not within \([0-9]*\)$/\1/p' output) && [ -n "$least" ] && well=yes
     count "$well" "${words[@]}" --places 1000 '# in the memory in which there is none for more'
-    memory=12000 run 4 /dev/null "$(as_file echo fmpsim: want of memory)" "${words[@]}" --places 100000000
+    well=no
+    memory=12000 play "${words[@]}" --places 100000000
+    [ $? = 6 ] && is_beside && more=$(sed -n 's/^not within \([0-9]*\)$/\1/p' output) && [ "$(wc -l < output)" = 1 ] && [ "${more:--1}" -ge "${least:-0}" ] \
+        && grep -qxE 'fmpsim: question: places found: [0-9]{4,}, all for which there was memory; lines to the farthest: [0-9]+' errors && well=yes
+    count "$well" "${words[@]}" --places 100000000 '# in that memory'
 }
 
 # A search that ends after two seconds, and not before, says so of the lines that it has gone through, and leaves nothing to go on from. One that is done before says what it says
