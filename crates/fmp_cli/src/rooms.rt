@@ -61,7 +61,8 @@ fn bytes_of_place(keeps_steps: bool) -> u64
     }
 }
 
-/// How many places so many bytes hold, where all steps are kept, too, or are not: always the one where all runs begin, and no more than there may be room for.
+/// How many places so many bytes hold, where all steps are kept, too, or are not: always the one where all runs begin, and no more than
+/// there may be room for.
 pub fn places_within(keeps_steps: bool, bytes: u64) -> Places
     ensures { result.count ≡ spec.places_within keeps_steps bytes }
 {
@@ -98,12 +99,13 @@ impl<'a> ExploreRequest<'a> {
         self.questions.is_some() || is_lasting(self.question.as_bytes())
     }
 
-    /// The same request, with its room for places: what the memory holds that it gives, or else half of so many free bytes, where that is known. The number of places
-    /// that it says is a limit besides a memory that it gives, and else the only one.
+    /// The same request, with its room for places: what the memory holds that it gives, or else half of so many free bytes, where that is
+    /// known. The number of places that it says is a limit besides a memory that it gives, and else the only one. All else stays as it is.
     pub fn with_room(self, free: Option<u64>) -> ExploreRequest<'a>
         ensures memory { result.memory ≡ spec.with_free self.entry.memory free }
         ensures places { result.bounds.places.count ≡ spec.room_of self.entry free }
         ensures turns { result.bounds.turns.count ≡ self.entry.bounds.turns.count }
+        ensures others { result ≡ record self.entry { memory = result.memory; bounds = result.bounds } }
     {
         let memory = self.memory.with_free(free);
         let bounds = Bounds {

@@ -9,6 +9,7 @@ use crate::wanted::Wanted;
 use fmp_bytes::{Class, cut, following, skip, split_prefix};
 use fmp_calls::{find_call, form};
 use fmp_codes::{Call, Event, NameKind, ObjectKind, Proc, Record};
+use fmp_out::Text;
 use fmp_text::{Names, TextKind, processor_in, read_call};
 use fmp_trace::{
     guess_event, put_answer, put_event, put_lost, put_releases, put_requests, put_run_change,
@@ -196,15 +197,26 @@ pub(crate) fn happened<'a>(
     }
 }
 
+/// Adds what is printed behind an answer.
+fn put_tail(out: &mut Text, names: &Names, entry: &Record) {
+    let added = put_releases(out.as_mut_vec(), names, &entry.releases);
+    out.note(added);
+    let added = put_lost(out.as_mut_vec(), entry.lost);
+    out.note(added);
+    let added = put_run_change(out.as_mut_vec(), names, entry.run_change);
+    out.note(added);
+    let added = put_requests(out.as_mut_vec(), entry.requests.as_slice());
+    out.note(added);
+}
+
 /// Adds what is printed from the event on.
-fn put_from_event(out: &mut Vec<u8>, names: &Names, entry: &Record) -> Result<(), AllocError> {
-    put_event(out, names, entry.event)?;
-    out.push(b' ')?;
-    put_answer(out, entry.answer)?;
-    put_releases(out, names, &entry.releases)?;
-    put_lost(out, entry.lost)?;
-    put_run_change(out, names, entry.run_change)?;
-    put_requests(out, entry.requests.as_slice())
+fn put_from_event(out: &mut Text, names: &Names, entry: &Record) {
+    let added = put_event(out.as_mut_vec(), names, entry.event);
+    out.note(added);
+    out.put_byte(b' ');
+    let added = put_answer(out.as_mut_vec(), entry.answer);
+    out.note(added);
+    put_tail(out, names, entry);
 }
 
 /// Whether a text is printed so from the event on, on whatever processor and whoever runs there.
@@ -212,9 +224,9 @@ fn is_printed(alloc: Global, names: &Names, text: &[u8]) -> Result<bool, AllocEr
     let Some(entry) = guess_event(names, None, Proc::new(1), text) else {
         return Ok(false);
     };
-    let mut printed = Vec::new(alloc);
-    put_from_event(&mut printed, names, &entry)?;
-    Ok(printed.as_slice() == text)
+    let mut printed = Text::new(alloc);
+    put_from_event(&mut printed, names, &entry);
+    Ok(printed.so_far()? == text)
 }
 
 /// How a line is read so far, of which more is to be read.

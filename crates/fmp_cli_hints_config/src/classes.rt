@@ -3,7 +3,7 @@ ghost use Rattle.std.specs.Prelude.{◌+◌, ◌<◌, ◌^◌, length};
 
 use crate::opened::{Opened, after_token, awaits_class, is_inside};
 use fmp_cli_help::nearer;
-use fmp_config_tokens::{Lexer, Token};
+use fmp_config_statements::{Lexer, Token};
 use std::alloc::{AllocError, Global};
 
 /// The nearer of the best name so far and a token, where that is the name of a class that is defined.

@@ -5,6 +5,7 @@ use fmp_bytes::following;
 use fmp_calls::{find_call, form};
 use fmp_codes::Call;
 use fmp_config::Config;
+use fmp_out::Text;
 use fmp_setup::{AlarmSetup, CyclicSetup};
 use std::alloc::{AllocError, Global};
 
@@ -55,20 +56,23 @@ fn form_for_handlers(alloc: Global, name: &[u8]) -> Result<Option<Call>, AllocEr
 }
 
 /// Adds what is told of such a call, after it.
-pub fn put_misplaced(alloc: Global, out: &mut Vec<u8>, call: Call) -> Result<(), AllocError> {
+pub fn put_misplaced(alloc: Global, out: &mut Text, call: Call) {
     let name = form(call).text;
     if let Some(other) = following(b'i', name) {
-        out.extend_from_slice(b" is always answered E_CTX, since a task makes it: write ")?;
-        return out.extend_from_slice(other);
+        out.put(b" is always answered E_CTX, since a task makes it: write ");
+        return out.put(other);
     }
-    out.extend_from_slice(b" is always answered E_CTX, since a handler makes it: ")?;
-    match form_for_handlers(alloc, name)? {
-        Some(other) => {
-            out.extend_from_slice(b"write ")?;
-            out.extend_from_slice(form(other).text)
+    out.put(b" is always answered E_CTX, since a handler makes it: ");
+    match form_for_handlers(alloc, name) {
+        Ok(Some(other)) => {
+            out.put(b"write ");
+            out.put(form(other).text);
         }
-        None => out.extend_from_slice(
-            b"let it wake a task that makes it, by iact_tsk, iwup_tsk, isig_sem or iset_flg",
-        ),
+        Ok(None) => {
+            out.put(
+                b"let it wake a task that makes it, by iact_tsk, iwup_tsk, isig_sem or iset_flg",
+            )
+        }
+        Err(fault) => out.note(Err(fault)),
     }
 }

@@ -4,8 +4,7 @@ ghost use Rattle.std.specs.Prelude.{◌<◌, ◌+◌, ◌^◌, length};
 use crate::place::Place;
 use fmp_bytes::{Class, is_identifier, split_prefix};
 use fmp_cli_help::statement_word;
-use fmp_config_statements::{Item, StatementName, numeral};
-use fmp_config_tokens::{Lexer, Token, TokenKind};
+use fmp_config_statements::{Item, Lexer, StatementName, Token, TokenKind, numeral};
 use fmp_names::is_processor_word;
 use fmp_out::Text;
 

@@ -3,8 +3,7 @@ ghost use Rattle.std.specs.Prelude.{◌≡◌, ◌≤◌, ◌<◌, ◌+◌, ◌^
 ghost use Rattle.fmp_cli_hints_config.specs.Opened as spec;
 ghost use Rattle.fmp_config_statements.specs.Parts.{depth_of};
 
-use fmp_config_statements::{Item, Part, Scan, StatementName, find_statement};
-use fmp_config_tokens::{Token, TokenKind};
+use fmp_config_statements::{Item, Part, Scan, StatementName, Token, TokenKind, find_statement};
 use std::marker::Model;
 
 /// A statement that is open: what has to follow of the part that is being read, and the parts after it.

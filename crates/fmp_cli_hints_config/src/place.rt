@@ -5,8 +5,7 @@ ghost use Rattle.fmp_config.specs.Limits.{most_bytes};
 use crate::opened::{Opened, after_token, is_inside, item_in, missing_in};
 use fmp_bytes::{Class, following};
 use fmp_config::{ConfigFault, ConfigKind};
-use fmp_config_statements::{Item, StatementName, find_statement};
-use fmp_config_tokens::Lexer;
+use fmp_config_statements::{Item, Lexer, StatementName, find_statement};
 
 /// What stands before a place: the statement that is open there, and the last word that is a statement's name.
 #[derive(Drop)]

@@ -5,7 +5,7 @@ ghost use Rattle.fmp_config.specs.Limits.{most_bytes};
 use fmp_bytes::following;
 use fmp_cli_help::{is_class_word, is_project_word};
 use fmp_config::{ConfigFault, ConfigKind};
-use fmp_config_tokens::Lexer;
+use fmp_config_statements::Lexer;
 use fmp_out::Text;
 
 /// Where a text is from, as far as its words say.

@@ -3,7 +3,7 @@ ghost use Rattle.std.specs.Prelude.{◌+◌, ◌<◌, ◌^◌, length};
 
 use crate::numbers::defined_line;
 use crate::opened::{Opened, after_token, awaits_name, is_inside};
-use fmp_config_tokens::{Lexer, Token};
+use fmp_config_statements::{Lexer, Token};
 use fmp_out::Text;
 
 /// The line of an earlier token, or else that of this one, where it is this word in the place of a name.

@@ -4,7 +4,7 @@ use Rattle.std.specs.Option.{option_or}
 use Rattle.fmp_cli_help.specs.Near.{near_answer, nearest}
 use Rattle.fmp_cli_hints.specs.Things.{near_thing}
 use Rattle.fmp_names.specs.Names.{NameLists}
-use Rattle.fmp_search_words.specs.declared.words.TheConstants.{TRACE_WORDS}
+use Rattle.fmp_search_pattern.specs.declared.words.TheConstants.{TRACE_WORDS}
 
 -- the nearest of what may stand in a line of a trace or of a state: an object or a word, or else a call or a code
 unfoldable pub near_known : NameLists → List ℕ → Option (List ℕ)

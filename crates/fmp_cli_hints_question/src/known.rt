@@ -9,7 +9,7 @@ use fmp_cli_help::{near_answer, nearer};
 use fmp_cli_hints::{near_thing, put_near, put_processors, report_of};
 use fmp_names::is_processor_word;
 use fmp_out::Text;
-use fmp_search_words::{TRACE_WORDS, begins_with_digit, cut_run, has_star};
+use fmp_search_pattern::{TRACE_WORDS, begins_with_digit, cut_run, has_star};
 use fmp_text::{Names, processor_in};
 use std::alloc::{AllocError, Global};
 

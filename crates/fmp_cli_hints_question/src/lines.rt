@@ -6,7 +6,7 @@ use fmp_calls::{find_call, form};
 use fmp_cli_hints::report_of;
 use fmp_codes::ArgumentKind;
 use fmp_out::Text;
-use fmp_search_words::has_star;
+use fmp_search_pattern::has_star;
 
 /// Adds what is told of the name of a call without its arguments.
 fn put_call_words(out: &mut Text, word: &[u8]) {

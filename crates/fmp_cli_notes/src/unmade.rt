@@ -39,8 +39,7 @@ fn put_call_line(
         let added = put_event(out.as_mut_vec(), names, Event::Call(Proc::new(1), call));
         out.note(added);
         if is_refused {
-            let added = put_misplaced(alloc, out.as_mut_vec(), call);
-            out.note(added);
+            put_misplaced(alloc, out, call);
         }
     }
 }

@@ -5,7 +5,7 @@ use Rattle.std.specs.Option.{option_map_or}
 use Rattle.std.specs.Str.{bytes_eq}
 use Rattle.std.proofs.lemmas.Bool.{leb-true}
 use Rattle.fmp_names.specs.Names.{is_name}
-use Rattle.fmp_config_tokens.specs.Lexing.{Lexeme}
+use Rattle.fmp_config_statements.specs.Lexing.{Lexeme}
 use Rattle.fmp_config_statements.specs.declared.directive.Directive.{Directive}
 use Rattle.fmp_config_statements.specs.declared.directive.Directive.TheVariants as directives
 use Rattle.fmp_config_statements.specs.declared.fault.ConfigKind.TheVariants as faults

@@ -2,7 +2,7 @@
 use Rattle.std.proofs.Common.{◌≡◌, Bool, true, false, Option, Some, None, Ok, if◌then◌else◌, refl}
 use Rattle.std.specs.Option.{option_map_or}
 use Rattle.fmp_bytes.specs.Results.{◌>>=◌}
-use Rattle.fmp_config_tokens.specs.Lexing.{Lexeme}
+use Rattle.fmp_config_statements.specs.Lexing.{Lexeme}
 use Rattle.fmp_config_statements.specs.declared.directive.Directive.{Directive}
 use Rattle.fmp_config_statements.specs.declared.directive.Directive.TheVariants as directives
 use Rattle.fmp_config_statements.specs.declared.table.StatementName.{StatementName}

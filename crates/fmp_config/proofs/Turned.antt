@@ -1,7 +1,7 @@
 -- Reading token after token, as a loop does.
 use Rattle.std.proofs.Common.{◌≡◌, List, [], ◌∷◌, Result, Ok, Err, sym, ◌∙◌, refl}
 use Rattle.fmp_bytes.specs.Results.{◌>>=◌}
-use Rattle.fmp_config_tokens.specs.Lexing.{Lexeme}
+use Rattle.fmp_config_statements.specs.Lexing.{Lexeme}
 use Rattle.fmp_config_statements.specs.declared.fault.ReadError.{ReadError}
 use Rattle.fmp_config_statements.specs.declared.fault.ReadError.TheVariants as errors
 use Rattle.fmp_config_statements.specs.Faults.{Fault}

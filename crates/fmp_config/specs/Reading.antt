@@ -3,9 +3,9 @@ use Rattle.std.specs.Prelude.{ℕ, Bool, ◌&&◌, List, length, Option, Some, N
 use Rattle.std.specs.Option.{ok_or, option_map_or}
 use Rattle.fmp_bytes.specs.Bytes.{close_brace}
 use Rattle.fmp_bytes.specs.Results.{◌>>=◌}
-use Rattle.fmp_config_tokens.specs.Lexing.{Lexeme, Lexed, lexed_text}
-use Rattle.fmp_config_tokens.specs.declared.tokens.End.{End}
-use Rattle.fmp_config_tokens.specs.declared.tokens.End.TheVariants as ends
+use Rattle.fmp_config_statements.specs.Lexing.{Lexeme, Lexed, lexed_text}
+use Rattle.fmp_config_statements.specs.declared.tokens.End.{End}
+use Rattle.fmp_config_statements.specs.declared.tokens.End.TheVariants as ends
 use Rattle.fmp_config_statements.specs.declared.directive.Directive.{Directive}
 use Rattle.fmp_config_statements.specs.declared.directive.Directive.TheVariants as directives
 use Rattle.fmp_config_statements.specs.declared.fault.ConfigKind.TheVariants as faults

@@ -6,9 +6,9 @@ ghost use Rattle.fmp_config.specs.Sound.{IsSound};
 
 use crate::draft::Draft;
 use fmp_config_statements::{
-    ConfigKind, Directive, Fault, Form, ReadError, StatementName, Word, find_statement, is_mark,
+    ConfigKind, Directive, End, Fault, Form, ReadError, StatementName, Token, TokenKind, Word,
+    find_statement, is_mark,
 };
-use fmp_config_tokens::{End, Token, TokenKind};
 use fmp_setup::Config;
 use std::alloc::{AllocError, Global};
 use std::mem;

@@ -3,12 +3,11 @@ ghost use Rattle.std.specs.Prelude.{◌≡◌, ◌+◌, ◌<◌, ◌^◌, length
 ghost use Rattle.fmp_config.specs.Faults.{GivesOrFails};
 ghost use Rattle.fmp_config.specs.Reading as spec;
 ghost use Rattle.fmp_config_statements.specs.Outcomes.{Gives};
-ghost use Rattle.fmp_config_tokens.specs.Lexing.{lexed_text};
+ghost use Rattle.fmp_config_statements.specs.Lexing.{lexed_text};
 
 use crate::fault::ConfigFault;
 use crate::reader::Reader;
-use fmp_config_statements::{ConfigKind, Fault, ReadError};
-use fmp_config_tokens::Lexer;
+use fmp_config_statements::{ConfigKind, Fault, Lexer, ReadError};
 use fmp_setup::Config;
 use std::alloc::Global;
 

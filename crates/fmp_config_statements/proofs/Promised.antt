@@ -7,7 +7,7 @@ use Rattle.std.specs.Str.{bytes_eq}
 use Rattle.std.specs.List.{list_any}
 use Rattle.std.proofs.lemmas.Bool.{cases_Bool, false≢true}
 use Rattle.fmp_names.specs.Names.{is_name}
-use Rattle.fmp_config_tokens.specs.Lexing.{Lexeme}
+use Rattle.fmp_config_statements.specs.Lexing.{Lexeme}
 use Rattle.fmp_config_statements.specs.declared.parts.Item.{Item}
 use Rattle.fmp_config_statements.specs.declared.parts.Item.TheVariants as items
 use Rattle.fmp_config_statements.specs.declared.parts.Part.{Part}

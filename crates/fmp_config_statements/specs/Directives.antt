@@ -3,7 +3,7 @@ use Rattle.std.specs.Prelude.{ℕ, Option, Some, None, option_and_then, Result, 
 use Rattle.std.specs.Option.{option_map_or}
 use Rattle.std.specs.Str.{bytes_eq}
 use Rattle.fmp_names.specs.Names.{is_name}
-use Rattle.fmp_config_tokens.specs.Lexing.{Lexeme}
+use Rattle.fmp_config_statements.specs.Lexing.{Lexeme}
 use Rattle.fmp_config_statements.specs.declared.directive.Directive.{Directive}
 use Rattle.fmp_config_statements.specs.declared.directive.Directive.TheVariants.{Marked, Naming, Numbering, Defining, Skipped}
 use Rattle.fmp_config_statements.specs.declared.fault.ConfigKind.TheVariants.{Syntax}

@@ -1,7 +1,7 @@
 -- A statement whose tokens are being read.
 use Rattle.std.specs.Prelude.{ℕ, Bool, ◌&&◌, List, [], ◌∷◌, Result, Ok, Err, length, ◌==◌, if◌then◌else◌}
 use Rattle.std.specs.Option.{option_map_or}
-use Rattle.fmp_config_tokens.specs.Lexing.{Lexeme}
+use Rattle.fmp_config_statements.specs.Lexing.{Lexeme}
 use Rattle.fmp_config_statements.specs.declared.fault.ConfigKind.TheVariants.{Syntax}
 use Rattle.fmp_config_statements.specs.declared.parts.Part.{Part}
 use Rattle.fmp_config_statements.specs.declared.parts.Scan.{Scan}

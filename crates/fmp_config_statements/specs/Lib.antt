@@ -10,3 +10,5 @@ pub mod Table  -- The table of the statements: words, parts, attributes and rang
 pub mod Forms  -- A statement whose tokens are being read.
 pub mod Named  -- The names of a statement: there, or still to come.
 pub mod Outcomes  -- What a step of the reading returns, beside what the definitions give.
+pub mod Steps  -- What each byte of a text does, by what stands before it and what follows it.
+pub mod Lexing  -- The tokens of a text, with their lines, byte by byte.

@@ -3,9 +3,9 @@ use Rattle.std.specs.Prelude.{ℕ, ◌+◌, ◌-◌, Bool, true, false, not, ◌
 use Rattle.std.specs.Str.{bytes_eq}
 use Rattle.fmp_bytes.specs.Bytes.{close_brace, close_parenthesis, comma, open_brace, open_parenthesis}
 use Rattle.fmp_names.specs.Names.{is_name}
-use Rattle.fmp_config_tokens.specs.declared.tokens.TokenKind.{TokenKind}
-use Rattle.fmp_config_tokens.specs.declared.tokens.TokenKind.TheVariants as kinds
-use Rattle.fmp_config_tokens.specs.Lexing.{Lexeme}
+use Rattle.fmp_config_statements.specs.declared.tokens.TokenKind.{TokenKind}
+use Rattle.fmp_config_statements.specs.declared.tokens.TokenKind.TheVariants as kinds
+use Rattle.fmp_config_statements.specs.Lexing.{Lexeme}
 use Rattle.fmp_config_statements.specs.declared.parts.Item.{Item}
 use Rattle.fmp_config_statements.specs.declared.parts.Item.TheVariants as items
 use Rattle.fmp_config_statements.specs.declared.parts.Part.{Part}

@@ -5,7 +5,7 @@ ghost use Rattle.fmp_config_statements.specs.Directives as spec;
 use crate::fault::{ConfigKind, Fault};
 use crate::numbers::numeral;
 use crate::word::Word;
-use fmp_config_tokens::{Token, TokenKind};
+use crate::{Token, TokenKind};
 use fmp_names::is_name;
 
 /// The greatest number that a name can have.

@@ -4,12 +4,12 @@ ghost use Rattle.fmp_config_statements.specs.Forms as spec;
 ghost use Rattle.fmp_config_statements.specs.Outcomes.{Leads};
 ghost use Rattle.fmp_config_statements.specs.Parts.{depth_of};
 
+use crate::Token;
 use crate::fault::{ConfigKind, Fault, ReadError};
 use crate::parts::{Part, Scan};
 use crate::pieces::Pieces;
 use crate::table::StatementName;
 use crate::word::Word;
-use fmp_config_tokens::Token;
 use std::alloc::Global;
 use std::marker::Model;
 

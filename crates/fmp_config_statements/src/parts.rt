@@ -3,7 +3,7 @@ ghost use Rattle.std.specs.Prelude.{◌≡◌, ◌≤◌, ◌<◌, ◌+◌, ◌^
 ghost use Rattle.fmp_config_statements.specs.Parts as spec;
 
 use crate::word::is_mark;
-use fmp_config_tokens::{Token, TokenKind};
+use crate::{Token, TokenKind};
 use fmp_names::is_name;
 
 /// A word of a statement, by what it stands for.

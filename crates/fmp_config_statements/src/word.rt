@@ -2,7 +2,7 @@
 ghost use Rattle.std.specs.Prelude.{◌≡◌};
 ghost use Rattle.fmp_config_statements.specs.Words as spec;
 
-use fmp_config_tokens::{Token, TokenKind};
+use crate::{Token, TokenKind};
 use std::marker::Model;
 
 /// The bytes of a token, and its line from 1. No bytes and line 0 where a statement has no such word.

@@ -9,7 +9,7 @@
 
 ghost use Rattle.std.specs.Prelude.{◌≡◌, ◌≤◌, ◌<◌, ◌++◌, ◌∷◌, [], length, map, slice_get, ℤ, Some, IfOk, IsTrue};
 ghost use Rattle.fmp_rules.specs.World.{first, rest};
-ghost use Rattle.fmp_kernel_links.specs.Tasks.{AreDistinct};
+ghost use Rattle.fmp_kernel_parts.specs.Tasks.{AreDistinct};
 ghost use Rattle.fmp_waitq.specs.Queue.{task_of, has_waiter, left_by, joined_by, waiter_of};
 ghost use Rattle.fmp_dtq.specs.DataQueue.{sender, receiver};
 ghost use Rattle.fmp_dtq.specs.Served.{IsServed};

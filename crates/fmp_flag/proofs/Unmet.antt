@@ -7,7 +7,7 @@ use Rattle.fmp_codes.specs.declared.calls.Mode.TheVariants as mode
 use Rattle.fmp_rules.specs.World.{item}
 use Rattle.fmp_rules.specs.Objects.{holds}
 use Rattle.fmp_rules.proofs.Patterns.{unmet_with_none}
-use Rattle.fmp_kernel_links.specs.Tasks.{has_task}
+use Rattle.fmp_kernel_parts.specs.Tasks.{has_task}
 use Rattle.fmp_waitq.specs.Queue.{Waiter, task_of, has_waiter, left_by, put_ranked, joined_by}
 use Rattle.fmp_waitq.proofs.Waiters.{waits_is, waited_before}
 use Rattle.fmp_flag.specs.declared.wanted.Wanted.{Wanted}

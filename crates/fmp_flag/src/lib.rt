@@ -7,7 +7,7 @@
 #![tactic(auto)]
 
 ghost use Rattle.std.specs.Prelude.{◌≡◌, List, map, []};
-ghost use Rattle.fmp_kernel_links.specs.Tasks.{AreDistinct};
+ghost use Rattle.fmp_kernel_parts.specs.Tasks.{AreDistinct};
 ghost use Rattle.fmp_waitq.specs.Queue.{task_of, has_waiter, left_by, joined_by, waiter_of};
 ghost use Rattle.fmp_flag.specs.Eventflags.{waiter, with_pattern, WaitsUnmet};
 ghost use Rattle.fmp_flag.specs.declared.wanted.Wanted.{Wanted as AnyWanted};

@@ -6,8 +6,8 @@ use Rattle.std.proofs.lemmas.List.{length-set, set-get_or, set_past, get_or_past
 use Rattle.fmp_codes.specs.declared.numbers.Proc.{Proc}
 use Rattle.fmp_codes.specs.declared.numbers.Task.{Task}
 use Rattle.fmp_codes.specs.declared.numbers.Object.{Object}
-use Rattle.fmp_kernel_links.specs.Tasks.{without}
-use Rattle.fmp_kernel_links.proofs.Tasks.{gone_from, without_lacking}
+use Rattle.fmp_kernel_parts.specs.Tasks.{without}
+use Rattle.fmp_kernel_parts.proofs.Tasks.{gone_from, without_lacking}
 use Rattle.fmp_setup.specs.declared.setup.Timer.{Timer}
 use Rattle.fmp_rules.specs.declared.machine.TaskRecord.{TaskRecord}
 use Rattle.fmp_rules.specs.declared.machine.Cyclic.{Cyclic}

@@ -5,7 +5,7 @@ use Rattle.std.specs.List.{list_all}
 use Rattle.std.proofs.lemmas.Bool.{cases_lt, lt-ltb}
 use Rattle.std.proofs.lemmas.List.Folds.{list_all_at}
 use Rattle.fmp_codes.specs.declared.numbers.Task.{Task}
-use Rattle.fmp_kernel_links.specs.Tasks.{has_task}
+use Rattle.fmp_kernel_parts.specs.Tasks.{has_task}
 use Rattle.fmp_rules.specs.declared.machine.TaskRecord.{TaskRecord}
 use Rattle.fmp_rules.specs.declared.machine.Cyclic.{Cyclic}
 use Rattle.fmp_rules.specs.declared.machine.Alarm.{Alarm}

@@ -6,7 +6,7 @@ ghost use Rattle.fmp_rules.specs.Boot.{phase_left};
 ghost use Rattle.fmp_setup.specs.Setup.{counts_for};
 ghost use Rattle.fmp_rules.specs.Tick.{lowered, expired, tasks_expired};
 ghost use Rattle.fmp_rules.specs.World.{item, with_item, no_task, resting};
-ghost use Rattle.fmp_kernel_links.specs.Tasks.{has_task, without};
+ghost use Rattle.fmp_kernel_parts.specs.Tasks.{has_task, without};
 ghost use Rattle.fmp_kernel_order.specs.Queues.{timed_by};
 ghost use Rattle.fmp_kernel_assigned.specs.Assignments.{cyclic_in, alarm_in, IsNextDue};
 ghost use Rattle.fmp_kernel_assigned.specs.Starting.{first_cyclic, first_alarm};

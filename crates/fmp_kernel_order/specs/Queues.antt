@@ -3,7 +3,7 @@
 use Rattle.std.specs.Prelude.{ℕ, Option, None, Some, List, [], ◌∷◌, ◌++◌, map, replicate}
 use Rattle.fmp_codes.specs.declared.numbers.Task.{Task}
 use Rattle.fmp_codes.specs.declared.numbers.Object.{Object}
-use Rattle.fmp_kernel_links.specs.Tasks.{without}
+use Rattle.fmp_kernel_parts.specs.Tasks.{without}
 use Rattle.fmp_ready.specs.Queues.{list_number, queue_at, push_last, take_out, top_of}
 use Rattle.fmp_waitq.specs.Queue.{Waiter, task_of, waiter_of, left_by, joined_by}
 use Rattle.fmp_rules.specs.declared.machine.Wait.{Wait}

@@ -6,16 +6,16 @@ use Rattle.std.proofs.lemmas.Bool.Decides.{nat_tests}
 use Rattle.fmp_bytes.specs.declared.classes.Class.TheVariants.{Space, Word, Letter, Digit as DigitClass}
 use Rattle.fmp_bytes.specs.Bytes.{is_of}
 use Rattle.fmp_bytes.proofs.Included.{word-letter}
-use Rattle.fmp_config_tokens.specs.declared.tokens.TokenKind.{TokenKind}
-use Rattle.fmp_config_tokens.specs.declared.tokens.TokenKind.TheVariants as kinds
-use Rattle.fmp_config_tokens.specs.declared.tokens.End.{End}
-use Rattle.fmp_config_tokens.specs.declared.modes.Place.{Place}
-use Rattle.fmp_config_tokens.specs.declared.modes.Place.TheVariants as places
-use Rattle.fmp_config_tokens.specs.declared.modes.Mode.{Mode}
-use Rattle.fmp_config_tokens.specs.declared.modes.Mode.TheVariants as modes
-use Rattle.fmp_config_tokens.specs.declared.modes.Step.TheVariants.{Pass, Give, Stop}
-use Rattle.fmp_config_tokens.specs.Steps.{is_next, following, at_line_end, single_in_code, single, begun, in_gap, step_of, line_after}
-use Rattle.fmp_config_tokens.specs.Lexing.{with_lexeme, ended, text_of, lexed}
+use Rattle.fmp_config_statements.specs.declared.tokens.TokenKind.{TokenKind}
+use Rattle.fmp_config_statements.specs.declared.tokens.TokenKind.TheVariants as kinds
+use Rattle.fmp_config_statements.specs.declared.tokens.End.{End}
+use Rattle.fmp_config_statements.specs.declared.modes.Place.{Place}
+use Rattle.fmp_config_statements.specs.declared.modes.Place.TheVariants as places
+use Rattle.fmp_config_statements.specs.declared.modes.Mode.{Mode}
+use Rattle.fmp_config_statements.specs.declared.modes.Mode.TheVariants as modes
+use Rattle.fmp_config_statements.specs.declared.modes.Step.TheVariants.{Pass, Give, Stop}
+use Rattle.fmp_config_statements.specs.Steps.{is_next, following, at_line_end, single_in_code, single, begun, in_gap, step_of, line_after}
+use Rattle.fmp_config_statements.specs.Lexing.{with_lexeme, ended, text_of, lexed}
 use Rattle.fmp_law_config.specs.Parts.{Blank, Symbol, is_directive, opens_comment, stands_alone, may_stand}
 use Rattle.fmp_law_config.specs.Tokens.{place_after}
 

@@ -4,9 +4,9 @@ use Rattle.std.specs.List.{list_all}
 use Rattle.std.specs.Option.{option_map_or}
 use Rattle.std.proofs.lemmas.Bool.{le-ltb}
 use Rattle.fmp_bytes.proofs.Parsed.{bind_parts}
-use Rattle.fmp_config_tokens.specs.declared.tokens.End.{End}
-use Rattle.fmp_config_tokens.specs.declared.tokens.End.TheVariants.{Done, Bad, CutShort}
-use Rattle.fmp_config_tokens.specs.Lexing.{Lexeme, lexed_text}
+use Rattle.fmp_config_statements.specs.declared.tokens.End.{End}
+use Rattle.fmp_config_statements.specs.declared.tokens.End.TheVariants.{Done, Bad, CutShort}
+use Rattle.fmp_config_statements.specs.Lexing.{Lexeme, lexed_text}
 use Rattle.fmp_config_statements.specs.declared.fault.ConfigKind.TheVariants as faults
 use Rattle.fmp_config_statements.specs.Faults.{fault_of_line}
 use Rattle.fmp_config_statements.specs.Folds.{each}

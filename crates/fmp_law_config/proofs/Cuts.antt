@@ -8,16 +8,16 @@ use Rattle.fmp_bytes.specs.declared.classes.Class.TheVariants as class
 use Rattle.fmp_bytes.specs.declared.classes.Class.TheVariants.{Word}
 use Rattle.fmp_bytes.specs.Bytes.{is_of, prefix, after}
 use Rattle.fmp_bytes.proofs.Prefixes.{list_all-take_while, prefix-after}
-use Rattle.fmp_config_tokens.specs.declared.tokens.TokenKind.{TokenKind}
-use Rattle.fmp_config_tokens.specs.declared.tokens.TokenKind.TheVariants as kinds
-use Rattle.fmp_config_tokens.specs.declared.modes.Place.{Place}
-use Rattle.fmp_config_tokens.specs.declared.modes.Place.TheVariants as places
-use Rattle.fmp_config_tokens.specs.declared.modes.Mode.{Mode}
-use Rattle.fmp_config_tokens.specs.declared.modes.Mode.TheVariants as modes
-use Rattle.fmp_config_tokens.specs.declared.modes.Step.{Step}
-use Rattle.fmp_config_tokens.specs.declared.modes.Step.TheVariants.{Pass, Give, Stop}
-use Rattle.fmp_config_tokens.specs.Steps.{is_next, goes_on, at_line_end, single_in_code, single, begun, in_gap, in_line_comment, step_of, line_after}
-use Rattle.fmp_config_tokens.specs.Lexing.{Lexeme, Lexed, text_of, ended_at, ended_in, stepped, lexed, lexed_text}
+use Rattle.fmp_config_statements.specs.declared.tokens.TokenKind.{TokenKind}
+use Rattle.fmp_config_statements.specs.declared.tokens.TokenKind.TheVariants as kinds
+use Rattle.fmp_config_statements.specs.declared.modes.Place.{Place}
+use Rattle.fmp_config_statements.specs.declared.modes.Place.TheVariants as places
+use Rattle.fmp_config_statements.specs.declared.modes.Mode.{Mode}
+use Rattle.fmp_config_statements.specs.declared.modes.Mode.TheVariants as modes
+use Rattle.fmp_config_statements.specs.declared.modes.Step.{Step}
+use Rattle.fmp_config_statements.specs.declared.modes.Step.TheVariants.{Pass, Give, Stop}
+use Rattle.fmp_config_statements.specs.Steps.{is_next, goes_on, at_line_end, single_in_code, single, begun, in_gap, in_line_comment, step_of, line_after}
+use Rattle.fmp_config_statements.specs.Lexing.{Lexeme, Lexed, text_of, ended_at, ended_in, stepped, lexed, lexed_text}
 use Rattle.fmp_law_config.specs.Cuts.{AreTokens, IsCutAfter}
 use Rattle.fmp_law_config.proofs.Gaps.{prefix_more}
 

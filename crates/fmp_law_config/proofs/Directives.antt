@@ -10,9 +10,9 @@ use Rattle.std.proofs.lemmas.Option.{cond_some}
 use Rattle.fmp_bytes.specs.Spelling.{SpellsUnsigned}
 use Rattle.fmp_bytes.proofs.Parsed.{and_then_parts, tested_ok}
 use Rattle.fmp_names.specs.Names.{is_name}
-use Rattle.fmp_config_tokens.specs.declared.tokens.TokenKind.{TokenKind}
-use Rattle.fmp_config_tokens.specs.declared.tokens.TokenKind.TheVariants as kinds
-use Rattle.fmp_config_tokens.specs.Lexing.{Lexeme}
+use Rattle.fmp_config_statements.specs.declared.tokens.TokenKind.{TokenKind}
+use Rattle.fmp_config_statements.specs.declared.tokens.TokenKind.TheVariants as kinds
+use Rattle.fmp_config_statements.specs.Lexing.{Lexeme}
 use Rattle.fmp_config_statements.specs.declared.directive.Directive.{Directive}
 use Rattle.fmp_config_statements.specs.declared.directive.Directive.TheVariants.{Marked, Naming, Numbering, Defining, Skipped}
 use Rattle.fmp_config_statements.specs.declared.fault.ConfigKind.TheVariants.{Syntax}

@@ -4,7 +4,7 @@ use Rattle.std.specs.Prelude.{codes}
 use Rattle.std.specs.List.{list_all}
 use Rattle.std.proofs.lemmas.Bool.{cases_Bool, false≢true, eqb-true, and_parts, or_cases}
 use Rattle.fmp_bytes.specs.Bytes.{is_of}
-use Rattle.fmp_config_tokens.specs.Lexing.{Lexeme}
+use Rattle.fmp_config_statements.specs.Lexing.{Lexeme}
 use Rattle.fmp_codes.specs.declared.kinds.ObjectKind.TheVariants.{Task, Semaphore, Eventflag, DataQueue, Pool, Cyclic, Alarm, SpinLock}
 use Rattle.fmp_config_statements.specs.declared.parts.Item.{Item}
 use Rattle.fmp_config_statements.specs.declared.parts.Item.TheVariants as items

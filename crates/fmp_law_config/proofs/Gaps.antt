@@ -9,15 +9,15 @@ use Rattle.fmp_bytes.specs.declared.classes.Class.TheVariants as class
 use Rattle.fmp_bytes.specs.Bytes.{is_of, prefix, after}
 use Rattle.fmp_bytes.proofs.Prefixes.{prefix-after, after-stops, list_all-take_while}
 use Rattle.fmp_bytes.proofs.Included.{word-letter}
-use Rattle.fmp_config_tokens.specs.declared.tokens.TokenKind.{TokenKind}
-use Rattle.fmp_config_tokens.specs.declared.tokens.TokenKind.TheVariants as kinds
-use Rattle.fmp_config_tokens.specs.declared.tokens.End.TheVariants.{Done, Bad}
-use Rattle.fmp_config_tokens.specs.declared.modes.Place.{Place}
-use Rattle.fmp_config_tokens.specs.declared.modes.Place.TheVariants as places
-use Rattle.fmp_config_tokens.specs.declared.modes.Mode.TheVariants as modes
-use Rattle.fmp_config_tokens.specs.declared.modes.Step.TheVariants.{Pass, Give, Stop}
-use Rattle.fmp_config_tokens.specs.Steps.{is_next, at_line_end, single_in_code, single, begun, in_gap, step_of, line_after}
-use Rattle.fmp_config_tokens.specs.Lexing.{text_of, lexed}
+use Rattle.fmp_config_statements.specs.declared.tokens.TokenKind.{TokenKind}
+use Rattle.fmp_config_statements.specs.declared.tokens.TokenKind.TheVariants as kinds
+use Rattle.fmp_config_statements.specs.declared.tokens.End.TheVariants.{Done, Bad}
+use Rattle.fmp_config_statements.specs.declared.modes.Place.{Place}
+use Rattle.fmp_config_statements.specs.declared.modes.Place.TheVariants as places
+use Rattle.fmp_config_statements.specs.declared.modes.Mode.TheVariants as modes
+use Rattle.fmp_config_statements.specs.declared.modes.Step.TheVariants.{Pass, Give, Stop}
+use Rattle.fmp_config_statements.specs.Steps.{is_next, at_line_end, single_in_code, single, begun, in_gap, step_of, line_after}
+use Rattle.fmp_config_statements.specs.Lexing.{text_of, lexed}
 use Rattle.fmp_law_config.specs.Parts.{Blank, BlockComment, LineComment, JoinedLine, Identifier, Digits, Symbol, Quoted, Hash, LineEnd, is_directive, begins_with, ends_comment, ends_after, opens_comment, stands_alone, may_stand}
 use Rattle.fmp_law_config.specs.Tokens.{Glyph}
 use Rattle.fmp_law_config.proofs.Bytes.{passes, gives, stops, word_no_letter, word_no_digit, word_is_digit, digit_is_word, begun_in_gap, blank_in_gap, identifier_in_gap, digits_in_gap, symbol_in_gap}

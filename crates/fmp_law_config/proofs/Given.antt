@@ -5,9 +5,9 @@ use Rattle.std.specs.List.{list_all}
 use Rattle.std.proofs.lemmas.Bool.{false≢true, and_parts}
 use Rattle.fmp_bytes.proofs.Parsed.{bind_parts}
 use Rattle.fmp_names.specs.Names.{is_name}
-use Rattle.fmp_config_tokens.specs.declared.tokens.TokenKind.{TokenKind}
-use Rattle.fmp_config_tokens.specs.declared.tokens.TokenKind.TheVariants as kinds
-use Rattle.fmp_config_tokens.specs.Lexing.{Lexeme}
+use Rattle.fmp_config_statements.specs.declared.tokens.TokenKind.{TokenKind}
+use Rattle.fmp_config_statements.specs.declared.tokens.TokenKind.TheVariants as kinds
+use Rattle.fmp_config_statements.specs.Lexing.{Lexeme}
 use Rattle.fmp_config_statements.specs.declared.directive.Directive.TheVariants as directives
 use Rattle.fmp_config_statements.specs.Folds.{each}
 use Rattle.fmp_config_statements.specs.Forms.{Form}

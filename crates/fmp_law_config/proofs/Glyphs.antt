@@ -8,9 +8,9 @@ use Rattle.std.proofs.lemmas.Bool.Decides.{nat_tests}
 use Rattle.std.proofs.lemmas.Slice.Eq.{bytes_eq-Decides}
 use Rattle.fmp_bytes.specs.declared.classes.Class.TheVariants.{Word, Letter, Digit}
 use Rattle.fmp_bytes.specs.Bytes.{is_of, is_identifier}
-use Rattle.fmp_config_tokens.specs.declared.tokens.TokenKind.{TokenKind}
-use Rattle.fmp_config_tokens.specs.declared.tokens.TokenKind.TheVariants.{Identifier, Digits, Symbol, Text, Directive, DirectiveEnd}
-use Rattle.fmp_config_tokens.specs.Lexing.{Lexeme}
+use Rattle.fmp_config_statements.specs.declared.tokens.TokenKind.{TokenKind}
+use Rattle.fmp_config_statements.specs.declared.tokens.TokenKind.TheVariants.{Identifier, Digits, Symbol, Text, Directive, DirectiveEnd}
+use Rattle.fmp_config_statements.specs.Lexing.{Lexeme}
 use Rattle.fmp_config_statements.specs.Parts.{is_barred}
 use Rattle.fmp_config_statements.specs.Words.{is_one, is_mark, is_symbol_kind}
 use Rattle.fmp_law_config.specs.Parts.{is_empty, is_number}

@@ -4,14 +4,14 @@ use Rattle.std.specs.List.{flat_map}
 use Rattle.std.proofs.lemmas.Bool.{false≢true}
 use Rattle.fmp_bytes.specs.declared.classes.Class.TheVariants.{Word}
 use Rattle.fmp_bytes.specs.Bytes.{after}
-use Rattle.fmp_config_tokens.specs.declared.tokens.TokenKind.TheVariants as kinds
-use Rattle.fmp_config_tokens.specs.declared.tokens.End.TheVariants.{Done, CutShort}
-use Rattle.fmp_config_tokens.specs.declared.modes.Place.{Place}
-use Rattle.fmp_config_tokens.specs.declared.modes.Place.TheVariants as places
-use Rattle.fmp_config_tokens.specs.declared.modes.Mode.{Mode}
-use Rattle.fmp_config_tokens.specs.declared.modes.Mode.TheVariants as modes
-use Rattle.fmp_config_tokens.specs.Steps.{is_next}
-use Rattle.fmp_config_tokens.specs.Lexing.{ended_in, lexed}
+use Rattle.fmp_config_statements.specs.declared.tokens.TokenKind.TheVariants as kinds
+use Rattle.fmp_config_statements.specs.declared.tokens.End.TheVariants.{Done, CutShort}
+use Rattle.fmp_config_statements.specs.declared.modes.Place.{Place}
+use Rattle.fmp_config_statements.specs.declared.modes.Place.TheVariants as places
+use Rattle.fmp_config_statements.specs.declared.modes.Mode.{Mode}
+use Rattle.fmp_config_statements.specs.declared.modes.Mode.TheVariants as modes
+use Rattle.fmp_config_statements.specs.Steps.{is_next}
+use Rattle.fmp_config_statements.specs.Lexing.{ended_in, lexed}
 use Rattle.fmp_law_config.specs.Parts.{Part, TextEnd, written, has_pair, ends_after, is_inner, may_stand}
 use Rattle.fmp_law_config.specs.Tokens.{Glyph, glyph_of, glyphs_of, place_after, SpellsParts}
 

@@ -4,14 +4,14 @@ use Rattle.std.specs.List.{list_all}
 use Rattle.std.proofs.lemmas.Bool.{cases_Bool, and_parts, or_parts, or_cases, not-true, eqb-true, false≢true}
 use Rattle.fmp_bytes.specs.declared.classes.Class.TheVariants.{Word}
 use Rattle.fmp_bytes.specs.Bytes.{is_of}
-use Rattle.fmp_config_tokens.specs.declared.tokens.TokenKind.TheVariants as kinds
-use Rattle.fmp_config_tokens.specs.declared.tokens.End.TheVariants.{Done}
-use Rattle.fmp_config_tokens.specs.declared.modes.Place.{Place}
-use Rattle.fmp_config_tokens.specs.declared.modes.Place.TheVariants as places
-use Rattle.fmp_config_tokens.specs.declared.modes.Mode.{Mode}
-use Rattle.fmp_config_tokens.specs.declared.modes.Mode.TheVariants as modes
-use Rattle.fmp_config_tokens.specs.Steps.{is_next, goes_on, single, begun, in_gap, in_line_comment, step_of, line_after}
-use Rattle.fmp_config_tokens.specs.Lexing.{Lexeme, Lexed, with_lexeme, text_of, ended_in, lexed}
+use Rattle.fmp_config_statements.specs.declared.tokens.TokenKind.TheVariants as kinds
+use Rattle.fmp_config_statements.specs.declared.tokens.End.TheVariants.{Done}
+use Rattle.fmp_config_statements.specs.declared.modes.Place.{Place}
+use Rattle.fmp_config_statements.specs.declared.modes.Place.TheVariants as places
+use Rattle.fmp_config_statements.specs.declared.modes.Mode.{Mode}
+use Rattle.fmp_config_statements.specs.declared.modes.Mode.TheVariants as modes
+use Rattle.fmp_config_statements.specs.Steps.{is_next, goes_on, single, begun, in_gap, in_line_comment, step_of, line_after}
+use Rattle.fmp_config_statements.specs.Lexing.{Lexeme, Lexed, with_lexeme, text_of, ended_in, lexed}
 use Rattle.fmp_law_config.specs.Parts.{is_directive, begins_with, has_pair, ends_comment, ends_after, is_inner}
 use Rattle.fmp_law_config.specs.Tokens.{Glyph, glyph_of}
 

@@ -3,7 +3,7 @@ use Rattle.std.proofs.Common.{◌≡◌, ℕ, true, inl, inr, List, [], ◌∷�
 use Rattle.std.proofs.lemmas.Bool.{and_parts}
 use Rattle.fmp_bytes.proofs.Parsed.{bind_parts}
 use Rattle.fmp_names.specs.Names.{is_name}
-use Rattle.fmp_config_tokens.specs.Lexing.{Lexeme}
+use Rattle.fmp_config_statements.specs.Lexing.{Lexeme}
 use Rattle.fmp_config_statements.specs.declared.table.StatementName.{StatementName}
 use Rattle.fmp_config_statements.specs.Folds.{each}
 use Rattle.fmp_config_statements.specs.Forms.{Form, begun}

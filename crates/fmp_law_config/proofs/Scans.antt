@@ -8,7 +8,7 @@ use Rattle.std.proofs.lemmas.Bool.{cases_Bool, false≢true, eqb-true, and_parts
 use Rattle.std.proofs.lemmas.Slice.Eq.{bytes_eq-Decides}
 use Rattle.std.proofs.lemmas.Option.{cond_some}
 use Rattle.fmp_bytes.proofs.Parsed.{tested_ok, some_is}
-use Rattle.fmp_config_tokens.specs.Lexing.{Lexeme}
+use Rattle.fmp_config_statements.specs.Lexing.{Lexeme}
 use Rattle.fmp_config_statements.specs.declared.parts.Item.{Item}
 use Rattle.fmp_config_statements.specs.declared.parts.Item.TheVariants as items
 use Rattle.fmp_config_statements.specs.declared.parts.Part.{Part}

@@ -8,7 +8,7 @@ use Rattle.std.proofs.Math.Bool.{and-false}
 use Rattle.fmp_bytes.proofs.Parsed.{ok_or_parts, tested_ok, bind_parts}
 use Rattle.fmp_bytes.specs.Results.{◌>>=◌}
 use Rattle.fmp_calls.proofs.Found.{found_passes}
-use Rattle.fmp_config_tokens.specs.Lexing.{Lexeme}
+use Rattle.fmp_config_statements.specs.Lexing.{Lexeme}
 use Rattle.fmp_config_statements.specs.declared.directive.Directive.{Directive}
 use Rattle.fmp_config_statements.specs.declared.directive.Directive.TheVariants.{Outside}
 use Rattle.fmp_config_statements.specs.declared.fault.ConfigKind.{ConfigKind}

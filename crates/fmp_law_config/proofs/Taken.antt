@@ -4,7 +4,7 @@ use Rattle.std.specs.Option.{option_map_or}
 use Rattle.std.proofs.lemmas.Bool.{false≢true, ne_eqb, eqb-true, and_parts}
 use Rattle.std.proofs.Math.Bool.{and-false}
 use Rattle.fmp_bytes.proofs.Parsed.{tested_ok}
-use Rattle.fmp_config_tokens.specs.Lexing.{Lexeme}
+use Rattle.fmp_config_statements.specs.Lexing.{Lexeme}
 use Rattle.fmp_config_statements.specs.declared.parts.Part.{Part}
 use Rattle.fmp_config_statements.specs.declared.parts.Part.TheVariants as parts
 use Rattle.fmp_config_statements.specs.declared.parts.Scan.{Scan}

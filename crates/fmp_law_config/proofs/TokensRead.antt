@@ -7,15 +7,15 @@ use Rattle.fmp_bytes.specs.declared.classes.Class.TheVariants as class
 use Rattle.fmp_bytes.specs.Bytes.{is_of, prefix, is_identifier}
 use Rattle.fmp_bytes.proofs.Prefixes.{prefix-append, stops-cons}
 use Rattle.fmp_bytes.proofs.Included.{word-letter}
-use Rattle.fmp_config_tokens.specs.declared.tokens.TokenKind.{TokenKind}
-use Rattle.fmp_config_tokens.specs.declared.tokens.TokenKind.TheVariants as kinds
-use Rattle.fmp_config_tokens.specs.declared.tokens.End.TheVariants.{Done}
-use Rattle.fmp_config_tokens.specs.declared.modes.Place.{Place}
-use Rattle.fmp_config_tokens.specs.declared.modes.Place.TheVariants as places
-use Rattle.fmp_config_tokens.specs.declared.modes.Mode.TheVariants as modes
-use Rattle.fmp_config_tokens.specs.declared.modes.Step.TheVariants.{Give}
-use Rattle.fmp_config_tokens.specs.Steps.{following, at_line_end, single_in_code, single, begun, in_gap, step_of, line_after}
-use Rattle.fmp_config_tokens.specs.Lexing.{text_of, ended_in, lexed, lexed_text}
+use Rattle.fmp_config_statements.specs.declared.tokens.TokenKind.{TokenKind}
+use Rattle.fmp_config_statements.specs.declared.tokens.TokenKind.TheVariants as kinds
+use Rattle.fmp_config_statements.specs.declared.tokens.End.TheVariants.{Done}
+use Rattle.fmp_config_statements.specs.declared.modes.Place.{Place}
+use Rattle.fmp_config_statements.specs.declared.modes.Place.TheVariants as places
+use Rattle.fmp_config_statements.specs.declared.modes.Mode.TheVariants as modes
+use Rattle.fmp_config_statements.specs.declared.modes.Step.TheVariants.{Give}
+use Rattle.fmp_config_statements.specs.Steps.{following, at_line_end, single_in_code, single, begun, in_gap, step_of, line_after}
+use Rattle.fmp_config_statements.specs.Lexing.{text_of, ended_in, lexed, lexed_text}
 use Rattle.fmp_law_config.specs.Parts.{Part, Blank, BlockComment, LineComment, JoinedLine, Identifier, Digits, Symbol, Quoted, Hash, LineEnd, TextEnd, written, is_directive, begins_with, is_number, may_stand}
 use Rattle.fmp_law_config.specs.Tokens.{Glyph, glyph_of, glyphs_of, place_after, SpellsParts, SpellsTokens}
 use Rattle.fmp_law_config.proofs.Bytes.{passes, gives, digit_is_word, blank_in_gap, identifier_in_gap, digits_in_gap, symbol_in_gap}

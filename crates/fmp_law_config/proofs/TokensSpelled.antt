@@ -4,13 +4,13 @@ use Rattle.std.proofs.lemmas.Bool.{cases_Bool, and_from, or_parts, not_from_fals
 use Rattle.std.proofs.Math.Numerals.{one-add}
 use Rattle.fmp_bytes.specs.declared.classes.Class.TheVariants.{Word}
 use Rattle.fmp_bytes.specs.Bytes.{is_of, after}
-use Rattle.fmp_config_tokens.specs.declared.tokens.TokenKind.TheVariants as kinds
-use Rattle.fmp_config_tokens.specs.declared.tokens.End.TheVariants.{Done}
-use Rattle.fmp_config_tokens.specs.declared.modes.Place.{Place}
-use Rattle.fmp_config_tokens.specs.declared.modes.Place.TheVariants as places
-use Rattle.fmp_config_tokens.specs.declared.modes.Mode.TheVariants as modes
-use Rattle.fmp_config_tokens.specs.Steps.{is_next, in_line_comment, step_of, line_after}
-use Rattle.fmp_config_tokens.specs.Lexing.{text_of, lexed, lexed_text}
+use Rattle.fmp_config_statements.specs.declared.tokens.TokenKind.TheVariants as kinds
+use Rattle.fmp_config_statements.specs.declared.tokens.End.TheVariants.{Done}
+use Rattle.fmp_config_statements.specs.declared.modes.Place.{Place}
+use Rattle.fmp_config_statements.specs.declared.modes.Place.TheVariants as places
+use Rattle.fmp_config_statements.specs.declared.modes.Mode.TheVariants as modes
+use Rattle.fmp_config_statements.specs.Steps.{is_next, in_line_comment, step_of, line_after}
+use Rattle.fmp_config_statements.specs.Lexing.{text_of, lexed, lexed_text}
 use Rattle.fmp_law_config.specs.Parts.{ends_comment}
 use Rattle.fmp_law_config.specs.Tokens.{Glyph, glyph_of, SpellsTokens}
 use Rattle.fmp_law_config.proofs.Bytes.{passes, gives}

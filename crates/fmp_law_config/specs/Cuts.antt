@@ -1,7 +1,7 @@
 -- Texts that are cut before a token.
 use Rattle.std.specs.Prelude.{◌≡◌, ℕ, ◌⊎◌, List, [], ◌∷◌, ◌++◌}
-use Rattle.fmp_config_tokens.specs.declared.tokens.TokenKind.TheVariants.{DirectiveEnd}
-use Rattle.fmp_config_tokens.specs.Lexing.{Lexeme, lexed_text}
+use Rattle.fmp_config_statements.specs.declared.tokens.TokenKind.TheVariants.{DirectiveEnd}
+use Rattle.fmp_config_statements.specs.Lexing.{Lexeme, lexed_text}
 
 -- these tokens, or they and the end of the directive in which the last of them stands
 abbrev pub AreTokens : List Lexeme → List Lexeme → Type 0

@@ -4,7 +4,7 @@ use Rattle.std.specs.Prelude.{◌≡◌, ℕ, ◌≤◌, Bool, true, not, ◌||�
 use Rattle.std.specs.List.{list_all}
 use Rattle.fmp_bytes.specs.Spelling.{SpellsUnsigned}
 use Rattle.fmp_names.specs.Names.{is_name}
-use Rattle.fmp_config_tokens.specs.declared.tokens.TokenKind.TheVariants as kinds
+use Rattle.fmp_config_statements.specs.declared.tokens.TokenKind.TheVariants as kinds
 use Rattle.fmp_config_statements.specs.Words.{is_directive_kind, is_end_kind}
 use Rattle.fmp_law_config.specs.Tokens.{Glyph}
 

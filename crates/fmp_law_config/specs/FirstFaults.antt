@@ -5,9 +5,9 @@ use Rattle.fmp_config.specs.Reading.{config_in}
 use Rattle.fmp_setup.specs.Setup.{Setup}
 use Rattle.fmp_config_statements.specs.Faults.{Fault, fault_of_line}
 use Rattle.fmp_config_statements.specs.declared.fault.ConfigKind.TheVariants as faults
-use Rattle.fmp_config_tokens.specs.Lexing.{Lexeme, lexed_text}
-use Rattle.fmp_config_tokens.specs.declared.tokens.End.{End}
-use Rattle.fmp_config_tokens.specs.declared.tokens.End.TheVariants.{Bad, CutShort, Done}
+use Rattle.fmp_config_statements.specs.Lexing.{Lexeme, lexed_text}
+use Rattle.fmp_config_statements.specs.declared.tokens.End.{End}
+use Rattle.fmp_config_statements.specs.declared.tokens.End.TheVariants.{Bad, CutShort, Done}
 use Rattle.fmp_law_config.specs.Cuts.{IsCutAfter}
 use Rattle.fmp_law_config.specs.Grammar.{Configures}
 

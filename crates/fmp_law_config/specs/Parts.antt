@@ -6,9 +6,9 @@ use Rattle.std.specs.List.{list_all}
 use Rattle.fmp_bytes.specs.declared.classes.Class.{Class}
 use Rattle.fmp_bytes.specs.declared.classes.Class.TheVariants.{Space, Digit, Word}
 use Rattle.fmp_bytes.specs.Bytes.{is_of, is_identifier, asterisk, backslash, line_feed, number_sign, quotation_mark, slash}
-use Rattle.fmp_config_tokens.specs.declared.modes.Place.{Place}
-use Rattle.fmp_config_tokens.specs.declared.modes.Place.TheVariants.{LineStart, Code, Directive}
-use Rattle.fmp_config_tokens.specs.Steps.{is_next}
+use Rattle.fmp_config_statements.specs.declared.modes.Place.{Place}
+use Rattle.fmp_config_statements.specs.declared.modes.Place.TheVariants.{LineStart, Code, Directive}
+use Rattle.fmp_config_statements.specs.Steps.{is_next}
 
 -- what a text is made of. The bytes of a comment are those between `/*` and `*/` or after `//`, those of a string the
 -- ones between its quotes

@@ -1,7 +1,7 @@
 //! Laws of the grammar: what is spelled is read, and what is read is spelled. And where the first fault is found.
 ghost use Rattle.std.specs.Prelude.{◌≡◌, ◌≤◌, ℕ, List, ◌∷◌, ◌++◌, length, map, Ok, Err};
-ghost use Rattle.fmp_config_tokens.specs.declared.tokens.End.TheVariants.{Done};
-ghost use Rattle.fmp_config_tokens.specs.Lexing.{Lexeme, lexed_text};
+ghost use Rattle.fmp_config_statements.specs.declared.tokens.End.TheVariants.{Done};
+ghost use Rattle.fmp_config_statements.specs.Lexing.{Lexeme, lexed_text};
 ghost use Rattle.fmp_config.specs.Limits.{most_bytes};
 ghost use Rattle.fmp_config.specs.Reading.{config_in};
 ghost use Rattle.fmp_setup.specs.Setup.{Setup};

@@ -8,7 +8,7 @@ use Rattle.fmp_config_statements.specs.declared.table.StatementName.{StatementNa
 use Rattle.fmp_config_statements.specs.Folds.{each}
 use Rattle.fmp_config_statements.specs.Forms.{Form, begun}
 use Rattle.fmp_config_statements.specs.Table.{text_of}
-use Rattle.fmp_config_tokens.specs.Lexing.{Lexeme}
+use Rattle.fmp_config_statements.specs.Lexing.{Lexeme}
 use Rattle.fmp_law_config.specs.Elements.{Element, Plain, definitions_of, identifier, plain_of}
 use Rattle.fmp_law_config.specs.Meaning.{may_stand}
 use Rattle.fmp_law_config.specs.Phrases.{Phrase}

@@ -23,7 +23,7 @@ use Rattle.fmp_config_statements.specs.Faults.{Fault, fault_at, fault_in, fault_
 use Rattle.fmp_config_statements.specs.Folds.{each}
 use Rattle.fmp_config_statements.specs.Forms.{Form}
 use Rattle.fmp_config_statements.specs.Words.{Word, is_directive_kind, is_end_kind, is_identifier_kind, word_of}
-use Rattle.fmp_config_tokens.specs.Lexing.{Lexeme}
+use Rattle.fmp_config_statements.specs.Lexing.{Lexeme}
 use Rattle.fmp_law_config.specs.Elements.{Defines, Skips, Included, Undefined, identifier, is_plain}
 use Rattle.fmp_law_config.specs.FirstFaults.{HaveNoFault}
 use Rattle.fmp_law_config.specs.Stages.{Stage}

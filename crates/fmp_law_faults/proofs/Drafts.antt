@@ -5,8 +5,8 @@ use Rattle.std.specs.List.{list_any}
 use Rattle.std.specs.Str.{bytes_eq}
 use Rattle.std.proofs.lemmas.List.Sums.{sum_by-append}
 use Rattle.fmp_names.specs.Names.{NameLists}
-use Rattle.fmp_search_words.specs.declared.spot.Spot.{Spot}
-use Rattle.fmp_search_words.specs.declared.spot.Spot.TheVariants.{Front}
+use Rattle.fmp_search_pattern.specs.declared.spot.Spot.{Spot}
+use Rattle.fmp_search_pattern.specs.declared.spot.Spot.TheVariants.{Front}
 use Rattle.fmp_search_question.specs.Reading.{Draft, has_begun, nothing_read}
 use Rattle.fmp_law_faults.specs.Words.{end_with, is_break, is_then, is_without, pattern_of, step_of, steps_in, steps_of, times_of}
 use Rattle.fmp_law_faults.proofs.Following.{after_other, after_such, any_same, any_true, ends_more, steps_other, steps_then, times_more}

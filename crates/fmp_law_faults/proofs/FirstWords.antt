@@ -20,7 +20,7 @@ use Rattle.fmp_config_statements.specs.Forms.{begun}
 use Rattle.fmp_config_statements.specs.Table.{statement_of, text_of}
 use Rattle.fmp_config_statements.specs.Words.{is_identifier_kind, is_mark, word_of}
 use Rattle.fmp_config_statements.proofs.Found.{statement_of-text_of}
-use Rattle.fmp_config_tokens.specs.Lexing.{Lexeme}
+use Rattle.fmp_config_statements.specs.Lexing.{Lexeme}
 use Rattle.fmp_law_config.specs.Elements.{is_plain}
 use Rattle.fmp_law_config.specs.FirstFaults.{HaveNoFault}
 use Rattle.fmp_law_config.specs.Stages.{Stage}

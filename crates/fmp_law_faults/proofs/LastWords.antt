@@ -12,7 +12,7 @@ use Rattle.fmp_config_statements.specs.declared.table.StatementName.TheVariants 
 use Rattle.fmp_config_statements.specs.Faults.{Fault}
 use Rattle.fmp_config_statements.specs.Folds.{each}
 use Rattle.fmp_config_statements.specs.Forms.{Form, form_step, is_complete}
-use Rattle.fmp_config_tokens.specs.Lexing.{Lexeme}
+use Rattle.fmp_config_statements.specs.Lexing.{Lexeme}
 use Rattle.fmp_law_config.specs.Elements.{Definition, definitions_of, is_plain}
 use Rattle.fmp_law_config.specs.FirstFaults.{HaveNoFault}
 use Rattle.fmp_law_config.specs.Meaning.{may_stand}

@@ -12,8 +12,8 @@ use Rattle.fmp_bytes.proofs.Cutting.{join-pieces_of}
 use Rattle.fmp_bytes.proofs.Words.{is_word, not_word}
 use Rattle.fmp_names.specs.Names.{NameLists}
 use Rattle.fmp_search_pattern.specs.Lasting.{Lasting}
-use Rattle.fmp_search_words.specs.declared.spot.Spot.TheVariants.{Front}
-use Rattle.fmp_search_words.specs.Words.{is_printed}
+use Rattle.fmp_search_pattern.specs.declared.spot.Spot.TheVariants.{Front}
+use Rattle.fmp_search_pattern.specs.Words.{is_printed}
 use Rattle.fmp_search_question.specs.declared.fault.QuestionFault.{QuestionFault}
 use Rattle.fmp_search_question.specs.declared.fault.QuestionFault.TheVariants.{BadForm, TooLong, UnknownName}
 use Rattle.fmp_search_question.specs.declared.stage.Stage.{Stage}

@@ -13,7 +13,7 @@ use Rattle.fmp_config_statements.specs.declared.table.StatementName.{StatementNa
 use Rattle.fmp_config_statements.specs.Faults.{Fault}
 use Rattle.fmp_config_statements.specs.Forms.{Form, advanced, form_step, is_complete, misfit, next_part}
 use Rattle.fmp_config_statements.specs.Parts.{may_end, next_of, scan_of}
-use Rattle.fmp_config_tokens.specs.Lexing.{Lexeme}
+use Rattle.fmp_config_statements.specs.Lexing.{Lexeme}
 use Rattle.fmp_law_config.specs.Elements.{is_plain}
 use Rattle.fmp_law_config.specs.FirstFaults.{HaveNoFault}
 use Rattle.fmp_law_config.specs.Phrases.{Phrase}

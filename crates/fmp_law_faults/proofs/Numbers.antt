@@ -15,7 +15,7 @@ use Rattle.fmp_bytes.proofs.Prefixes.{list_all-parts}
 use Rattle.fmp_bytes.proofs.Spelled.{magnitude_of-some, magnitude_of-small}
 use Rattle.fmp_bytes.proofs.Words.{is_word}
 use Rattle.fmp_names.specs.Names.{NameLists}
-use Rattle.fmp_search_words.specs.declared.spot.Spot.{Spot}
+use Rattle.fmp_search_pattern.specs.declared.spot.Spot.{Spot}
 use Rattle.fmp_search_question.specs.Reading.{number_in, times_within}
 use Rattle.fmp_search_question.specs.Grammar.Grammar.{SpellsCount, spaced}
 use Rattle.fmp_law_faults.specs.Words.{is_break}

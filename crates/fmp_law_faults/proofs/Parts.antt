@@ -5,10 +5,10 @@ use Rattle.std.specs.List.{list_all, list_any}
 use Rattle.std.specs.Str.{bytes_eq}
 use Rattle.fmp_names.specs.Names.{NameLists}
 use Rattle.fmp_search_pattern.specs.Items.{Item}
-use Rattle.fmp_search_words.specs.declared.spot.Spot.{Spot}
-use Rattle.fmp_search_words.specs.declared.spot.Spot.TheVariants.{Front}
-use Rattle.fmp_search_words.specs.Spots.{may_end}
-use Rattle.fmp_search_words.specs.Words.{is_fine, is_printed, runs_of}
+use Rattle.fmp_search_pattern.specs.declared.spot.Spot.{Spot}
+use Rattle.fmp_search_pattern.specs.declared.spot.Spot.TheVariants.{Front}
+use Rattle.fmp_search_pattern.specs.Spots.{may_end}
+use Rattle.fmp_search_pattern.specs.Words.{is_fine, is_printed, runs_of}
 use Rattle.fmp_search_question.specs.declared.fault.QuestionFault.{QuestionFault}
 use Rattle.fmp_search_question.specs.declared.fault.QuestionFault.TheVariants.{BadWord, TooLong, UnknownName}
 use Rattle.fmp_search_question.specs.Places.{longer, next_spot}
@@ -47,10 +47,6 @@ one_is word is =
 abbrev pub Keeps : Result Draft QuestionFault → Type 0
 Keeps (Err fault) = Unit {0}
 Keeps (Ok e) = IsPart e
-
-keeps_form : (o : Option Draft) → ((e : Draft) → o ≡ Some e → IsPart e) → Keeps (or_form o)
-keeps_form None kept = tt
-keeps_form (Some e) kept = kept e refl
 
 module _ (names : NameLists) (d : Draft) (p : IsPart d) where
   like : (e : Draft) → e.steps ≡ d.steps → e.times ≡ d.times → e.moment ≡ d.moment → e.parts ≡ d.parts → IsPart e

@@ -9,10 +9,10 @@ use Rattle.std.proofs.lemmas.Bool.Decides.{nat_tests}
 use Rattle.std.proofs.lemmas.List.Folds.{list_all-append}
 use Rattle.fmp_bytes.specs.Bytes.{space, pieces_of}
 use Rattle.fmp_names.specs.Names.{NameLists}
-use Rattle.fmp_search_words.specs.declared.spot.Spot.{Spot}
-use Rattle.fmp_search_words.specs.declared.spot.Spot.TheVariants.{Front, Whole}
-use Rattle.fmp_search_words.specs.Spots.{may_end, may_follow, stepped}
-use Rattle.fmp_search_words.specs.Words.{is_fine, is_printed, runs_of, star}
+use Rattle.fmp_search_pattern.specs.declared.spot.Spot.{Spot}
+use Rattle.fmp_search_pattern.specs.declared.spot.Spot.TheVariants.{Front, Whole}
+use Rattle.fmp_search_pattern.specs.Spots.{may_end, may_follow, stepped}
+use Rattle.fmp_search_pattern.specs.Words.{is_fine, is_printed, runs_of, star}
 use Rattle.fmp_search_pattern.specs.declared.items.Wanted.{Wanted}
 use Rattle.fmp_search_pattern.specs.declared.items.Wanted.TheVariants as wanted
 use Rattle.fmp_search_question.specs.Places.{last_spot, longer, next_spot, words_of}

@@ -8,8 +8,8 @@ use Rattle.std.proofs.lemmas.Bool.{false≢true, leb-true, leb-false, ne_eqb}
 use Rattle.std.proofs.lemmas.List.{length-replicate}
 use Rattle.fmp_bytes.proofs.Words.{not_word}
 use Rattle.fmp_names.specs.Names.{NameLists}
-use Rattle.fmp_search_words.specs.declared.spot.Spot.TheVariants.{Front, Whole}
-use Rattle.fmp_search_words.specs.Words.{is_printed}
+use Rattle.fmp_search_pattern.specs.declared.spot.Spot.TheVariants.{Front, Whole}
+use Rattle.fmp_search_pattern.specs.Words.{is_printed}
 use Rattle.fmp_search_pattern.specs.declared.question.Step.{Step}
 use Rattle.fmp_search_pattern.specs.Items.{Item}
 use Rattle.fmp_search_question.specs.declared.fault.QuestionFault.{QuestionFault}
@@ -30,10 +30,6 @@ use Rattle.fmp_law_faults.proofs.Drafts.{IsAfter, all_steps, in_pattern, next_st
 pub if_not : {A : Type 0} (test : Bool) (x : A) (o : Option A) → cond test None (Some x) ≡ o → ((test ≡ true) × (o ≡ None)) ⊎ ((test ≡ false) × (o ≡ Some x))
 if_not true x o e = inl (refl, sym e)
 if_not false x o e = inr (refl, sym e)
-
-if_so : {A : Type 0} (test : Bool) (x : A) (o : Option A) → cond test (Some x) None ≡ o → ((test ≡ true) × (o ≡ Some x)) ⊎ ((test ≡ false) × (o ≡ None))
-if_so true x o e = inl (refl, sym e)
-if_so false x o e = inr (refl, sym e)
 
 some_more : {A : Type 0} (xs : List A) (x : A) → not (eqb (length (xs ++ x ∷ [])) 0) ≡ true
 some_more xs x = let some = ne_eqb (length (xs ++ x ∷ [])) 0 (λ e. omega (arith, e, length-append xs (x ∷ []))) in rw some refl

@@ -13,9 +13,9 @@ use Rattle.fmp_config_statements.specs.declared.fault.ConfigKind.TheVariants as 
 use Rattle.fmp_config_statements.specs.Faults.{Fault, fault_of_line}
 use Rattle.fmp_config_statements.specs.Folds.{each}
 use Rattle.fmp_config_statements.specs.Forms.{Form}
-use Rattle.fmp_config_tokens.specs.Lexing.{Lexeme, lexed_text}
-use Rattle.fmp_config_tokens.specs.declared.tokens.End.{End}
-use Rattle.fmp_config_tokens.specs.declared.tokens.End.TheVariants.{Bad, CutShort, Done}
+use Rattle.fmp_config_statements.specs.Lexing.{Lexeme, lexed_text}
+use Rattle.fmp_config_statements.specs.declared.tokens.End.{End}
+use Rattle.fmp_config_statements.specs.declared.tokens.End.TheVariants.{Bad, CutShort, Done}
 use Rattle.fmp_law_config.specs.FirstFaults.{HaveNoFault, IsOfEnd}
 use Rattle.fmp_law_config.specs.Stages.{Stage}
 use Rattle.fmp_law_config.specs.Tokens.{glyph_of}

@@ -12,7 +12,7 @@ use Rattle.fmp_config_statements.specs.declared.parts.Scan.{Scan}
 use Rattle.fmp_config_statements.specs.declared.parts.Scan.TheVariants.{Mark, One, Next, More, Free, Method, Master, Nothing}
 use Rattle.fmp_config_statements.specs.Forms.{Form}
 use Rattle.fmp_config_statements.specs.Parts.{is_barred, is_stop, next_free, scan_of}
-use Rattle.fmp_config_tokens.specs.declared.tokens.TokenKind.TheVariants as kinds
+use Rattle.fmp_config_statements.specs.declared.tokens.TokenKind.TheVariants as kinds
 use Rattle.fmp_law_config.specs.Elements.{identifier, symbol}
 use Rattle.fmp_law_config.specs.Phrases.{Phrase, SpellsParts, may_be, with_word, with_words}
 use Rattle.fmp_law_config.specs.Tokens.{Glyph}

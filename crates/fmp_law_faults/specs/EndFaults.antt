@@ -3,7 +3,7 @@ use Rattle.std.specs.Prelude.{◌≡◌, ◌⊎◌, true, false, List, is_some}
 use Rattle.fmp_config.specs.Drafts.{is_start}
 use Rattle.fmp_config_statements.specs.declared.fault.ConfigKind.{ConfigKind}
 use Rattle.fmp_config_statements.specs.declared.fault.ConfigKind.TheVariants.{CutShort, NoProcessors}
-use Rattle.fmp_config_tokens.specs.Lexing.{Lexeme}
+use Rattle.fmp_config_statements.specs.Lexing.{Lexeme}
 use Rattle.fmp_law_config.specs.Stages.{Stage}
 use Rattle.fmp_law_faults.specs.Statements.{IsAt, between, within}
 

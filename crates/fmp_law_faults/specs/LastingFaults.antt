@@ -6,7 +6,7 @@ use Rattle.std.specs.Str.{bytes_eq}
 use Rattle.fmp_bytes.specs.Bytes.{pieces_of, space}
 use Rattle.fmp_names.specs.Names.{NameLists}
 use Rattle.fmp_search_pattern.specs.Lasting.{Lasting}
-use Rattle.fmp_search_words.specs.Words.{is_printed}
+use Rattle.fmp_search_pattern.specs.Words.{is_printed}
 use Rattle.fmp_search_question.specs.declared.fault.QuestionFault.{QuestionFault}
 use Rattle.fmp_search_question.specs.declared.fault.QuestionFault.TheVariants.{BadForm, BadWord, TooLong, UnknownName}
 use Rattle.fmp_search_question.specs.Lasting.{are_tasks, begins_so, most_parts}

@@ -6,8 +6,8 @@ use Rattle.std.specs.Str.{bytes_eq}
 use Rattle.fmp_bytes.specs.Bytes.{pieces_of, space}
 use Rattle.fmp_names.specs.Names.{NameLists}
 use Rattle.fmp_search_pattern.specs.declared.items.Wanted.{Wanted}
-use Rattle.fmp_search_words.specs.declared.spot.Spot.TheVariants.{Front}
-use Rattle.fmp_search_words.specs.Words.{is_fine, is_printed, runs_of}
+use Rattle.fmp_search_pattern.specs.declared.spot.Spot.TheVariants.{Front}
+use Rattle.fmp_search_pattern.specs.Words.{is_fine, is_printed, runs_of}
 use Rattle.fmp_search_question.specs.declared.fault.QuestionFault.{QuestionFault}
 use Rattle.fmp_search_question.specs.declared.fault.QuestionFault.TheVariants.{BadWord, BadForm, UnknownName, TooLong, NoLine}
 use Rattle.fmp_search_question.specs.Reading.{most_pattern, most_steps}

@@ -7,8 +7,8 @@ use Rattle.fmp_config_statements.specs.declared.fault.ConfigKind.{ConfigKind}
 use Rattle.fmp_config_statements.specs.declared.table.StatementName.{StatementName}
 use Rattle.fmp_config_statements.specs.Faults.{Fault}
 use Rattle.fmp_config_statements.specs.Table.{text_of}
-use Rattle.fmp_config_tokens.specs.Lexing.{Lexeme, lexed_text}
-use Rattle.fmp_config_tokens.specs.declared.tokens.TokenKind.TheVariants as kinds
+use Rattle.fmp_config_statements.specs.Lexing.{Lexeme, lexed_text}
+use Rattle.fmp_config_statements.specs.declared.tokens.TokenKind.TheVariants as kinds
 use Rattle.fmp_law_config.specs.Clauses.{Clause, SpellsClauses}
 use Rattle.fmp_law_config.specs.Elements.{Element, Plain, SpellsElements, definitions_of, identifier, is_plain, plain_of}
 use Rattle.fmp_law_config.specs.Meaning.{SayClauses, may_stand}

@@ -1,8 +1,8 @@
 //! Laws of first faults: what is read is what the tables say.
 ghost use Rattle.std.specs.Prelude.{◌≡◌, ◌≤◌, ℕ, true, List, [], ◌∷◌, ◌++◌, length, map, Ok, Err};
 ghost use Rattle.fmp_names.specs.Names.{NameLists};
-ghost use Rattle.fmp_config_tokens.specs.Lexing.{Lexeme, lexed_text};
-ghost use Rattle.fmp_config_tokens.specs.declared.tokens.End.TheVariants.{Bad, CutShort, Done};
+ghost use Rattle.fmp_config_statements.specs.Lexing.{Lexeme, lexed_text};
+ghost use Rattle.fmp_config_statements.specs.declared.tokens.End.TheVariants.{Bad, CutShort, Done};
 ghost use Rattle.fmp_config.specs.Limits.{most_bytes};
 ghost use Rattle.fmp_config.specs.Reading.{config_in};
 ghost use Rattle.fmp_config_statements.specs.declared.fault.ConfigKind.TheVariants as faults;

@@ -8,3 +8,4 @@ pub mod CoversObjects  -- What S must have for a call on an object.
 pub mod CoversCalls  -- What S must have for each call.
 pub mod Covers  -- What S must have for each event: every cell that the event may change.
 pub mod Kinds  -- Which kinds of cells a call and a tick may change, whatever the state.
+pub mod Frames  -- What a record says that its event may change, and what it leaves.

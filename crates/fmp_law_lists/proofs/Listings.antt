@@ -10,7 +10,7 @@ use Rattle.fmp_rules.specs.Arrivals.{inserted, inserted_if, in_order}
 use Rattle.fmp_law_safety.specs.First.{IsStrict}
 use Rattle.fmp_codes.specs.declared.numbers.Task.{Task}
 use Rattle.fmp_codes.proofs.Same.{tasks_same}
-use Rattle.fmp_kernel_links.specs.Tasks.{has_task, without}
+use Rattle.fmp_kernel_parts.specs.Tasks.{has_task, without}
 use Rattle.fmp_law_lists.specs.Listing.{is_task, times, StandsOnceIf, all_but, AllAfter, IsInOrder, IsListOf, IsTotal}
 
 pub itself : (t : Task) → is_task t t ≡ true

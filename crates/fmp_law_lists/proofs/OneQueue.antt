@@ -8,7 +8,7 @@ use Rattle.fmp_rules.specs.declared.machine.TaskRecord.{TaskRecord}
 use Rattle.fmp_rules.specs.World.{item}
 use Rattle.fmp_rules.specs.Arrivals.{inserted, comes_before, rank_in}
 use Rattle.fmp_law_safety.proofs.First.{comes_before_is_strict}
-use Rattle.fmp_kernel_links.specs.Tasks.{without}
+use Rattle.fmp_kernel_parts.specs.Tasks.{without}
 use Rattle.fmp_waitq.specs.Queue.{Waiter, task_of, rank_of, left_by, put_ranked, joined_by}
 use Rattle.fmp_law_lists.specs.Listing.{is_task, all_but, IsListOf}
 use Rattle.fmp_law_lists.specs.Stands.{record_in, AreRanked}

@@ -10,7 +10,7 @@ use Rattle.fmp_rules.specs.World.{item, with_item, no_task}
 use Rattle.fmp_rules.specs.Ordering.{is_runnable}
 use Rattle.fmp_rules.specs.Arrivals.{comes_before, priority_in}
 use Rattle.fmp_law_safety.proofs.First.{comes_before_is_strict}
-use Rattle.fmp_kernel_links.specs.Tasks.{without}
+use Rattle.fmp_kernel_parts.specs.Tasks.{without}
 use Rattle.fmp_ready.specs.Queues.{list_number, queue_at, push_last, take_out}
 use Rattle.fmp_law_lists.specs.Listing.{is_task, all_but, IsListOf}
 use Rattle.fmp_law_lists.specs.Stands.{record_in, runs_in, is_ready_at, AreNumbered, ReadyIs}

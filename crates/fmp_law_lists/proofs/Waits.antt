@@ -13,7 +13,7 @@ use Rattle.fmp_rules.specs.World.{item, with_item, no_task}
 use Rattle.fmp_rules.specs.Ordering.{waits_in}
 use Rattle.fmp_rules.specs.Arrivals.{comes_before, rank_in}
 use Rattle.fmp_law_safety.proofs.First.{comes_before_is_strict}
-use Rattle.fmp_kernel_links.specs.Tasks.{without}
+use Rattle.fmp_kernel_parts.specs.Tasks.{without}
 use Rattle.fmp_waitq.specs.Queue.{Waiter, task_of, rank_of, left_by, joined_by}
 use Rattle.fmp_kernel_order.specs.Queues.{WaitQueues, queues, queue, Place, place_of, place_in, changed, timed_by}
 use Rattle.fmp_law_lists.specs.Listing.{is_task, all_but, IsListOf}

@@ -15,7 +15,7 @@ use Rattle.fmp_rules.specs.declared.machine.QueueKind.TheVariants as kind
 use Rattle.fmp_rules.specs.World.{World, item, with_item, no_task}
 use Rattle.fmp_rules.specs.Ordering.{is_runnable, order_in, order_of, depart, arrive}
 use Rattle.fmp_rules.specs.Arrivals.{Arrivals, numbered, rank_in}
-use Rattle.fmp_kernel_links.specs.Tasks.{has_task, without}
+use Rattle.fmp_kernel_parts.specs.Tasks.{has_task, without}
 use Rattle.fmp_ready.specs.Queues.{take_out}
 use Rattle.fmp_waitq.specs.Queue.{Waiter, task_of, rank_of, waiter_of, left_by, joined_by}
 use Rattle.fmp_kernel_order.specs.Queues.{WaitQueues, Queues, queues, queue, Place, place_of, place_in, changed, timed_by, listed}

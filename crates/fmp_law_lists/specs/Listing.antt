@@ -2,7 +2,7 @@
 -- Lists of tasks in which each of some tasks stands once, in an order.
 use Rattle.std.specs.Prelude.{◌≡◌, ℕ, ◌==◌, not, ◌&&◌, Bool, true, false, List, [], ◌∷◌, if◌then◌else◌, count_by}
 use Rattle.fmp_codes.specs.declared.numbers.Task.{Task}
-use Rattle.fmp_kernel_links.specs.Tasks.{has_task}
+use Rattle.fmp_kernel_parts.specs.Tasks.{has_task}
 
 abbrev pub is_task : Task → Task → Bool
 is_task t u = t.number == u.number

@@ -27,8 +27,8 @@ use Rattle.fmp_rules.specs.Step.{row_of, step}
 use Rattle.fmp_law_safety.proofs.Calls.{from_task}
 use Rattle.fmp_law_balance.specs.Accepted.{is_accepted}
 use Rattle.fmp_law_balance.proofs.Steps.{report}
-use Rattle.fmp_law_waits.proofs.Events.{by_event}
-use Rattle.fmp_law_waits.proofs.Named.{task_known}
+use Rattle.fmp_law_balance.proofs.waits.Events.{by_event}
+use Rattle.fmp_law_balance.proofs.waits.Named.{task_known}
 use Rattle.fmp_law_records.proofs.Rows.{task_rows}
 use Rattle.fmp_law_records.proofs.counts.Tasks.{named_or_caller_is}
 use Rattle.fmp_law_records.specs.Suspensions.{is_overflow}

@@ -11,7 +11,7 @@ use Rattle.fmp_rules.specs.Arrivals.{State, numbered}
 use Rattle.fmp_rules.specs.Step.{step, replay, answers}
 use Rattle.fmp_rules.specs.Boot.{booted}
 use Rattle.fmp_law_safety.specs.Runs.{AreOn}
-use Rattle.fmp_law_waits.specs.Asked.{OpenWait}
+use Rattle.fmp_law_balance.specs.Waits.Asked.{OpenWait}
 use Rattle.fmp_law_records.proofs.counts.Ready.{ready_after}
 use Rattle.fmp_law_records.specs.Accepting.{report_task, TaskCallFits}
 use Rattle.fmp_law_records.proofs.TaskRuns.{suspension_from_boot}

@@ -15,14 +15,14 @@ use Rattle.fmp_setup.specs.Valid.{IsValid}
 use Rattle.fmp_rules.specs.declared.machine.Alarm.{Alarm}
 use Rattle.fmp_rules.specs.World.{item, processors_to}
 use Rattle.fmp_rules.specs.Objects.{alarm}
-use Rattle.fmp_law_waits.specs.Meanings.{ticks_in}
+use Rattle.fmp_law_balance.specs.Waits.Meanings.{ticks_in}
 use Rattle.fmp_rules.specs.Arrivals.{State, numbered}
 use Rattle.fmp_rules.specs.Step.{step, replay, answers}
 use Rattle.fmp_rules.specs.Boot.{blank, all_started, booted, unnumbered}
 use Rattle.fmp_rules.proofs.Replays.{answers_take}
 use Rattle.fmp_law_safety.specs.Runs.{AreOn}
-use Rattle.fmp_law_waits.specs.Waits.{OpenWaits, nobody_waits, after_record, is_tick_for}
-use Rattle.fmp_law_waits.proofs.Events.{by_event}
+use Rattle.fmp_law_balance.specs.Waits.Waits.{OpenWaits, nobody_waits, after_record, is_tick_for}
+use Rattle.fmp_law_balance.proofs.waits.Events.{by_event}
 use Rattle.fmp_law_balance.specs.Accepted.{is_accepted}
 use Rattle.fmp_law_records.specs.Counts.Alarms.{starts_alarm, stops_alarm, alarm_time, without_tick, alarm_left_after, alarm_left_by}
 use Rattle.fmp_law_records.proofs.counts.HandlersRuns.{alarms_timed, clocks_step, clock_started, clock_running}

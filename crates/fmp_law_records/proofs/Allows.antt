@@ -17,7 +17,7 @@ use Rattle.fmp_rules.specs.Arguments.{task_named, task_or_caller, processor_or_i
 use Rattle.fmp_rules.specs.TaskCalls.{is_dormant, act, mact, mig_tsk, ter_tsk, chg_pri, get_pri, wup, can_wup, rel_wai, sus_tsk, rsm_tsk, task_row}
 use Rattle.fmp_law_safety.proofs.Calls.{Accepts, from_task}
 use Rattle.fmp_law_balance.proofs.Called.{AllRefuse, by_called}
-use Rattle.fmp_law_waits.proofs.Named.{task_known}
+use Rattle.fmp_law_balance.proofs.waits.Named.{task_known}
 use Rattle.fmp_law_records.proofs.counts.Tasks.{named_or_caller_is}
 use Rattle.fmp_law_records.specs.Accepting.{is_about}
 use Rattle.fmp_law_records.specs.Line.{is_done}

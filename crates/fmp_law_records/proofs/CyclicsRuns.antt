@@ -20,8 +20,8 @@ use Rattle.fmp_rules.specs.Step.{step, replay, answers}
 use Rattle.fmp_rules.specs.Boot.{phase_left, blank, all_started, booted, unnumbered}
 use Rattle.fmp_rules.proofs.Replays.{answers_take}
 use Rattle.fmp_law_safety.specs.Runs.{AreOn}
-use Rattle.fmp_law_waits.specs.Waits.{OpenWaits, nobody_waits, after_record, is_tick_for}
-use Rattle.fmp_law_waits.proofs.Events.{by_event}
+use Rattle.fmp_law_balance.specs.Waits.Waits.{OpenWaits, nobody_waits, after_record, is_tick_for}
+use Rattle.fmp_law_balance.proofs.waits.Events.{by_event}
 use Rattle.fmp_law_balance.specs.Accepted.{is_accepted}
 use Rattle.fmp_law_records.specs.Counts.Alarms.{without_tick}
 use Rattle.fmp_law_records.specs.Counts.Cyclics.{starts_cyclic, stops_cyclic, cyclic_left_after, cyclic_left_by}

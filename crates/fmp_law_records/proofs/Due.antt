@@ -17,7 +17,7 @@ use Rattle.fmp_codes.specs.declared.records.Record.{Record}
 use Rattle.fmp_codes.specs.declared.records.Runner.TheVariants as runner
 use Rattle.fmp_codes.proofs.Same.{processors_same}
 use Rattle.fmp_setup.specs.Setup.{Setup, counts_for}
-use Rattle.fmp_law_words.proofs.Words.{clock_counts}
+use Rattle.fmp_law_balance.proofs.Words.{clock_counts}
 use Rattle.fmp_rules.specs.World.{World, item, with_item, rest, runner_of}
 use Rattle.fmp_rules.specs.Objects.{alarm, cyclic}
 use Rattle.fmp_rules.specs.Ordering.{Ordering}
@@ -32,7 +32,7 @@ use Rattle.fmp_law_safety.proofs.KeepsDue.{alarms_keep, cyclics_keep, released_k
 use Rattle.fmp_law_balance.specs.Accepted.{is_accepted}
 use Rattle.fmp_law_balance.proofs.Called.{by_called, not_accepted}
 use Rattle.fmp_law_balance.proofs.Steps.{report}
-use Rattle.fmp_law_waits.proofs.Events.{by_event}
+use Rattle.fmp_law_balance.proofs.waits.Events.{by_event}
 use Rattle.fmp_law_records.specs.Counts.Alarms.{is_last}
 use Rattle.fmp_law_records.specs.Counts.Due.{by_number}
 use Rattle.fmp_law_records.proofs.counts.HandlersRuns.{Clocked}

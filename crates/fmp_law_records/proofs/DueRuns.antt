@@ -21,8 +21,8 @@ use Rattle.fmp_rules.proofs.Replays.{answers_take}
 use Rattle.fmp_law_safety.specs.Runs.{processor_of, AreOn}
 use Rattle.fmp_law_safety.proofs.Items.{item_holds}
 use Rattle.fmp_law_safety.proofs.Booting.{started_due}
-use Rattle.fmp_law_waits.specs.Waits.{OpenWaits, nobody_waits, after_record}
-use Rattle.fmp_law_waits.proofs.Events.{event_reported, by_event}
+use Rattle.fmp_law_balance.specs.Waits.Waits.{OpenWaits, nobody_waits, after_record}
+use Rattle.fmp_law_balance.proofs.waits.Events.{event_reported, by_event}
 use Rattle.fmp_law_records.proofs.counts.HandlersRuns.{Clocked, clocked_next, clocked_booted}
 use Rattle.fmp_law_records.proofs.counts.Ready.{Ready, ready_next, ready_at_boot, prefix_on}
 use Rattle.fmp_law_records.specs.Handlers.{alarm_by, cyclic_by}

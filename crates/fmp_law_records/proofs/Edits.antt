@@ -25,7 +25,7 @@ use Rattle.fmp_law_safety.proofs.Calls.{from_task}
 use Rattle.fmp_law_balance.specs.Accepted.{is_accepted}
 use Rattle.fmp_law_balance.specs.Queues.{is_task}
 use Rattle.fmp_law_balance.proofs.Called.{refuses, by_called, not_accepted}
-use Rattle.fmp_law_waits.proofs.Named.{by_task, task_known}
+use Rattle.fmp_law_balance.proofs.waits.Named.{by_task, task_known}
 use Rattle.fmp_law_records.proofs.counts.Tasks.{is_caller_of, named_or_caller_is, changed_here, changed_there}
 use Rattle.fmp_law_records.specs.Accepting.{is_about}
 use Rattle.fmp_law_records.specs.Line.{is_done}

@@ -34,7 +34,7 @@ use Rattle.fmp_law_safety.proofs.Keeps.{KeepsOthers}
 use Rattle.fmp_law_safety.proofs.Listed.{numbered_lists}
 use Rattle.fmp_law_safety.proofs.Settling.{with_latches, settle_is}
 use Rattle.fmp_law_safety.proofs.Stepping.{keeps_call}
-use Rattle.fmp_law_waits.specs.Waits.{OpenWaits, nobody_waits, after_record}
+use Rattle.fmp_law_balance.specs.Waits.Waits.{OpenWaits, nobody_waits, after_record}
 use Rattle.fmp_law_records.proofs.counts.Ready.{Ready, ready_next, ready_at_boot, prefix_on}
 use Rattle.fmp_law_records.specs.Flags.{call_on, leaves, locked_after, disabled_after, locked_by, disabled_by, asked_of, number_if, AreFlagsReported, TellsFlags}
 use Rattle.fmp_codes.specs.declared.calls.SystemCall.{SystemCall}
@@ -42,7 +42,7 @@ use Rattle.fmp_codes.specs.declared.calls.SystemCall.TheVariants as system
 use Rattle.fmp_rules.specs.SystemCalls.{truth, sense}
 use Rattle.fmp_law_balance.specs.Accepted.{is_accepted, accepted_value}
 use Rattle.fmp_law_balance.proofs.Called.{by_called, not_accepted}
-use Rattle.fmp_law_waits.proofs.Events.{by_event}
+use Rattle.fmp_law_balance.proofs.waits.Events.{by_event}
 use Rattle.std.proofs.lemmas.Option.{none-some, same_Some}
 use Rattle.std.proofs.lemmas.Bool.{both_ways, eqb-true}
 use Rattle.fmp_law_records.proofs.Leaving.{tick_still}

@@ -57,9 +57,9 @@ use Rattle.fmp_law_safety.proofs.Items.{item_after}
 use Rattle.fmp_law_safety.proofs.Listed.{numbered_lists}
 use Rattle.fmp_law_safety.proofs.Queues.{IsAmong}
 use Rattle.fmp_law_balance.proofs.Called.{refuses, by_called, either_way}
-use Rattle.fmp_law_waits.specs.Waits.{is_waiting, is_number_of}
-use Rattle.fmp_law_waits.specs.Releases.{breaks_off}
-use Rattle.fmp_law_waits.proofs.Named.{task_known}
+use Rattle.fmp_law_balance.specs.Waits.Waits.{is_waiting, is_number_of}
+use Rattle.fmp_law_balance.specs.Waits.Releases.{breaks_off}
+use Rattle.fmp_law_balance.proofs.waits.Named.{task_known}
 use Rattle.fmp_law_records.proofs.Rows.{time_rows, system_rows}
 
 -- from m to v no wait begins: the numbers stay, and the next one may be greater. The orders of all queues stay

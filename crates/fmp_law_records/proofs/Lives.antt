@@ -26,7 +26,7 @@ use Rattle.fmp_rules.specs.Step.{step}
 use Rattle.fmp_law_balance.specs.Accepted.{is_accepted}
 use Rattle.fmp_law_balance.specs.Queues.{is_task}
 use Rattle.fmp_law_balance.proofs.Steps.{report}
-use Rattle.fmp_law_waits.specs.Waits.{is_number_of}
+use Rattle.fmp_law_balance.specs.Waits.Waits.{is_number_of}
 use Rattle.fmp_law_records.specs.Counts.Naming.{names_task}
 use Rattle.fmp_law_records.specs.Handlers.{taken_to}
 use Rattle.fmp_law_records.specs.Lives.{LifeReported, life_activated, life_ended, life_after, queued_count, queued_for}

@@ -14,7 +14,7 @@ use Rattle.fmp_rules.specs.Step.{step, replay, answers}
 use Rattle.fmp_rules.specs.Boot.{booted}
 use Rattle.fmp_rules.proofs.Replays.{answers_take}
 use Rattle.fmp_law_safety.specs.Runs.{AreOn}
-use Rattle.fmp_law_waits.specs.Waits.{OpenWaits, nobody_waits, after_record, setup_of}
+use Rattle.fmp_law_balance.specs.Waits.Waits.{OpenWaits, nobody_waits, after_record, setup_of}
 use Rattle.fmp_law_records.proofs.counts.Ready.{Ready, ready_next, ready_at_boot, prefix_on}
 use Rattle.fmp_law_records.specs.Lives.{LifeReported, life_after, life_by, life_at_boot, report_life, IsLifeReported}
 use Rattle.fmp_law_records.proofs.Lives.{HasLife, life_step}

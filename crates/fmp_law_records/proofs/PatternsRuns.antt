@@ -28,8 +28,8 @@ use Rattle.fmp_rules.specs.Boot.{blank, all_started, with_top_running, with_tops
 use Rattle.fmp_rules.proofs.Replays.{answers_take}
 use Rattle.fmp_law_safety.specs.Runs.{AreOn}
 use Rattle.fmp_law_balance.proofs.Steps.{report}
-use Rattle.fmp_law_waits.specs.Waits.{OpenWaits, nobody_waits, after_record}
-use Rattle.fmp_law_waits.proofs.Events.{by_event}
+use Rattle.fmp_law_balance.specs.Waits.Waits.{OpenWaits, nobody_waits, after_record}
+use Rattle.fmp_law_balance.proofs.waits.Events.{by_event}
 use Rattle.fmp_law_records.proofs.counts.Ready.{Ready, ready_next, ready_at_boot, ready_after, prefix_on}
 use Rattle.fmp_law_records.specs.Patterns.{asks_bits, sets_bits, pattern_after, pattern_by, report_pattern, IsPatternReported, PatternFits}
 use Rattle.fmp_law_records.proofs.Leaving.{tick_calm}

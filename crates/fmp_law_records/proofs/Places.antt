@@ -47,12 +47,12 @@ use Rattle.fmp_law_balance.specs.Accepted.{is_accepted}
 use Rattle.fmp_law_balance.specs.Queues.{is_task, is_call_of}
 use Rattle.fmp_law_balance.proofs.Called.{by_called, not_accepted}
 use Rattle.fmp_law_balance.proofs.Steps.{report}
-use Rattle.fmp_law_waits.specs.Asked.{OpenWait, asked_by}
-use Rattle.fmp_law_waits.specs.Waits.{OpenWaits, begins, is_waiting, ends, lasts, after_record, setup_of}
-use Rattle.fmp_law_waits.proofs.Events.{by_event}
-use Rattle.fmp_law_waits.proofs.Follows.{Sound, running_within, running_waits_not}
-use Rattle.fmp_law_waits.proofs.Named.{caller_runs}
-use Rattle.fmp_law_waits.proofs.Words.{IsKept}
+use Rattle.fmp_law_balance.specs.Waits.Asked.{OpenWait, asked_by}
+use Rattle.fmp_law_balance.specs.Waits.Waits.{OpenWaits, begins, is_waiting, ends, lasts, after_record, setup_of}
+use Rattle.fmp_law_balance.proofs.waits.Events.{by_event}
+use Rattle.fmp_law_balance.proofs.waits.Follows.{Sound, running_within, running_waits_not}
+use Rattle.fmp_law_balance.proofs.waits.Named.{caller_runs}
+use Rattle.fmp_law_balance.proofs.waits.Words.{IsKept}
 use Rattle.fmp_law_records.proofs.counts.Tasks.{named_or_caller_is}
 use Rattle.fmp_law_records.specs.Counts.Naming.{names_task}
 use Rattle.fmp_law_records.specs.Priorities.{given_by, gives_priority}

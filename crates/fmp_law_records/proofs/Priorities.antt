@@ -28,13 +28,13 @@ use Rattle.fmp_codes.proofs.Same.{tasks_same}
 use Rattle.fmp_law_safety.proofs.Calls.{from_task}
 use Rattle.fmp_law_balance.proofs.Called.{by_called, not_accepted}
 use Rattle.fmp_law_records.proofs.counts.Tasks.{named_or_caller_is}
-use Rattle.fmp_law_waits.proofs.Events.{by_event}
+use Rattle.fmp_law_balance.proofs.waits.Events.{by_event}
 use Rattle.std.proofs.lemmas.Bool.{not-false, eqb-true}
 use Rattle.fmp_rules.specs.Arguments.{priority_or, task_or_caller}
 use Rattle.fmp_law_balance.specs.Accepted.{is_accepted, accepted_value}
 use Rattle.fmp_law_balance.specs.Queues.{is_task}
 use Rattle.fmp_law_balance.proofs.Steps.{report}
-use Rattle.fmp_law_waits.specs.Waits.{is_number_of}
+use Rattle.fmp_law_balance.specs.Waits.Waits.{is_number_of}
 use Rattle.fmp_law_records.specs.Counts.Naming.{names_task}
 use Rattle.fmp_law_records.specs.Priorities.{given_by, given_or, asks_priority, priority_after, TellsPriority}
 use Rattle.fmp_law_records.proofs.Leaving.{besides}

@@ -19,7 +19,7 @@ use Rattle.fmp_rules.specs.Boot.{booted}
 use Rattle.fmp_law_safety.specs.Safe.{Safe}
 use Rattle.fmp_law_safety.specs.Runs.{processor_of, AreOn}
 use Rattle.fmp_law_safety.proofs.Interrupts.{finds_nothing}
-use Rattle.fmp_law_waits.specs.Waits.{nobody_waits, after_records}
+use Rattle.fmp_law_balance.specs.Waits.Waits.{nobody_waits, after_records}
 use Rattle.fmp_law_records.proofs.counts.Ready.{Ready, ready_later, ready_at_boot}
 use Rattle.fmp_law_records.specs.Quiet.{ChangesNothing}
 use Rattle.fmp_law_records.proofs.Requests.{interrupt_taken, tick_taken}

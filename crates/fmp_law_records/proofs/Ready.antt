@@ -11,12 +11,12 @@ use Rattle.fmp_rules.specs.declared.machine.Wait.{Wait}
 use Rattle.fmp_rules.specs.World.{task, first}
 use Rattle.fmp_rules.specs.Ordering.{top}
 use Rattle.fmp_rules.specs.Arrivals.{State, numbered, in_order, is_ready_on, priority_in, comes_before}
-use Rattle.fmp_law_waits.specs.Waits.{setup_of}
-use Rattle.fmp_law_waits.specs.Asked.{OpenWait}
+use Rattle.fmp_law_balance.specs.Waits.Waits.{setup_of}
+use Rattle.fmp_law_balance.specs.Waits.Asked.{OpenWait}
 use Rattle.fmp_law_records.specs.Standing.{Standing, stands_at, comes_first, ready_reported, top_reported}
-use Rattle.fmp_law_words.specs.Turns.{in_turn}
-use Rattle.fmp_law_words.proofs.Turns.{turns_ordered}
-use Rattle.fmp_law_words.proofs.Words.{head_same}
+use Rattle.fmp_law_balance.specs.Turns.{in_turn}
+use Rattle.fmp_law_balance.proofs.Turns.{turns_ordered}
+use Rattle.fmp_law_balance.proofs.Words.{head_same}
 use Rattle.fmp_law_records.proofs.Alike.{in_order_alike}
 use Rattle.fmp_law_records.proofs.Lines.{OrderedIn, can_run, number_of}
 use Rattle.fmp_law_records.proofs.Lives.{HasLife}

@@ -19,7 +19,7 @@ use Rattle.fmp_rules.specs.Rows.{called, plain}
 use Rattle.fmp_rules.specs.Tick.{tick}
 use Rattle.fmp_rules.specs.Step.{row_of, step}
 use Rattle.fmp_law_balance.proofs.Steps.{report}
-use Rattle.fmp_law_waits.proofs.Events.{by_event}
+use Rattle.fmp_law_balance.proofs.waits.Events.{by_event}
 use Rattle.fmp_law_records.proofs.Leaving.{besides, Leaves, is_on_tasks, call_leaves, tick_leaves}
 use Rattle.std.proofs.lemmas.Bool.{and_parts, both_ways}
 use Rattle.fmp_law_records.specs.Accepting.{is_about}

@@ -20,8 +20,8 @@ use Rattle.fmp_law_safety.specs.Runs.{processor_of, AreOn}
 use Rattle.fmp_law_safety.proofs.Listed.{numbered_lists}
 use Rattle.fmp_law_safety.proofs.Stepping.{numbered_tops, safe_step}
 use Rattle.fmp_law_safety.proofs.Booted.{count_booted}
-use Rattle.fmp_law_waits.specs.Waits.{OpenWaits, nobody_waits, after_record}
-use Rattle.fmp_law_waits.proofs.Events.{event_reported}
+use Rattle.fmp_law_balance.specs.Waits.Waits.{OpenWaits, nobody_waits, after_record}
+use Rattle.fmp_law_balance.proofs.waits.Events.{event_reported}
 use Rattle.fmp_law_records.proofs.counts.Ready.{Ready, ready_next, ready_at_boot, ready_after, prefix_on}
 use Rattle.fmp_law_records.specs.Flags.{locked_by, disabled_by, AreFlagsReported}
 use Rattle.fmp_law_records.specs.Due.{handlers_by, AreDueReported}

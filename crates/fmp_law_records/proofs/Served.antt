@@ -44,12 +44,12 @@ use Rattle.fmp_law_safety.proofs.Listed.{numbered_lists, not_past}
 use Rattle.fmp_law_balance.specs.Accepted.{is_accepted, names}
 use Rattle.fmp_law_balance.proofs.Called.{by_called, either_way}
 use Rattle.fmp_law_balance.proofs.Objects.{object_known}
-use Rattle.fmp_law_waits.specs.Asked.{OpenWait}
-use Rattle.fmp_law_waits.specs.Releases.{breaks_off, sets}
-use Rattle.fmp_law_waits.proofs.Events.{by_event}
-use Rattle.fmp_law_waits.proofs.Follows.{Sound}
-use Rattle.fmp_law_waits.proofs.Ticks.{numbered_once, follows_tick}
-use Rattle.fmp_law_waits.proofs.Words.{IsKept}
+use Rattle.fmp_law_balance.specs.Waits.Asked.{OpenWait}
+use Rattle.fmp_law_balance.specs.Waits.Releases.{breaks_off, sets}
+use Rattle.fmp_law_balance.proofs.waits.Events.{by_event}
+use Rattle.fmp_law_balance.proofs.waits.Follows.{Sound}
+use Rattle.fmp_law_balance.proofs.waits.Ticks.{numbered_once, follows_tick}
+use Rattle.fmp_law_balance.proofs.waits.Words.{IsKept}
 use Rattle.fmp_law_records.specs.Served.{is_priority, is_by_priority, is_beside, Places, began_before, is_served_before, IsNext, AreInOrder, is_flag_wait, is_for_bits, is_flag_by_priority, ServesInOrder}
 use Rattle.fmp_law_records.proofs.Joins.{IsFirstSomewhere, MayRelease, Stands, Joins, is_of_priority, call_did, served_all, all_among}
 use Rattle.fmp_law_records.proofs.Sorted.{in_order_sorted, sorted_filter, released_sorted, served_sorted, same_order}

@@ -33,9 +33,9 @@ use Rattle.fmp_law_safety.specs.Runs.{AreOn}
 use Rattle.fmp_law_safety.specs.Safe.{Safe}
 use Rattle.fmp_law_safety.proofs.Items.{item_holds}
 use Rattle.fmp_law_safety.proofs.Listed.{not_past}
-use Rattle.fmp_law_waits.specs.Waits.{OpenWaits, after_records, setup_of}
-use Rattle.fmp_law_waits.specs.Asked.{OpenWait}
-use Rattle.fmp_law_waits.proofs.Words.{IsKept}
+use Rattle.fmp_law_balance.specs.Waits.Waits.{OpenWaits, after_records, setup_of}
+use Rattle.fmp_law_balance.specs.Waits.Asked.{OpenWait}
+use Rattle.fmp_law_balance.proofs.waits.Words.{IsKept}
 use Rattle.fmp_law_records.proofs.counts.Ready.{Ready, ready_next, ready_at_boot, ready_after, followed}
 use Rattle.fmp_law_records.proofs.counts.Booted.{count_booted_tasks}
 use Rattle.fmp_law_records.specs.Priorities.{priority_by}

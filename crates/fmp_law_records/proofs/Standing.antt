@@ -42,10 +42,10 @@ use Rattle.fmp_law_safety.proofs.Calls.{FromTask, from_task}
 use Rattle.fmp_law_balance.specs.Accepted.{is_accepted}
 use Rattle.fmp_law_balance.proofs.Called.{refuses, by_called, either_way, not_accepted}
 use Rattle.fmp_law_balance.proofs.Steps.{report}
-use Rattle.fmp_law_waits.specs.Waits.{setup_of}
-use Rattle.fmp_law_waits.proofs.Events.{by_event}
-use Rattle.fmp_law_waits.proofs.Follows.{running_within, running_may}
-use Rattle.fmp_law_waits.proofs.Named.{caller_runs, task_known}
+use Rattle.fmp_law_balance.specs.Waits.Waits.{setup_of}
+use Rattle.fmp_law_balance.proofs.waits.Events.{by_event}
+use Rattle.fmp_law_balance.proofs.waits.Follows.{running_within, running_may}
+use Rattle.fmp_law_balance.proofs.waits.Named.{caller_runs, task_known}
 use Rattle.fmp_law_records.proofs.Rows.{system_rows}
 use Rattle.fmp_law_records.proofs.counts.Tasks.{is_caller_of, named_or_caller_is}
 use Rattle.fmp_law_records.specs.Priorities.{given_by}
@@ -60,7 +60,7 @@ use Rattle.fmp_law_records.proofs.Report.{idle_undone}
 use Rattle.fmp_law_records.proofs.Priorities.{given_same}
 use Rattle.fmp_law_records.proofs.Lines.{OrderedIn, can_run, ready_within, ordered_still, ordered_place, ordered_end, ordered_requeue, ordered_with, ordered_ready, ordered_begin}
 use Rattle.fmp_law_records.proofs.Serving.{Serves, done_or_waits, is_other, call_serves, tick_serves}
-use Rattle.fmp_law_words.proofs.Words.{head_same}
+use Rattle.fmp_law_balance.proofs.Words.{head_same}
 use Rattle.fmp_law_records.proofs.Ready.{Stands, ready_same}
 
 and_none : (a b : Bool) → (a && (b && false)) ≡ false

@@ -21,7 +21,7 @@ use Rattle.fmp_rules.specs.Boot.{blank, all_started, with_top_running, with_tops
 use Rattle.fmp_rules.proofs.Replays.{answers_take}
 use Rattle.fmp_law_safety.specs.Runs.{AreOn}
 use Rattle.fmp_law_safety.proofs.Items.{item_holds}
-use Rattle.fmp_law_waits.specs.Waits.{setup_of}
+use Rattle.fmp_law_balance.specs.Waits.Waits.{setup_of}
 use Rattle.fmp_law_records.proofs.counts.Ready.{Ready, ready_next, ready_at_boot, prefix_on}
 use Rattle.fmp_law_records.specs.Line.{Line}
 use Rattle.fmp_law_records.specs.Standing.{Standing, standing_after, standing_by, standing_at_boot, report_standing, AreReadyReported}

@@ -15,7 +15,7 @@ use Rattle.fmp_rules.specs.Ordering.{Ordering}
 use Rattle.fmp_rules.specs.Arrivals.{State, numbered}
 use Rattle.fmp_rules.specs.Tasks.{started}
 use Rattle.fmp_rules.specs.Boot.{blank, all_started, booted, unnumbered}
-use Rattle.fmp_law_waits.specs.Waits.{setup_of}
+use Rattle.fmp_law_balance.specs.Waits.Waits.{setup_of}
 use Rattle.fmp_law_records.proofs.counts.Tasks.{changed_here}
 use Rattle.fmp_law_records.proofs.counts.Booted.{started_if, tasks_started_if, other_started, later_started, tasks_running}
 

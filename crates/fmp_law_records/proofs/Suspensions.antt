@@ -25,7 +25,7 @@ use Rattle.fmp_rules.specs.Rows.{Row, is_refused_context, check, called, called_
 use Rattle.fmp_rules.specs.Arguments.{task_or_caller}
 use Rattle.fmp_codes.specs.declared.codes.Code.{Code}
 use Rattle.fmp_codes.specs.declared.codes.Code.TheVariants as code
-use Rattle.fmp_law_waits.proofs.Events.{by_event}
+use Rattle.fmp_law_balance.proofs.waits.Events.{by_event}
 use Rattle.fmp_codes.specs.Numbers.{as_task}
 use Rattle.fmp_codes.proofs.Same.{tasks_same}
 use Rattle.fmp_law_safety.proofs.Calls.{from_task}
@@ -36,7 +36,7 @@ use Rattle.fmp_law_safety.proofs.Items.{item_holds}
 use Rattle.fmp_law_balance.specs.Accepted.{is_accepted}
 use Rattle.fmp_law_balance.specs.Queues.{is_task}
 use Rattle.fmp_law_balance.proofs.Steps.{report}
-use Rattle.fmp_law_waits.specs.Waits.{is_number_of}
+use Rattle.fmp_law_balance.specs.Waits.Waits.{is_number_of}
 use Rattle.fmp_law_records.specs.Counts.Naming.{names_task}
 use Rattle.fmp_law_records.specs.Suspensions.{suspends, resumes, suspended_after, is_overflow}
 use Rattle.fmp_law_records.specs.Accepting.{is_about}

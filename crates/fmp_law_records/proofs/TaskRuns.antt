@@ -13,7 +13,7 @@ use Rattle.fmp_rules.specs.Step.{step, replay, answers}
 use Rattle.fmp_rules.specs.Boot.{booted}
 use Rattle.fmp_rules.proofs.Replays.{answers_take}
 use Rattle.fmp_law_safety.specs.Runs.{processor_of, AreOn}
-use Rattle.fmp_law_waits.specs.Waits.{OpenWaits, nobody_waits, after_record, setup_of}
+use Rattle.fmp_law_balance.specs.Waits.Waits.{OpenWaits, nobody_waits, after_record, setup_of}
 use Rattle.fmp_law_records.proofs.counts.Ready.{Ready, ready_next, ready_later, ready_at_boot, ready_after, prefix_on}
 use Rattle.fmp_law_records.specs.Suspensions.{suspended_after, suspended_by, IsSuspensionReported, SuspensionFits}
 use Rattle.fmp_law_records.specs.Priorities.{priority_after, priority_by, report_priority, IsPriorityReported, TellsPriority}

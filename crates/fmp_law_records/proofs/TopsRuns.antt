@@ -13,8 +13,8 @@ use Rattle.fmp_rules.specs.Arrivals.{State, numbered}
 use Rattle.fmp_rules.specs.Step.{is_same, step, replay, answers}
 use Rattle.fmp_rules.specs.Boot.{booted}
 use Rattle.fmp_law_safety.specs.Runs.{processor_of, AreOn}
-use Rattle.fmp_law_waits.specs.Waits.{nobody_waits, after_records}
-use Rattle.fmp_law_waits.proofs.Events.{event_reported}
+use Rattle.fmp_law_balance.specs.Waits.Waits.{nobody_waits, after_records}
+use Rattle.fmp_law_balance.proofs.waits.Events.{event_reported}
 use Rattle.fmp_law_records.proofs.counts.Ready.{Ready, ready_later, ready_at_boot}
 use Rattle.fmp_law_records.specs.Standing.{Standing, standing_after, standing_by, standing_at_boot, report_standing, top_reported}
 use Rattle.fmp_law_records.specs.Tops.{is_one_task, RequestsAreDue}

@@ -44,7 +44,7 @@ use Rattle.fmp_law_records.specs.Requests.{report_processor, SignalsFit}
 use Rattle.fmp_law_records.specs.Served.{Places, places_by, places_at_boot, began_before, is_served_before, ServesInOrder}
 use Rattle.fmp_law_records.specs.Tops.{changes_top, RequestsAreDue}
 use Rattle.fmp_law_records.specs.Standing.{Standing, report_standing, ready_reported, AreReadyReported}
-use Rattle.fmp_law_waits.specs.Asked.{OpenWait}
+use Rattle.fmp_law_balance.specs.Waits.Asked.{OpenWait}
 
 abbrev pub asks : ℕ → TaskCall → Event
 asks p c = call_on p (call.Task c)

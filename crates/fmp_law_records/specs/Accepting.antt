@@ -15,8 +15,8 @@ use Rattle.fmp_codes.specs.declared.records.Runner.{Runner}
 use Rattle.fmp_setup.specs.Setup.{Setup}
 use Rattle.fmp_law_balance.specs.Accepted.{is_accepted}
 use Rattle.fmp_law_balance.specs.Queues.{is_task}
-use Rattle.fmp_law_waits.specs.Asked.{OpenWait}
-use Rattle.fmp_law_waits.specs.Waits.{is_number_of, nobody_waits, after_records}
+use Rattle.fmp_law_balance.specs.Waits.Asked.{OpenWait}
+use Rattle.fmp_law_balance.specs.Waits.Waits.{is_number_of, nobody_waits, after_records}
 use Rattle.fmp_law_records.specs.Counts.Naming.{names_task}
 use Rattle.fmp_law_records.specs.Suspensions.{suspended_by, is_overflow}
 use Rattle.fmp_law_records.specs.Lives.{LifeReported, report_life}

@@ -12,7 +12,7 @@ use Rattle.fmp_codes.specs.declared.records.Runner.TheVariants as runner
 use Rattle.fmp_codes.specs.Records.{is_taken}
 use Rattle.fmp_setup.specs.declared.setup.Timer.{Timer}
 use Rattle.fmp_setup.specs.Setup.{Setup}
-use Rattle.fmp_law_words.specs.Words.{is_clocked_by}
+use Rattle.fmp_law_balance.specs.Words.{is_clocked_by}
 use Rattle.fmp_rules.specs.World.{World, item}
 use Rattle.fmp_law_balance.specs.Accepted.{is_accepted}
 use Rattle.fmp_law_records.specs.Counts.Alarms.{is_last}

@@ -1,6 +1,6 @@
 -- Where alarms and cyclic handlers are assigned, and what is left of their time, told by records alone.
 use Rattle.std.specs.Prelude.{◌≡◌, ℕ, ◌+◌, ℤ, pos, ◌&&◌, ◌==◌, Option, None, Some, List, [], ◌∷◌, if◌then◌else◌, slice_index_or, ◌-◌, option_map}
-use Rattle.fmp_law_words.specs.Words.{natural_in}
+use Rattle.fmp_law_balance.specs.Words.{natural_in}
 use Rattle.fmp_codes.specs.Numbers.{as_proc}
 use Rattle.fmp_codes.specs.declared.numbers.Proc.{Proc}
 use Rattle.fmp_codes.specs.declared.numbers.Object.{Object}
@@ -14,7 +14,7 @@ use Rattle.fmp_setup.specs.Setup.{Setup, no_alarm, no_cyclic}
 use Rattle.fmp_rules.specs.World.{World, item}
 use Rattle.fmp_rules.specs.Objects.{alarm, cyclic}
 use Rattle.fmp_law_balance.specs.Accepted.{is_accepted, names}
-use Rattle.fmp_law_waits.specs.Waits.{is_tick_for}
+use Rattle.fmp_law_balance.specs.Waits.Waits.{is_tick_for}
 use Rattle.fmp_law_records.specs.Counts.Alarms.{starts_alarm, alarm_time, stops_alarm, without_tick}
 use Rattle.fmp_law_records.specs.Counts.Cyclics.{starts_cyclic, stops_cyclic}
 

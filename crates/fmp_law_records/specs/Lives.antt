@@ -13,7 +13,7 @@ use Rattle.fmp_setup.specs.Setup.{Setup}
 use Rattle.fmp_rules.specs.World as world
 use Rattle.fmp_rules.specs.World.{World}
 use Rattle.fmp_law_balance.specs.Accepted.{is_accepted}
-use Rattle.fmp_law_waits.specs.Waits.{setup_of}
+use Rattle.fmp_law_balance.specs.Waits.Waits.{setup_of}
 use Rattle.fmp_law_records.specs.Counts.Naming.{names_task}
 use Rattle.fmp_law_records.specs.Counts.Lives.{activates, takes_back, ends}
 use Rattle.fmp_law_records.specs.Handlers.{taken_to}

@@ -1,7 +1,7 @@
 -- What records say of the priority of a task.
 use Rattle.std.specs.Prelude.{◌≡◌, ℤ, pos, Bool, true, false, ◌&&◌, ◌==◌, Option, None, Some, List, [], ◌∷◌, if◌then◌else◌}
 use Rattle.std.specs.Option.{option_map_or}
-use Rattle.fmp_law_words.specs.Words.{natural_in}
+use Rattle.fmp_law_balance.specs.Words.{natural_in}
 use Rattle.fmp_codes.specs.Numbers.{as_pri}
 use Rattle.fmp_codes.specs.declared.numbers.Task.{Task}
 use Rattle.fmp_codes.specs.declared.numbers.Pri.{Pri}
@@ -15,7 +15,7 @@ use Rattle.fmp_setup.specs.Setup.{Setup}
 use Rattle.fmp_rules.specs.World as world
 use Rattle.fmp_rules.specs.World.{World}
 use Rattle.fmp_law_balance.specs.Accepted.{is_accepted, accepted_value}
-use Rattle.fmp_law_waits.specs.Waits.{setup_of}
+use Rattle.fmp_law_balance.specs.Waits.Waits.{setup_of}
 use Rattle.fmp_law_records.specs.Counts.Naming.{names_task}
 use Rattle.fmp_law_records.specs.Counts.Lives.{ends}
 

@@ -12,9 +12,9 @@ use Rattle.fmp_setup.specs.Setup.{Setup, no_semaphore, no_eventflag, no_data_que
 use Rattle.fmp_rules.specs.declared.machine.Wait.{Wait}
 use Rattle.fmp_rules.specs.declared.machine.Wait.TheVariants as wait
 use Rattle.fmp_law_balance.specs.Accepted.{is_accepted}
-use Rattle.fmp_law_waits.specs.Asked.{OpenWait}
-use Rattle.fmp_law_waits.specs.Releases.{breaks_off, sets}
-use Rattle.fmp_law_waits.specs.Waits.{OpenWaits, begins, after_record, nobody_waits, setup_of}
+use Rattle.fmp_law_balance.specs.Waits.Asked.{OpenWait}
+use Rattle.fmp_law_balance.specs.Waits.Releases.{breaks_off, sets}
+use Rattle.fmp_law_balance.specs.Waits.Waits.{OpenWaits, begins, after_record, nobody_waits, setup_of}
 use Rattle.fmp_law_records.specs.Priorities.{gives_priority, priority_after}
 
 -- The queues.

@@ -15,9 +15,9 @@ use Rattle.fmp_codes.specs.declared.records.Runner.TheVariants as runner
 use Rattle.fmp_setup.specs.Setup.{Setup}
 use Rattle.fmp_rules.specs.Ordering.{top}
 use Rattle.fmp_rules.specs.Arrivals.{State, numbered}
-use Rattle.fmp_law_words.specs.Turns.{in_turn}
+use Rattle.fmp_law_balance.specs.Turns.{in_turn}
 use Rattle.fmp_law_balance.specs.Accepted.{is_accepted}
-use Rattle.fmp_law_waits.specs.Waits.{OpenWaits, after_record, nobody_waits, setup_of}
+use Rattle.fmp_law_balance.specs.Waits.Waits.{OpenWaits, after_record, nobody_waits, setup_of}
 use Rattle.fmp_law_records.specs.Suspensions.{suspended_after}
 use Rattle.fmp_law_records.specs.Priorities.{given_by, priority_after}
 use Rattle.fmp_law_records.specs.Lives.{LifeReported, life_after, life_at_boot}

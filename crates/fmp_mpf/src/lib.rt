@@ -7,7 +7,7 @@
 #![tactic(auto)]
 
 ghost use Rattle.std.specs.Prelude.{◌≡◌, ◌≤◌, ◌≤ℤ◌, IfSome, pos, IsTrue, false, [], map, replicate, slice_set};
-ghost use Rattle.fmp_kernel_links.specs.Tasks.{AreDistinct};
+ghost use Rattle.fmp_kernel_parts.specs.Tasks.{AreDistinct};
 ghost use Rattle.fmp_waitq.specs.Queue.{task_of, has_waiter, left_by, joined_by, waiter_of};
 ghost use Rattle.fmp_mpf.specs.MemoryPool.{free_block, is_handed, waiter};
 ghost use Rattle.fmp_mpf.specs.Operations.{IsServed};

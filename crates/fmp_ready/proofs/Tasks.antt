@@ -3,10 +3,10 @@ use Rattle.std.proofs.Common.{◌≡◌, ℕ, zero, suc, ◌+◌, ◌-◌, ◌*�
 use Rattle.std.proofs.lemmas.Bool.{cases_lt}
 use Rattle.std.proofs.lemmas.List.{map_push, get_or-take, get_or-drop, get_or_past, length-take}
 use Rattle.fmp_codes.specs.declared.numbers.Task.{Task}
-use Rattle.fmp_kernel_links.specs.Lists as links
-use Rattle.fmp_kernel_links.specs.Lists.{has}
-use Rattle.fmp_kernel_links.specs.Tasks.{AreDistinct, has_task, task_at, without}
-use Rattle.fmp_kernel_links.proofs.Tasks.{distinct-map, first_of-map, gone_from, has_task-map, without-map, without_lacking}
+use Rattle.fmp_kernel_parts.specs.Lists as links
+use Rattle.fmp_kernel_parts.specs.Lists.{has}
+use Rattle.fmp_kernel_parts.specs.Tasks.{AreDistinct, has_task, task_at, without}
+use Rattle.fmp_kernel_parts.proofs.Tasks.{distinct-map, first_of-map, gone_from, has_task-map, without-map, without_lacking}
 use Rattle.fmp_ready.specs.Queues.{PriorityLists, queue_at, push_last, take_out, rotated, first_of, top_at, bit_of, AreDisjoint}
 use Rattle.fmp_ready.specs.Kept.{tasks_of}
 

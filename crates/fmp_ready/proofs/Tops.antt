@@ -6,8 +6,8 @@ use Rattle.std.proofs.lemmas.List.{get_or-set_same, get_or-set_other, get_or-dro
 use Rattle.fmp_codes.specs.declared.numbers.Task.{Task}
 use Rattle.fmp_codes.proofs.Same.{tasks_same}
 use Rattle.fmp_codes.specs.Numbers.{task_number}
-use Rattle.fmp_kernel_links.specs.Lists as links
-use Rattle.fmp_kernel_links.specs.Tasks.{task_at}
+use Rattle.fmp_kernel_parts.specs.Lists as links
+use Rattle.fmp_kernel_parts.specs.Tasks.{task_at}
 use Rattle.fmp_ready.specs.Queues.{queue_at, first_of, top_at}
 use Rattle.fmp_ready.specs.Kept.{tasks_of, AreTops}
 use Rattle.fmp_ready.proofs.Tasks.{list_at-tasks_of}

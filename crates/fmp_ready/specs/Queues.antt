@@ -4,7 +4,7 @@ use Rattle.std.specs.Prelude.{◌≡◌, ℕ, ◌+◌, ◌-◌, ◌*◌, true, O
 use Rattle.fmp_codes.specs.declared.numbers.Proc.{Proc}
 use Rattle.fmp_codes.specs.declared.numbers.Pri.{Pri}
 use Rattle.fmp_codes.specs.declared.numbers.Task.{Task}
-use Rattle.fmp_kernel_links.specs.Tasks.{has_task, without, AreDistinct}
+use Rattle.fmp_kernel_parts.specs.Tasks.{has_task, without, AreDistinct}
 
 pub record PriorityLists : Type 0 where
   pub lists : List (List Task)  -- of each processor the lists of its priorities, from the highest

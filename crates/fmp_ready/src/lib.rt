@@ -14,15 +14,14 @@ ghost use Rattle.std.specs.Int.{bit_at};
 ghost use Rattle.fmp_codes.specs.Numbers.{task_number};
 ghost use Rattle.fmp_codes.specs.declared.numbers.Pri.{Pri as AnyPri};
 ghost use Rattle.fmp_codes.specs.declared.numbers.Task.{Task as AnyTask};
-ghost use Rattle.fmp_kernel_links.specs.Lists.{first_of};
-ghost use Rattle.fmp_kernel_links.specs.Tasks.{has_task};
+ghost use Rattle.fmp_kernel_parts.specs.Lists.{first_of};
+ghost use Rattle.fmp_kernel_parts.specs.Tasks.{has_task};
 ghost use Rattle.fmp_ready.specs.Queues.{list_number, queue_at, push_last, take_out, rotated, top_of, top_at, bit_of, AreDisjoint};
 ghost use Rattle.fmp_ready.specs.Kept.{tasks_of, IsKept};
 
 use arrayvec::ArrayVec;
 use fmp_codes::{Pri, Proc, Task};
-use fmp_kernel_links::Links;
-use fmp_kernel_parts::{Digest, Part};
+use fmp_kernel_parts::{Digest, Links, Part};
 use std::marker::Model;
 
 /// A list of tasks for each processor and priority. No task stands in two lists. In TOPPERS/FMP: ready_queue of each PCB.

@@ -1,6 +1,6 @@
 -- What a read and a write do to bytes that are known.
-use Rattle.std.proofs.Common.{◌≡◌, ℕ, List, [], ◌++◌, take, refl, Option, None, Some, Result, Ok, Err}
-use Rattle.std.specs.Io.KnownBytes.{Keeps, Appends, Consumes, IsAtEnd, WriteAppends, ReadConsumes}
+use Rattle.std.proofs.Common.{◌≡◌, ℕ, List, ◌++◌, take, refl, Option, None, Some, Result, Ok, Err}
+use Rattle.std.specs.Io.KnownBytes.{Keeps, Appends, Consumes, WriteAppends}
 use Rattle.std.proofs.lemmas.Bool.{false≢true}
 use Rattle.fmp_run_devices.specs.Devices.{IsKnown, bytes_of}
 
@@ -43,11 +43,3 @@ pub consumed_known : (old new : Option (List ℕ)) (piece : List ℕ) → Consum
 consumed_known None new piece h known = absurd (false≢true known)
 consumed_known (Some xs) None piece h known = absurd h
 consumed_known (Some xs) (Some ys) piece h known = refl
-
-pub read_known : {E : Type 0} (old new : Option (List ℕ)) (r : Result ℕ E) (buffer : List ℕ) → ReadConsumes old new r buffer → IsKnown old → IsKnown new
-read_known old new (Ok n) buffer h known = consumed_known old new (take n buffer) h.0 known
-read_known old new (Err e) buffer h known = kept_known old new h known
-
-pub end_bytes : (new : Option (List ℕ)) → IsAtEnd new → bytes_of new ≡ []
-end_bytes None h = refl
-end_bytes (Some xs) h = h

@@ -1,7 +1,7 @@
 -- How a run over a configuration and events ends.
 use Rattle.std.proofs.Common.{◌≡◌, ◌∙◌, ℕ, false, List, ◌++◌, take, Result, Ok, Err, IfErr, OnOk, ap, sym, refl, inl, inr}
 use Rattle.std.proofs.lemmas.Bool.{false≢true}
-use Rattle.fmp_law_headline.proofs.Along.{headline_throughout}
+use Rattle.fmp_law_lists.proofs.Along.{headline_throughout}
 use Rattle.fmp_law_records.proofs.effects.ReportedRuns.{machine_run}
 use Rattle.fmp_rules.specs.Arrivals.{numbered}
 use Rattle.fmp_rules.specs.Boot.{booted}

@@ -8,10 +8,6 @@ use Rattle.fmp_run_texts.specs.Faults.{failed_write, is_write}
 use Rattle.fmp_run_texts.specs.declared.fault.RunFault.{RunFault}
 use Rattle.fmp_run_texts.specs.declared.fault.RunFault.TheVariants as run
 
--- a beginning of some bytes is one of these and more
-pub begins_with_more : (old line following new : List ℕ) → BeginsWith old line new → BeginsWith old (line ++ following) new
-begins_with_more old line following new begins = begins_on old [] line following new (rw (← append-nil old) at begins)
-
 -- after bytes that are out a beginning of others is out
 pub begins_after : (old prefix line after new : List ℕ) → after ≡ old ++ prefix → BeginsWith after line new → BeginsWith old (prefix ++ line) new
 begins_after old prefix line after new split begins =

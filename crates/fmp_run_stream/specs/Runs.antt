@@ -3,7 +3,7 @@
 use Rattle.std.specs.Prelude.{◌≡◌, ◌⊎◌, ℕ, List, ◌++◌, take, Some}
 use Rattle.fmp_codes.specs.declared.records.Event.{Event}
 use Rattle.fmp_law_safety.specs.Runs.{IsSafeThroughout}
-use Rattle.fmp_law_headline.specs.Headline.{HeadlineThroughout}
+use Rattle.fmp_law_lists.specs.Headline.{HeadlineThroughout}
 use Rattle.fmp_law_records.specs.Effects.Records.{IsReportedRun}
 use Rattle.fmp_text.specs.TextGrammar.{SpellsText}
 use Rattle.fmp_text.specs.declared.fault.TextFault.{TextFault}

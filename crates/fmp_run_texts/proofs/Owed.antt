@@ -34,16 +34,6 @@ pub fault_over : (IsFault : Setup → List ℕ → TextFault → Type 0) (config
 fault_over IsFault config_text text c says (run.Text fault) is = (c, says, is)
 fault_over IsFault config_text text c says _ is = tt
 
--- what holds where something was found of a trace holds where there is a verdict
-pub on_ok-verdict : {T : Type 0} (verdict : T → Verdict) (result : Result T RunFault) (P : Type 0) → OnOk result P → OnOk (verdict_by verdict result) P
-on_ok-verdict verdict (Ok found) P holds = holds
-on_ok-verdict verdict (Err fault) P holds = holds
-
--- the fault stays the same
-pub if_err-verdict : {T : Type 0} (verdict : T → Verdict) (result : Result T RunFault) (P : RunFault → Type 0) → IfErr result P → IfErr (verdict_by verdict result) P
-if_err-verdict verdict (Ok found) P holds = holds
-if_err-verdict verdict (Err fault) P holds = holds
-
 -- a fault of neither text is no answer but yes
 of_neither : (fault : RunFault) → is_config fault ≡ false → is_text fault ≡ false → IsYes (Err fault)
 of_neither (run.Config fault) no_config no_text = absurd (true≢false no_config)

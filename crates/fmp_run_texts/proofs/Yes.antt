@@ -18,11 +18,11 @@ use Rattle.fmp_codes.specs.declared.records.Event.{Event}
 use Rattle.fmp_trace_check.proofs.FittingAnswers.{answers-fit}
 use Rattle.fmp_trace_check.specs.Checking.{PrintsAnswers}
 use Rattle.fmp_trace.proofs.Lengths.{lines_few}
-use Rattle.fmp_law_waits.proofs.Fewer.{few_releases}
+use Rattle.fmp_law_balance.proofs.waits.Fewer.{few_releases}
 use Rattle.fmp_trace.specs.Lines.{lines_from}
 use Rattle.fmp_run_texts.specs.Texts.{Answered, SaysConfig}
 use Rattle.fmp_run_texts.specs.Traces.{IsOwn}
-use Rattle.fmp_law_headline.proofs.Along.{records_are_answers}
+use Rattle.fmp_law_lists.proofs.Along.{records_are_answers}
 use Rattle.fmp_run_texts.proofs.Grammars.{one_config}
 
 -- What a machine answers to events within their limit is within that of bytes: no line but for its releases has more than 738, no

@@ -14,7 +14,7 @@ use Rattle.fmp_names.specs.Names.{NameLists}
 use Rattle.fmp_setup.specs.Setup.{Setup}
 use Rattle.fmp_rules.specs.Boot.{booted}
 use Rattle.fmp_law_safety.specs.Runs.{IsSafeThroughout}
-use Rattle.fmp_law_headline.specs.Headline.{HeadlineThroughout}
+use Rattle.fmp_law_lists.specs.Headline.{HeadlineThroughout}
 use Rattle.fmp_trace.specs.Lines.{lines_from}
 use Rattle.fmp_run_texts.specs.declared.fault.RunFault.{RunFault}
 use Rattle.fmp_run_texts.specs.declared.fault.RunFault.TheVariants as run

@@ -29,8 +29,8 @@ use Rattle.fmp_rules.specs.declared.machine.Processor.{Processor}
 use Rattle.fmp_rules.specs.declared.machine.Semaphore.{Semaphore}
 use Rattle.fmp_rules.specs.declared.machine.TaskRecord.{TaskRecord}
 use Rattle.fmp_plain_machine.proofs.DataQueues.{mapped_or}
-use Rattle.fmp_law_frames.specs.Frames.{Frame, is_idle, is_on_time, moves_tasks, moves_time, moves_waits, running_of}
-use Rattle.fmp_law_frames.proofs.Steps.{framed_step, report_event}
+use Rattle.fmp_law_footprint.specs.Frames.{Frame, is_idle, is_on_time, moves_tasks, moves_time, moves_waits, running_of}
+use Rattle.fmp_law_footprint.proofs.FramedSteps.{framed_step, report_event}
 use Rattle.fmp_run_view.specs.declared.signal.Signal.{Signal}
 use Rattle.fmp_run_view.specs.declared.signal.Signal.TheVariants as signals
 use Rattle.fmp_run_view.specs.Changes.{Change, change_if, changes_to, lines_of}

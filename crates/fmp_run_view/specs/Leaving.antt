@@ -1,7 +1,7 @@
 -- Which values an event may change, by its record.
 use Rattle.std.specs.Prelude.{◌≡◌, ℕ, Bool, true, false, ◌||◌, is_some}
 use Rattle.fmp_codes.specs.declared.records.Record.{Record}
-use Rattle.fmp_law_frames.specs.Frames.{moves_buffers, moves_due, moves_locks, moves_order, moves_sync, moves_tasks, moves_time, moves_waits}
+use Rattle.fmp_law_footprint.specs.Frames.{moves_buffers, moves_due, moves_locks, moves_order, moves_sync, moves_tasks, moves_time, moves_waits}
 use Rattle.fmp_run_view.specs.declared.signal.Signal.{Signal}
 use Rattle.fmp_run_view.specs.declared.signal.Signal.TheVariants as signals
 use Rattle.fmp_run_view.specs.Moments.{Moment}

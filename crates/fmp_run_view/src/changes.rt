@@ -9,7 +9,7 @@ ghost use Rattle.fmp_run_view.specs.Values.{value_text};
 use crate::player::Player;
 use crate::signal::{SIGNALS, Signal, count, put_identifier};
 use fmp_codes::Record;
-use fmp_law_frames::{
+use fmp_law_footprint::{
     moves_buffers, moves_due, moves_locks, moves_order, moves_sync, moves_tasks, moves_time,
     moves_waits,
 };

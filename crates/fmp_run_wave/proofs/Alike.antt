@@ -15,9 +15,6 @@ module _ {X : Type 0} where
   pub item_put : (xs : List X) (i : ℕ) (x : X) → i < length xs → set xs i x ≡ take i xs ++ (x ∷ drop (i + 1) xs)
   item_put xs i x inside = rw (add-one) (set_split xs i x inside)
 
-  pub item_added : (xs : List X) (i : ℕ) (x : X) → i ≤ length xs → length xs ≤ i → xs ++ (x ∷ []) ≡ take i xs ++ (x ∷ drop (i + 1) xs)
-  item_added xs i x least most = rw (take_all i xs most, drop_all (i + 1) xs (omega (arith, most))) refl
-
   -- the item that stands there
   pub item_stays : (xs : List X) (i : ℕ) (blank x : X) → i < length xs → get_or xs i blank ≡ x → xs ≡ take i xs ++ (x ∷ drop (i + 1) xs)
   item_stays xs i blank x inside is =

@@ -21,8 +21,8 @@ use Rattle.fmp_rules.specs.declared.machine.Processor.{Processor}
 use Rattle.fmp_rules.specs.declared.machine.Semaphore.{Semaphore}
 use Rattle.fmp_rules.specs.declared.machine.TaskRecord.{TaskRecord}
 use Rattle.fmp_plain_machine.proofs.DataQueues.{mapped_or}
-use Rattle.fmp_law_frames.specs.Frames.{Frame, moves_buffers, moves_locks, moves_sync, moves_tasks, running_of}
-use Rattle.fmp_law_frames.proofs.Steps.{framed_step}
+use Rattle.fmp_law_footprint.specs.Frames.{Frame, moves_buffers, moves_locks, moves_sync, moves_tasks, running_of}
+use Rattle.fmp_law_footprint.proofs.FramedSteps.{framed_step}
 use Rattle.fmp_run_wave.specs.Resources.{holder_number}
 use Rattle.fmp_run_wave.specs.declared.snapshot.ShownTask.{ShownTask}
 use Rattle.fmp_run_wave.specs.Shown.{shown_of, shown_task, shown_tasks, task_numbers}

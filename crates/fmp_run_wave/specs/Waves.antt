@@ -10,7 +10,7 @@ use Rattle.fmp_rules.specs.Arrivals.{State, numbered}
 use Rattle.fmp_rules.specs.Boot.{booted}
 use Rattle.fmp_setup.specs.Setup.{Setup}
 use Rattle.fmp_rules.specs.Step.{step}
-use Rattle.fmp_law_frames.specs.Frames.{moves_buffers, moves_locks, moves_sync, moves_tasks}
+use Rattle.fmp_law_footprint.specs.Frames.{moves_buffers, moves_locks, moves_sync, moves_tasks}
 use Rattle.fmp_trace.specs.Lines.{answer_text, event_text}
 use Rattle.fmp_run_wave.specs.declared.resource.Resource.TheVariants.{Semaphore, Eventflag, DataQueue, Pool, SpinLock}
 use Rattle.fmp_run_wave.specs.declared.signal.Signal.TheVariants as signals
@@ -90,10 +90,6 @@ objects_by s r w = record s {
 
 abbrev pub shown_by : Shown → Record → State → Shown
 shown_by s r w = record (objects_by s r w) { processors = shown_processors w; tasks = if moves_states r then shown_tasks w else s.tasks }
-
--- with the lines of what changed up to this state
-abbrev pub shown_after : Picture → NameLists → Record → State → Picture
-shown_after d names r w = let s = shown_by d.shown r w in record { shown = s; wave = d.wave ++ changes_text names d.shown s }
 
 -- after event n, of which this is told and which led to this state
 abbrev pub following : Picture → NameLists → ℕ → Record → State → Picture

@@ -23,7 +23,7 @@ use crate::values::{
 };
 use arrayvec::ArrayVec;
 use fmp_codes::{Event, Object, Proc, Record, Runner, Task};
-use fmp_law_frames::{moves_buffers, moves_locks, moves_sync, moves_tasks};
+use fmp_law_footprint::{moves_buffers, moves_locks, moves_sync, moves_tasks};
 use fmp_names::Names;
 use fmp_out::Text;
 use fmp_plain_machine::PlainMachine;

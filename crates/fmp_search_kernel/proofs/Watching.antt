@@ -70,12 +70,6 @@ module _ (w : Place) (none : w.question ≡ []) (s : ℕ) where
 -- ---- with what is asked
 
 module _ (lasting : List Lasting) where
-  pub goes_watched : (w w' : Place) (s : ℕ) (made : Bool) → Goes (after w s) made w' → Goes (watched_after (watched lasting w) s) made (watched lasting w')
-  goes_watched w w' s made = go (after w s)
-    where
-      go : (o : Option Place) → Goes o made w' → Goes (option_map (watched lasting) o) made (watched lasting w')
-      go None is = is
-      go (Some x) is = (is.0, ap (watched lasting) is.1)
 
   pub watches_watched : (w w' : Place) (s p : ℕ) (report : Option ℕ) → Watches (after w s) p report w' → Watches (watched_after (watched lasting w) s) p report (watched lasting w')
   watches_watched w w' s p report = go (after w s)
@@ -84,18 +78,8 @@ module _ (lasting : List Lasting) where
       go None is = is
       go (Some x) is = (is.0, ap (watched lasting) is.1)
 
-  pub can_watched : (w : Place) (s : ℕ) → is_some (watched_after (watched lasting w) s) ≡ true → is_some (after w s) ≡ true
-  can_watched w s = go (after w s)
-    where
-      go : (o : Option Place) → is_some (option_map (watched lasting) o) ≡ true → is_some o ≡ true
-      go None is = is
-      go (Some x) is = refl
-
   pub none_watched : (w : Place) (s : ℕ) → after w s ≡ None → watched_after (watched lasting w) s ≡ None
   none_watched w s is = ap (option_map (watched lasting)) is
-
-  pub some_watched : (w w' : Place) (s : ℕ) → after w s ≡ Some w' → watched_after (watched lasting w) s ≡ Some (watched lasting w')
-  some_watched w w' s is = ap (option_map (watched lasting)) is
 
   pub origin_watched : (w : Place) → w.question ≡ [] → watched lasting (origin_of w) ≡ origin_at (watched lasting w)
   origin_watched w none = ap (λ q. watched lasting (origin w.config w.scripts w.rules q)) none
@@ -103,9 +87,6 @@ module _ (lasting : List Lasting) where
 pub same_origin : (l m : List Lasting) (w v : Place) → w.question ≡ [] → v.question ≡ [] → origin_at (watched l w) ≡ origin_at (watched m v) → origin_of w ≡ origin_of v
 same_origin l m w v none no_other is =
     ap (λ q. origin w.config w.scripts w.rules q) none ∙ ap (λ (x : Watched). x.place) is ∙ sym (ap (λ q. origin v.config v.scripts v.rules q) no_other)
-
-pub same_lasting : (l m : List Lasting) (w v : Place) → origin_at (watched l w) ≡ origin_at (watched m v) → l ≡ m
-same_lasting l m w v is = ap (λ (x : Watched). x.lasting) is
 
 -- a place of which the runs begin where those of another do asks no question either
 pub still_none : (w v : Place) → origin_of v ≡ origin_of w → w.question ≡ [] → v.question ≡ []

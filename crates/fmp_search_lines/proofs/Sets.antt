@@ -25,9 +25,6 @@ pub has-cases : (j i : ℕ) (is : List ℕ) → has (j ∷ is) i ≡ true → (j
 unfolding has
 has-cases j i is h = either (λ e. inl (eqb-true j i e)) (λ e. inr e) (or_cases (j == i) (has is i) h)
 
-pub has-none : (j i : ℕ) (is : List ℕ) → has (j ∷ is) i ≡ false → has is i ≡ false
-has-none j i is h = either (λ e. absurd (false≢true (sym h ∙ has-later j i is e))) (λ e. e) (cases_Bool (has is i))
-
 pub has-append : (xs ys : List ℕ) (i : ℕ) → has (xs ++ ys) i ≡ true → (has xs i ≡ true) ⊎ (has ys i ≡ true)
 has-append [] ys i h = inr h
 has-append (x ∷ xs) ys i h = either

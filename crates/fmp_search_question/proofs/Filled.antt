@@ -1,7 +1,7 @@
 -- The words of a text, and the text of the pieces of a pattern.
 use Rattle.std.proofs.Common.{◌≡◌, ℕ, Bool, true, false, not, eqb, cond, List, [], ◌∷◌, ◌++◌, length, refl, sym, ap, append-nil}
 use Rattle.std.specs.List.{join_with_byte}
-use Rattle.fmp_search_words.specs.Words.{star}
+use Rattle.fmp_search_pattern.specs.Words.{star}
 use Rattle.fmp_search_question.specs.Places.{filled}
 
 -- the first piece, and those after it

@@ -6,10 +6,10 @@ use Rattle.fmp_bytes.specs.Bytes.{pieces_of, space}
 use Rattle.fmp_names.specs.Names.{NameLists}
 use Rattle.fmp_fact_words.specs.Asking.{asked_by}
 use Rattle.fmp_fact_words.specs.Speaking.{must_ask}
-use Rattle.fmp_search_words.specs.declared.spot.Spot.{Spot}
-use Rattle.fmp_search_words.specs.declared.spot.Spot.TheVariants.{Fact}
-use Rattle.fmp_search_words.specs.Forms.{spot_of}
-use Rattle.fmp_search_words.specs.Spots.{stepped}
+use Rattle.fmp_search_pattern.specs.declared.spot.Spot.{Spot}
+use Rattle.fmp_search_pattern.specs.declared.spot.Spot.TheVariants.{Fact}
+use Rattle.fmp_search_pattern.specs.Forms.{spot_of}
+use Rattle.fmp_search_pattern.specs.Spots.{stepped}
 
 -- the pattern with a word more
 abbrev pub longer : List ℕ → List ℕ → List ℕ

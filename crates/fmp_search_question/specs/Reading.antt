@@ -16,11 +16,11 @@ use Rattle.fmp_search_question.specs.declared.fault.QuestionFault.{QuestionFault
 use Rattle.fmp_search_question.specs.declared.fault.QuestionFault.TheVariants.{BadWord, BadForm, UnknownName, TooLong, NoLine}
 use Rattle.fmp_search_question.specs.declared.fault.ReadFault.{ReadFault}
 use Rattle.fmp_search_question.specs.declared.fault.ReadFault.TheVariants.{Memory, Text}
-use Rattle.fmp_search_words.specs.declared.spot.Spot.{Spot}
-use Rattle.fmp_search_words.specs.declared.spot.Spot.TheVariants.{Front, Whole}
+use Rattle.fmp_search_pattern.specs.declared.spot.Spot.{Spot}
+use Rattle.fmp_search_pattern.specs.declared.spot.Spot.TheVariants.{Front, Whole}
 use Rattle.fmp_search_pattern.specs.Items.{Item}
-use Rattle.fmp_search_words.specs.Spots.{may_end}
-use Rattle.fmp_search_words.specs.Words.{is_printed, is_fine, runs_of, star}
+use Rattle.fmp_search_pattern.specs.Spots.{may_end}
+use Rattle.fmp_search_pattern.specs.Words.{is_printed, is_fine, runs_of, star}
 use Rattle.fmp_search_question.specs.Places.{longer, next_spot}
 use Rattle.fmp_search_question.specs.Resolved.{resolved}
 use Rattle.fmp_search_question.specs.WordByWord.{after_words, at_place, result_then}

@@ -10,7 +10,7 @@ use Rattle.fmp_search_pattern.specs.declared.items.Wanted.TheVariants as wanted
 use Rattle.fmp_search_pattern.specs.declared.question.Step.{Step}
 use Rattle.fmp_search_pattern.specs.Items.{Item}
 use Rattle.fmp_search_pattern.specs.Lasting.{Lasting}
-use Rattle.fmp_search_words.specs.Words.{star}
+use Rattle.fmp_search_pattern.specs.Words.{star}
 use Rattle.fmp_search_question.specs.Places.{is_end, words_of}
 
 -- the words of a pattern, by its pieces between stars

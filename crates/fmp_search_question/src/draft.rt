@@ -3,7 +3,7 @@ ghost use Rattle.std.specs.Prelude.{◌≡◌, ◌≢◌, ◌++◌, ◌∷◌, L
 ghost use Rattle.std.specs.Option.{option_and_then};
 ghost use Rattle.fmp_bytes.specs.Bytes.{pieces_of};
 ghost use Rattle.std.specs.List.{list_all};
-ghost use Rattle.fmp_search_words.specs.Words.{star, is_fine};
+ghost use Rattle.fmp_search_pattern.specs.Words.{star, is_fine};
 ghost use Rattle.fmp_search_question.specs.Places.{longer};
 ghost use Rattle.fmp_search_question.specs.Reading as spec;
 ghost use Rattle.fmp_search_question.specs.WordByWord.{fault_of};
@@ -12,8 +12,9 @@ use crate::fault::{QuestionFault, ReadFault};
 use crate::place::next_spot;
 use fmp_bytes::{are_digits, cut, magnitude};
 use fmp_names::Names;
-use fmp_search_pattern::{Item, Moment, Part, Pattern, Piece, Question, Step, Wanted};
-use fmp_search_words::{Spot, are_fine, is_printed};
+use fmp_search_pattern::{
+    Item, Moment, Part, Pattern, Piece, Question, Spot, Step, Wanted, are_fine, is_printed,
+};
 use std::alloc::{AllocError, Global};
 use std::marker::Model;
 use std::mem;

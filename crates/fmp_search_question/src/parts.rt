@@ -16,8 +16,7 @@ use crate::stage::Stage;
 use fmp_bytes::cut;
 use fmp_codes::{NameKind, ObjectKind};
 use fmp_names::Names;
-use fmp_search_pattern::{Item, Moment, Part, Pattern, Piece, Wanted};
-use fmp_search_words::is_printed;
+use fmp_search_pattern::{Item, Moment, Part, Pattern, Piece, Wanted, is_printed};
 use std::alloc::{AllocError, Global};
 use std::marker::Model;
 

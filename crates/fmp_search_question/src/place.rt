@@ -1,12 +1,12 @@
 //! Where a pattern ends with a word more.
 ghost use Rattle.std.specs.Prelude.{◌≡◌, ◌++◌, ◌∷◌, [], map, IfOk, OnOk};
-ghost use Rattle.fmp_search_words.specs.Spots.{stepped};
+ghost use Rattle.fmp_search_pattern.specs.Spots.{stepped};
 ghost use Rattle.fmp_search_question.specs.Places as spec;
 
 use fmp_bytes::cut;
 use fmp_fact_words::{asked_by, must_ask};
 use fmp_names::Names;
-use fmp_search_words::{Spot, spot_of};
+use fmp_search_pattern::{Spot, spot_of};
 use std::alloc::{AllocError, Global};
 
 /// Puts a piece after the words, if it has a byte. The error is want of memory.

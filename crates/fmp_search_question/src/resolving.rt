@@ -2,7 +2,7 @@
 ghost use Rattle.std.specs.Prelude.{◌≡◌, ◌∷◌, map, option_map, IfOk};
 ghost use Rattle.std.specs.List.{join_with_byte};
 ghost use Rattle.std.specs.Option.{option_copied};
-ghost use Rattle.fmp_search_words.specs.Words.{star};
+ghost use Rattle.fmp_search_pattern.specs.Words.{star};
 ghost use Rattle.fmp_search_question.specs.Resolved as spec;
 
 use crate::place::{is_end, words_of};

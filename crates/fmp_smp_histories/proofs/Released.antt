@@ -16,9 +16,6 @@ module _ (c : Setup) (scripts : List Steps) (whole : List ℕ) (ps : List ℕ) (
   pub release_more : (r : Release) → slice_get rs k ≡ Some r → whole ≡ released_tasks c scripts (released_task c scripts ps r) (drop (k + 1) rs)
   release_more r at = so_far ∙ ap (released_tasks c scripts ps) (rest_is rs k r at)
 
-  pub release_ends : drop k rs ≡ [] → whole ≡ ps
-  release_ends none = so_far ∙ ap (released_tasks c scripts ps) none
-
 -- after the last release there is none
 pub none_past : (rs : List Release) (k : ℕ) → slice_get rs k ≡ None → length rs ≤ k
 none_past [] k none = omega arith

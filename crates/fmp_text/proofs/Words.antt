@@ -1,8 +1,8 @@
 -- Comparing words by their first bytes and their last ones.
-use Rattle.std.proofs.Common.{◌≡◌, ℕ, ◌+◌, ◌-◌, ◌<◌, ◌≤◌, ◌==◌, true, List, ◌++◌, length, take, drop, get_or, sym, ap, ap₂, ◌∙◌, arith}
+use Rattle.std.proofs.Common.{◌≡◌, ℕ, ◌<◌, ◌==◌, true, List, ◌++◌, length, take, drop, get_or, sym, ap, ◌∙◌}
 use Rattle.std.specs.Int.{w16, w32, w64, to_le_bytes, from_le_bytes}
 use Rattle.std.proofs.lemmas.Bool.{eqb-true}
-use Rattle.std.proofs.lemmas.List.{drop-drop, take-append-drop}
+use Rattle.std.proofs.lemmas.List.{take-append-drop}
 use Rattle.std.proofs.lemmas.Nat.{le_bytes_2, le_bytes_4, le_bytes_8}
 
 pub eight_same : (a b : List ℕ) (x y : ℕ) → length a ≡ 8 → length b ≡ 8 → ((i : ℕ) → get_or a i 0 < 256) → ((i : ℕ) → get_or b i 0 < 256)
@@ -19,17 +19,6 @@ pub four_same : (a b : List ℕ) (x y : ℕ) → length a ≡ 4 → length b ≡
     → x ≡ from_le_bytes w32 a → y ≡ from_le_bytes w32 b → (x == y) ≡ true → a ≡ b
 four_same a b x y long_a long_b small_a small_b is_a is_b same =
     sym (le_bytes_4 a x long_a small_a is_a) ∙ ap (to_le_bytes w32) (eqb-true x y same) ∙ le_bytes_4 b y long_b small_b is_b
-
--- the first k bytes and the last k are the same, and there are no others
-pub ends_same : (k : ℕ) (a b : List ℕ) → length a ≡ length b → length a ≤ k + k → k ≤ length a → take k a ≡ take k b → drop (length a - k) a ≡ drop (length b - k) b → a ≡ b
-ends_same k a b long few enough front end =
-    let at : length a - k ≡ length b - k = ap (λ (n : ℕ). n - k) long in
-    let on : length a - k + (k - (length a - k)) ≡ k = omega (arith, few, enough) in
-    let rest : (xs : List ℕ) → drop (k - (length a - k)) (drop (length a - k) xs) ≡ drop k xs =
-    λ xs. drop-drop (k - (length a - k)) (length a - k) xs ∙ ap (λ (n : ℕ). drop n xs) on in
-    let tail : drop k a ≡ drop k b =
-    sym (rest a) ∙ ap (drop (k - (length a - k))) (end ∙ ap (λ (n : ℕ). drop n b) (sym at)) ∙ rest b in
-    sym (take-append-drop k a) ∙ ap₂ (λ (xs ys : List ℕ). xs ++ ys) front tail ∙ take-append-drop k b
 
 -- a text that begins so
 pub begins : (n : ℕ) (front prefix text : List ℕ) → front ≡ take n text → front ≡ prefix → text ≡ prefix ++ drop n text

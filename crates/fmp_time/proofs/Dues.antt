@@ -7,8 +7,8 @@ use Rattle.std.proofs.lemmas.List.{ext_get_or, get_or-replicate}
 use Rattle.fmp_codes.specs.Numbers.{as_proc}
 use Rattle.fmp_codes.specs.declared.numbers.Proc.{Proc}
 use Rattle.fmp_codes.specs.declared.numbers.Task.{Task}
-use Rattle.fmp_kernel_links.specs.Lists as links
-use Rattle.fmp_kernel_links.specs.Lists.{has}
+use Rattle.fmp_kernel_parts.specs.Lists as links
+use Rattle.fmp_kernel_parts.specs.Lists.{has}
 use Rattle.fmp_time.specs.declared.item.Item.{Item}
 use Rattle.fmp_time.specs.Differences.{Entry, entries_at, ticks_in, least_of, due, entries_of, items_of, zeros_of, IsLeastIn}
 use Rattle.fmp_time.specs.Left.{left_on, left_from, left_in, is_over, AreDisjoint}

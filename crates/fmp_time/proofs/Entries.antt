@@ -3,9 +3,9 @@ use Rattle.std.proofs.Common.{◌≡◌, ℕ, zero, suc, ◌+◌, ◌-◌, ◌^�
 use Rattle.std.specs.Prelude.{slice_index}
 use Rattle.std.proofs.lemmas.Bool.{cases_eq}
 use Rattle.std.proofs.lemmas.List.{get_or-set_same, get_or-set_other, length-set}
-use Rattle.fmp_kernel_links.specs.Lists as links
-use Rattle.fmp_kernel_links.specs.Lists.{has, inserted, AreDisjoint}
-use Rattle.fmp_kernel_links.proofs.Having.{ne}
+use Rattle.fmp_kernel_parts.specs.Lists as links
+use Rattle.fmp_kernel_parts.specs.Lists.{has, inserted, AreDisjoint}
+use Rattle.fmp_kernel_parts.proofs.Having.{ne}
 use Rattle.fmp_time.specs.Differences.{Entry, entries_at, has_entry, sorted_in, entries_from, entries_of, sum_of, spot_in, rest_in, IsSummed}
 use Rattle.fmp_time.proofs.Sums.{frame, frame_sum, spot_there, insert_some, insert_none, insert_some_total, insert_none_total}
 

@@ -3,11 +3,11 @@ use Rattle.std.proofs.Common.{◌≡◌, ℕ, ◌+◌, ◌-◌, ◌<◌, ◌≤�
 use Rattle.std.specs.Prelude.{slice_index}
 use Rattle.std.proofs.lemmas.Bool.{cases_eq, eq-eqb, ne_eqb}
 use Rattle.std.proofs.lemmas.List.{get_or-set_same, get_or-set_other, length-set, length-map, ext_get_or, set-get_or}
-use Rattle.fmp_kernel_links.specs.Lists as links
-use Rattle.fmp_kernel_links.specs.Lists.{has, AreDistinct, AreDisjoint, first_of}
-use Rattle.fmp_kernel_links.proofs.Having as having
-use Rattle.fmp_kernel_links.proofs.Having.{has_here, lacks_from}
-use Rattle.fmp_kernel_links.proofs.Soundness.{list_at-take_out}
+use Rattle.fmp_kernel_parts.specs.Lists as links
+use Rattle.fmp_kernel_parts.specs.Lists.{has, AreDistinct, AreDisjoint, first_of}
+use Rattle.fmp_kernel_parts.proofs.Having as having
+use Rattle.fmp_kernel_parts.proofs.Having.{has_here, lacks_from}
+use Rattle.fmp_kernel_parts.proofs.Soundness.{list_at-take_out}
 use Rattle.fmp_time.specs.Differences.{Entry, entries_at, lowered, due, not_due, entries_from, entries_of, sum_of, first_adding, zeros_of, rest_of, items_of, IsSummed}
 use Rattle.fmp_time.proofs.Sums.{frame, adding_there, adding_adds, lower_adding, lower_none, fewer_total}
 use Rattle.fmp_time.proofs.Entries.{list_at-entries_of, entries_set, summed_set}

@@ -5,8 +5,8 @@ use Rattle.std.specs.Option.{option_eq}
 use Rattle.std.proofs.lemmas.Bool.{cases_eq, eq-eqb, ne_eqb}
 use Rattle.std.proofs.lemmas.List.{length-map}
 use Rattle.fmp_codes.specs.Numbers.{as_proc}
-use Rattle.fmp_kernel_links.specs.Lists as links
-use Rattle.fmp_kernel_links.specs.Lists.{has, first_of}
+use Rattle.fmp_kernel_parts.specs.Lists as links
+use Rattle.fmp_kernel_parts.specs.Lists.{has, first_of}
 use Rattle.fmp_time.specs.Differences.{Entry, entries_at, has_entry, ticks_in, entries_from, entries_of, items_of, IsLeastIn}
 use Rattle.fmp_time.specs.Left.{left_on, left_from, left_in, AreDisjoint}
 use Rattle.fmp_time.proofs.Entries.{list_at-entries_of, has_entry-entries_of}

@@ -8,8 +8,8 @@ use Rattle.std.proofs.lemmas.List.{get_or-set_same, get_or-set_other, length-set
 use Rattle.std.proofs.Math.Bool.{or-false}
 use Rattle.fmp_codes.specs.Numbers.{as_proc}
 use Rattle.fmp_codes.specs.declared.numbers.Proc.{Proc}
-use Rattle.fmp_kernel_links.specs.Lists as links
-use Rattle.fmp_kernel_links.specs.Lists.{has}
+use Rattle.fmp_kernel_parts.specs.Lists as links
+use Rattle.fmp_kernel_parts.specs.Lists.{has}
 use Rattle.fmp_time.specs.Differences.{Entry, entries_at, has_entry, sorted_in, without, take_out, ticks_in, lowered, due, not_due, items_of}
 use Rattle.fmp_time.specs.Left.{Left, left_on, left_from, left_in, is_over, AreDisjoint}
 use Rattle.fmp_time.specs.Times.{ticks_on, is_due, lowered_on, counted_down}

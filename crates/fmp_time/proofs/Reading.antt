@@ -1,9 +1,9 @@
 -- What the walk along a list reads.
 use Rattle.std.proofs.Common.{◌≡◌, ℕ, ◌+◌, Bool, true, false, cond, Some, None, List, [], ◌∷◌, drop, refl, sym, ap, ◌∙◌, arith}
 use Rattle.std.proofs.lemmas.Bool.{eq-eqb, ne_eqb}
-use Rattle.fmp_kernel_links.specs.Lists.{has, first_of}
-use Rattle.fmp_kernel_links.proofs.Having.{has_after}
-use Rattle.fmp_kernel_links.proofs.Walking.{left_over, nothing_left}
+use Rattle.fmp_kernel_parts.specs.Lists.{has, first_of}
+use Rattle.fmp_kernel_parts.proofs.Having.{has_after}
+use Rattle.fmp_kernel_parts.proofs.Walking.{left_over, nothing_left}
 use Rattle.fmp_time.specs.Differences.{ticks_in, least_of, entries_from, sum_of}
 
 pub least_some : (d : ℕ → ℕ) (xs : List ℕ) (x : ℕ) → first_of xs ≡ Some x → least_of (entries_from d 0 xs) ≡ Some (d x)

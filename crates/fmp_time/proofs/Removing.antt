@@ -3,11 +3,11 @@ use Rattle.std.proofs.Common.{◌≡◌, ℕ, suc, ◌+◌, ◌^◌, ◌<◌, �
 use Rattle.std.specs.Prelude.{slice_index}
 use Rattle.std.proofs.lemmas.Bool.{cases_eq, eq-eqb, ne_eqb}
 use Rattle.std.proofs.lemmas.List.{get_or-set_same, get_or-set_other, length-map}
-use Rattle.fmp_kernel_links.specs.Lists as links
-use Rattle.fmp_kernel_links.specs.Lists.{has, AreDistinct, AreDisjoint, first_of}
-use Rattle.fmp_kernel_links.proofs.Having as having
-use Rattle.fmp_kernel_links.proofs.Having.{has_here, has_there, has_after, lacks_from, ne}
-use Rattle.fmp_kernel_links.proofs.Soundness.{list_at-take_out, first_there}
+use Rattle.fmp_kernel_parts.specs.Lists as links
+use Rattle.fmp_kernel_parts.specs.Lists.{has, AreDistinct, AreDisjoint, first_of}
+use Rattle.fmp_kernel_parts.proofs.Having as having
+use Rattle.fmp_kernel_parts.proofs.Having.{has_here, has_there, has_after, lacks_from, ne}
+use Rattle.fmp_kernel_parts.proofs.Soundness.{list_at-take_out, first_there}
 use Rattle.fmp_time.specs.Differences.{Entry, entries_at, has_entry, without, take_out, entries_from, entries_of, sum_of, IsSummed}
 use Rattle.fmp_time.proofs.Entries.{has_entry-entries_of}
 use Rattle.fmp_time.proofs.Sums.{frame, frame_sum, remove_sums, without_lacking}

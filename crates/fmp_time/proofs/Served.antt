@@ -7,10 +7,10 @@ use Rattle.std.proofs.lemmas.List.{get_or-set_same, get_or-set_other, take_more,
 use Rattle.std.proofs.Math.Bool.{or-false, or-true}
 use Rattle.fmp_codes.specs.declared.numbers.Proc.{Proc}
 use Rattle.fmp_codes.specs.declared.numbers.Task.{Task}
-use Rattle.fmp_kernel_links.specs.Lists.{has}
-use Rattle.fmp_kernel_links.specs.Tasks.{has_task, without, AreDistinct}
-use Rattle.fmp_kernel_links.proofs.Having.{has_push, or_left, or_right}
-use Rattle.fmp_kernel_links.proofs.Tasks as tasks
+use Rattle.fmp_kernel_parts.specs.Lists.{has}
+use Rattle.fmp_kernel_parts.specs.Tasks.{has_task, without, AreDistinct}
+use Rattle.fmp_kernel_parts.proofs.Having.{has_push, or_left, or_right}
+use Rattle.fmp_kernel_parts.proofs.Tasks as tasks
 use Rattle.fmp_time.specs.declared.item.Item.{Item}
 use Rattle.fmp_time.specs.Times.{Times, place_of, item_at, wait_of, left_of, is_due, is_marked, handlers, marked_handlers, ticked, served}
 use Rattle.fmp_time.specs.Differences.{Entry, entries_at, lowered, due, not_due, items_of}

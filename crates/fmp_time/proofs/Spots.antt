@@ -3,8 +3,8 @@ use Rattle.std.proofs.Common.{◌≡◌, ℕ, ◌+◌, ◌-◌, ◌<◌, ◌≤�
 use Rattle.std.proofs.lemmas.Bool.{cases_eq, eq-eqb, ne_eqb, lt-ltb, le-ltb}
 use Rattle.std.proofs.lemmas.List.{get_or-set_same, get_or-set_other}
 use Rattle.std.proofs.Math.Bool.{or-false}
-use Rattle.fmp_kernel_links.specs.Lists.{has, first_of}
-use Rattle.fmp_kernel_links.proofs.Walking.{left_over, nothing_left}
+use Rattle.fmp_kernel_parts.specs.Lists.{has, first_of}
+use Rattle.fmp_kernel_parts.proofs.Walking.{left_over, nothing_left}
 use Rattle.fmp_time.specs.Differences.{spot_in, rest_in, first_adding, zeros_of}
 
 pub spot_here : (d : ℕ → ℕ) (r : ℕ) (xs : List ℕ) (k t : ℕ) → first_of (drop k xs) ≡ Some t → r < d t → spot_in d r (drop k xs) ≡ Some t

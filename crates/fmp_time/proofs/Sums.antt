@@ -1,8 +1,8 @@
 -- What a change of the stored numbers does to the sums.
 use Rattle.std.proofs.Common.{◌≡◌, ℕ, ◌+◌, ◌-◌, ◌<◌, ◌≤◌, Bool, true, false, cond, Some, None, List, [], ◌∷◌, ◌++◌, refl, sym, ap, ◌∙◌, subst, arith, ⊎_elim}
 use Rattle.std.proofs.lemmas.Bool.{cases_eq, cases_lt, eq-eqb, ne_eqb, lt-ltb, le-ltb}
-use Rattle.fmp_kernel_links.specs.Lists.{has, inserted, AreDistinct, first_of}
-use Rattle.fmp_kernel_links.proofs.Having.{has_here, has_there, lacks_first, lacks_after, ne}
+use Rattle.fmp_kernel_parts.specs.Lists.{has, inserted, AreDistinct, first_of}
+use Rattle.fmp_kernel_parts.proofs.Having.{has_here, has_there, lacks_first, lacks_after, ne}
 use Rattle.fmp_time.specs.Differences.{Entry, sorted_in, without, lowered, entries_from, sum_of, spot_in, rest_in, first_adding}
 
 pub frame : (d e : ℕ → ℕ) (s : ℕ) (xs : List ℕ) → ((u : ℕ) → has u xs ≡ true → e u ≡ d u) → entries_from e s xs ≡ entries_from d s xs

@@ -5,8 +5,8 @@ use Rattle.std.proofs.lemmas.Bool.{cases_eq, eq-eqb, ne_eqb}
 use Rattle.std.proofs.lemmas.List.{get_or-set_same, get_or-set_other, get_or-map, get_or-replicate}
 use Rattle.fmp_codes.specs.declared.numbers.Proc.{Proc}
 use Rattle.fmp_codes.specs.declared.numbers.Task.{Task}
-use Rattle.fmp_kernel_links.specs.Tasks.{has_task, without}
-use Rattle.fmp_kernel_links.proofs.Tasks.{has_task-append, has_task-filter}
+use Rattle.fmp_kernel_parts.specs.Tasks.{has_task, without}
+use Rattle.fmp_kernel_parts.proofs.Tasks.{has_task-append, has_task-filter}
 use Rattle.fmp_time.specs.declared.item.Item.{Item}
 use Rattle.fmp_time.specs.declared.item.Item.TheVariants.{Wait, Alarm, Cyclic}
 use Rattle.fmp_time.specs.Left.{Left}

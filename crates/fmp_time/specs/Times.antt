@@ -6,7 +6,7 @@ use Rattle.fmp_codes.specs.Numbers.{as_task, as_object}
 use Rattle.fmp_codes.specs.declared.numbers.Proc.{Proc}
 use Rattle.fmp_codes.specs.declared.numbers.Task.{Task}
 use Rattle.fmp_codes.specs.declared.numbers.Object.{Object}
-use Rattle.fmp_kernel_links.specs.Tasks.{has_task, without}
+use Rattle.fmp_kernel_parts.specs.Tasks.{has_task, without}
 use Rattle.fmp_time.specs.declared.item.Item.{Item}
 use Rattle.fmp_time.specs.declared.item.Item.TheVariants.{Wait, Alarm, Cyclic}
 use Rattle.fmp_time.specs.Left.{Left}

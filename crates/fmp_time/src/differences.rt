@@ -2,14 +2,13 @@
 //! those before it. So a tick lowers one number, and an item that goes hands on what it added to the one after it.
 ghost use Rattle.std.specs.Prelude.{◌≡◌, ℕ, ◌^◌, ◌<◌, ◌≤◌, ◌||◌, false, true, is_some, Some, [], length, replicate, slice_index, slice_index_or, slice_set, IsTrue};
 ghost use Rattle.std.specs.Option.{option_map};
-ghost use Rattle.fmp_kernel_links.specs.Lists as lists;
+ghost use Rattle.fmp_kernel_parts.specs.Lists as lists;
 ghost use Rattle.fmp_time.specs.Differences.{entries_at, has_entry, sorted_in, take_out, ticks_in, least_of, lowered, due, not_due, entries_from, sum_of, spot_in};
 ghost use Rattle.fmp_time.specs.Differences.{rest_in, first_adding, zeros_of, rest_of, items_of, items_given, IsLeastIn};
 ghost use Rattle.fmp_time.specs.Left.{left_in, left_by, ticks_of, is_over, AreDisjoint};
 
 use arrayvec::ArrayVec;
-use fmp_kernel_links::Links;
-use fmp_kernel_parts::{Digest, Part};
+use fmp_kernel_parts::{Digest, Links, Part};
 use std::marker::Model;
 
 /// For each processor its items in ascending ticks left.

@@ -1,12 +1,12 @@
 //! What a tick serves, in its order.
 ghost use Rattle.std.specs.Prelude.{◌≡◌, ℕ, ◌<◌, ◌≤◌, false, not, [], ◌++◌, length, map, filter, slice_index_or};
-ghost use Rattle.fmp_kernel_links.specs.Lists.{has};
+ghost use Rattle.fmp_kernel_parts.specs.Lists.{has};
 ghost use Rattle.fmp_time.specs.Times.{wait_of, is_marked, is_marked_from, all_objects, marked_handlers};
 
 use crate::item::Item;
 use arrayvec::ArrayVec;
 use fmp_codes::{Object, Task};
-use fmp_kernel_links::TaskList;
+use fmp_kernel_parts::TaskList;
 
 /// Marks the items of a list.
 pub(crate) fn marks_of(items: &[usize]) -> [bool; 128]

@@ -12,8 +12,7 @@ use crate::item::Item;
 use crate::serving::{marked_objects, marked_waits, marks_of, serve_handlers, serve_waits};
 use arrayvec::ArrayVec;
 use fmp_codes::{Object, Proc, Task};
-use fmp_kernel_links::TaskList;
-use fmp_kernel_parts::{Digest, Part};
+use fmp_kernel_parts::{Digest, Part, TaskList};
 use std::marker::Model;
 
 /// For each item that counts its processor and its ticks left, and the waits that count in the order in which they began.

@@ -11,10 +11,6 @@ record IsLed (n : ℕ) : Type 0 where
   here : decimal n ≡ front ++ ((48 + n % 10) ∷ [])
   next : n % 10 < 9 → decimal (n + 1) ≡ front ++ ((48 + n % 10 + 1) ∷ [])
 
--- the last byte of a number's digits
-last_digit : (n m : ℕ) → m ≡ n % 10 + 1 → 48 + m ≡ 48 + n % 10 + 1
-last_digit n m is = omega (arith, is)
-
 one_digit : (n : ℕ) → n < 10 → IsLed n
 one_digit n few = record {
   front = [];

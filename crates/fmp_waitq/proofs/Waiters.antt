@@ -8,8 +8,8 @@ use Rattle.std.proofs.lemmas.Map.Views.{any-filter_same}
 use Rattle.fmp_codes.specs.declared.numbers.Task.{Task}
 use Rattle.fmp_codes.specs.declared.numbers.Pri.{Pri}
 use Rattle.fmp_setup.specs.declared.setup.Order.{Order}
-use Rattle.fmp_kernel_links.specs.Tasks.{has_task, without, inserted}
-use Rattle.fmp_kernel_links.proofs.Tasks.{has_task-without}
+use Rattle.fmp_kernel_parts.specs.Tasks.{has_task, without, inserted}
+use Rattle.fmp_kernel_parts.proofs.Tasks.{has_task-without}
 use Rattle.fmp_waitq.specs.Queue.{Waiter, Queue, task_of, has_waiter, left_by, put_ranked, rank_of, waiter_of}
 use Rattle.fmp_waitq.specs.Kept.{rank_in, waiter_in, spot_in, IsFlat}
 

@@ -3,7 +3,7 @@ use Rattle.std.specs.Prelude.{◌≡◌, ℕ, ◌-◌, true, nat_lt, Option, Som
 use Rattle.fmp_codes.specs.declared.numbers.Task.{Task}
 use Rattle.fmp_setup.specs.declared.setup.Order.{Order}
 use Rattle.fmp_setup.specs.declared.setup.Order.TheVariants as order
-use Rattle.fmp_kernel_links.specs.Tasks.{has_task}
+use Rattle.fmp_kernel_parts.specs.Tasks.{has_task}
 use Rattle.fmp_waitq.specs.Queue.{Waiter}
 
 abbrev pub rank_in : List ℕ → Task → ℕ

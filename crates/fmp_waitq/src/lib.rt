@@ -11,14 +11,13 @@
 
 ghost use Rattle.std.specs.Prelude.{◌≡◌, ℕ, ◌-◌, false, true, Some, [], map, slice_index};
 ghost use Rattle.fmp_rules.specs.World.{first};
-ghost use Rattle.fmp_kernel_links.specs.Tasks.{AreDistinct};
+ghost use Rattle.fmp_kernel_parts.specs.Tasks.{AreDistinct};
 ghost use Rattle.fmp_waitq.specs.Queue.{task_of, has_waiter, left_by, put_ranked, joined_by, rank_of, waiter_of};
 ghost use Rattle.fmp_waitq.specs.Kept.{spot_in, rank_in};
 
 use arrayvec::ArrayVec;
 use fmp_codes::{Pri, Task};
-use fmp_kernel_links::TaskList;
-use fmp_kernel_parts::{Digest, Part};
+use fmp_kernel_parts::{Digest, Part, TaskList};
 use fmp_rules::Order;
 use std::marker::Model;
 

@@ -14,8 +14,8 @@ use Rattle.fmp_setup.specs.Valid.{IsValid}
 use Rattle.fmp_rules.specs.Boot.{booted}
 use Rattle.fmp_law_safety.specs.Runs.{IsSafeThroughout}
 use Rattle.fmp_law_safety.proofs.Booted.{runs_safe}
-use Rattle.fmp_law_headline.specs.Headline.{HeadlineThroughout}
-use Rattle.fmp_law_headline.proofs.Along.{headline_throughout}
+use Rattle.fmp_law_lists.specs.Headline.{HeadlineThroughout}
+use Rattle.fmp_law_lists.proofs.Along.{headline_throughout}
 use Rattle.fmp_smp_histories.specs.Histories.{events_of, IsRunOf}
 use Rattle.fmp_smp_histories.specs.Scripted.{Scripted}
 use Rattle.fmp_world.proofs.Bits.{events_fit}

@@ -11,7 +11,7 @@ use Rattle.fmp_setup.specs.declared.setup.Timer.{Timer}
 use Rattle.fmp_setup.specs.Setup.{Setup, has_time}
 use Rattle.fmp_rules.specs.Boot.{booted}
 use Rattle.fmp_law_safety.specs.Runs.{IsSafeThroughout}
-use Rattle.fmp_law_headline.specs.Headline.{HeadlineThroughout}
+use Rattle.fmp_law_lists.specs.Headline.{HeadlineThroughout}
 use Rattle.fmp_world.specs.declared.seats.Receipt.{Receipt}
 use Rattle.fmp_world.specs.declared.finishing.Ended.{Ended}
 use Rattle.fmp_world.specs.declared.finishing.Ended.TheVariants.{Quiet, Limit}

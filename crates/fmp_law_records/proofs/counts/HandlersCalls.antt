@@ -28,16 +28,16 @@ use Rattle.fmp_law_balance.specs.Accepted.{is_accepted, names}
 use Rattle.fmp_law_balance.proofs.Called.{refuses, by_called, either_way, not_accepted}
 use Rattle.fmp_law_balance.proofs.Objects.{IsNamed, object_known, by_object}
 use Rattle.fmp_law_balance.proofs.Steps.{report}
-use Rattle.fmp_law_waits.specs.Waits.{is_tick_for}
+use Rattle.fmp_law_balance.specs.Waits.Waits.{is_tick_for}
 use Rattle.fmp_rules.specs.Objects.{alarm, cyclic}
-use Rattle.fmp_law_waits.proofs.Named.{ticks_same}
-use Rattle.fmp_law_waits.specs.Meanings.{ticks_in}
+use Rattle.fmp_law_balance.proofs.waits.Named.{ticks_same}
+use Rattle.fmp_law_balance.specs.Waits.Meanings.{ticks_in}
 use Rattle.fmp_law_records.specs.Counts.Alarms.{starts_alarm, stops_alarm, without_tick, alarm_left_after, alarm_time}
 use Rattle.fmp_setup.specs.declared.setup.CyclicSetup.{CyclicSetup}
 use Rattle.fmp_rules.specs.declared.machine.Cyclic.{Cyclic}
 use Rattle.fmp_law_records.specs.Counts.Cyclics.{starts_cyclic, stops_cyclic, cyclic_left_after}
 use Rattle.fmp_setup.specs.declared.setup.Timer.{Timer}
-use Rattle.fmp_law_waits.proofs.Events.{untaken}
+use Rattle.fmp_law_balance.proofs.waits.Events.{untaken}
 use Rattle.fmp_law_records.proofs.Rows.{time_rows}
 use Rattle.fmp_law_records.proofs.counts.Sparing.{Clock, clock}
 use Rattle.fmp_law_records.proofs.counts.SparesCalls.{clock_call}

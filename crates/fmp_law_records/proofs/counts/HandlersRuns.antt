@@ -24,12 +24,12 @@ use Rattle.fmp_rules.specs.Boot.{blank, all_started, with_top_running, with_tops
 use Rattle.fmp_law_safety.specs.Runs.{AreOn}
 use Rattle.fmp_law_safety.specs.Safe.{Safe}
 use Rattle.fmp_law_safety.proofs.Items.{item_holds}
-use Rattle.fmp_law_waits.specs.Waits.{OpenWaits, nobody_waits, after_record}
+use Rattle.fmp_law_balance.specs.Waits.Waits.{OpenWaits, nobody_waits, after_record}
 use Rattle.fmp_law_records.proofs.counts.Ready.{Ready, ready_next, ready_at_boot, ready_after}
 use Rattle.fmp_law_records.specs.Counts.Alarms.{alarm_left_after, alarm_left_by, is_last, IsAlarmTimed}
 use Rattle.fmp_law_records.specs.Counts.Cyclics.{cyclic_left_after, cyclic_left_by, cyclic_at_boot, IsCyclicTimed}
 use Rattle.fmp_law_records.specs.Counts.Due.{by_number, BecomeDue, FallDue}
-use Rattle.fmp_law_waits.proofs.Events.{by_event, tick_state}
+use Rattle.fmp_law_balance.proofs.waits.Events.{by_event, tick_state}
 use Rattle.fmp_law_records.proofs.counts.Sparing.{Clock, clock}
 use Rattle.fmp_law_records.proofs.counts.HandlersCalls.{times_call, idle_time, cyclic_times_call, idle_cyclic_time, Clocks, clocks_all, clocks_call}
 use Rattle.fmp_law_records.proofs.counts.HandlersTick.{left_at_tick, cyclic_left_at_tick, due_at_tick, clocks_tick, same_passed}

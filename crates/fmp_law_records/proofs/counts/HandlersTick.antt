@@ -28,12 +28,12 @@ use Rattle.fmp_law_safety.proofs.KeepsDue.{alarms_keep, cyclics_keep, released_k
 use Rattle.fmp_law_safety.proofs.TellsTick.{lowered_length}
 use Rattle.fmp_law_balance.proofs.Objects.{by_object}
 use Rattle.fmp_law_balance.proofs.Steps.{report}
-use Rattle.fmp_law_words.proofs.Words.{clock_counts}
+use Rattle.fmp_law_balance.proofs.Words.{clock_counts}
 use Rattle.fmp_law_records.specs.Counts.Alarms.{without_tick, alarm_left_after, is_last}
 use Rattle.fmp_law_records.specs.Counts.Cyclics.{cyclic_left_after}
 use Rattle.fmp_law_records.specs.Counts.Due.{by_number}
-use Rattle.fmp_law_waits.proofs.Several.{one_by_one}
-use Rattle.fmp_law_waits.proofs.Ticks.{lowered_at}
+use Rattle.fmp_law_balance.proofs.waits.Several.{one_by_one}
+use Rattle.fmp_law_balance.proofs.waits.Ticks.{lowered_at}
 use Rattle.fmp_law_records.proofs.counts.Sparing.{Clock, clock}
 use Rattle.fmp_law_records.proofs.counts.HandlersCalls.{Clocks}
 

@@ -7,12 +7,12 @@ use Rattle.fmp_codes.specs.declared.records.Event.{Event}
 use Rattle.fmp_codes.specs.declared.records.Record.{Record}
 use Rattle.fmp_setup.specs.Setup.{Setup}
 use Rattle.fmp_rules.specs.Objects.{alarm}
-use Rattle.fmp_law_waits.specs.Meanings.{ticks_in}
+use Rattle.fmp_law_balance.specs.Waits.Meanings.{ticks_in}
 use Rattle.fmp_rules.specs.Arrivals.{State, numbered}
 use Rattle.fmp_rules.specs.Step.{step, replay}
 use Rattle.fmp_rules.specs.Boot.{booted}
 use Rattle.fmp_law_balance.specs.Accepted.{is_accepted, one_if}
-use Rattle.fmp_law_waits.specs.Waits.{is_tick_for}
+use Rattle.fmp_law_balance.specs.Waits.Waits.{is_tick_for}
 use Rattle.fmp_law_records.specs.Counts.Alarms.{starts_alarm, stops_alarm, without_tick, alarm_left_after, alarm_left_by, is_last, ticks_for_alarm, LeaveAlarm, RingsAtLastTick}
 
 -- two tests of numbers that are equal alike

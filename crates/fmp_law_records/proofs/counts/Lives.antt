@@ -37,8 +37,8 @@ use Rattle.fmp_law_balance.specs.Accepted.{is_accepted, accepted_value, one_if}
 use Rattle.fmp_law_balance.proofs.Called.{refuses, by_called, either_way, not_accepted}
 use Rattle.fmp_law_balance.proofs.Steps.{report, by_step}
 use Rattle.fmp_law_records.specs.Counts.Lives.{activates, activated, ends, ended, takes_back, amount, taken_back}
-use Rattle.fmp_law_waits.proofs.Follows.{running_may}
-use Rattle.fmp_law_waits.proofs.Named.{by_task, task_known}
+use Rattle.fmp_law_balance.proofs.waits.Follows.{running_may}
+use Rattle.fmp_law_balance.proofs.waits.Named.{by_task, task_known}
 use Rattle.fmp_law_records.proofs.Rows.{task_rows}
 use Rattle.fmp_law_records.proofs.counts.Tasks.{is_caller_of, named_or_caller_is, after_change, changed_here, changed_there}
 use Rattle.fmp_law_records.proofs.counts.Sparing.{Tally, tally, Spares, spares_all, spares_ready, spares_begin, spares_tick}

@@ -13,7 +13,7 @@ use Rattle.fmp_rules.specs.Step.{step, replay, answers}
 use Rattle.fmp_rules.specs.Boot.{booted}
 use Rattle.fmp_rules.proofs.Replays.{answers_take}
 use Rattle.fmp_law_safety.specs.Runs.{AreOn}
-use Rattle.fmp_law_waits.specs.Waits.{OpenWaits, nobody_waits, after_record}
+use Rattle.fmp_law_balance.specs.Waits.Waits.{OpenWaits, nobody_waits, after_record}
 use Rattle.fmp_law_records.specs.Counts.Lives.{activated, ended, taken_back, ActivationBalance}
 use Rattle.fmp_law_records.proofs.counts.Lives.{life, lives_step}
 use Rattle.fmp_law_records.proofs.counts.Booted.{booted_life, booted_wakeups}

@@ -15,12 +15,12 @@ use Rattle.fmp_law_safety.specs.Safe.{Safe}
 use Rattle.fmp_law_safety.proofs.Stepping.{numbered_tops, safe_step}
 use Rattle.fmp_law_safety.proofs.Listed.{numbered_lists}
 use Rattle.fmp_law_safety.proofs.Booted.{booted_safe, count_booted}
-use Rattle.fmp_law_waits.specs.Waits.{OpenWaits, nobody_waits, after_record, after_records}
-use Rattle.fmp_law_waits.proofs.Words.{IsKept}
-use Rattle.fmp_law_waits.proofs.Follows.{Sound, Follows}
-use Rattle.fmp_law_waits.proofs.Ticks.{numbered_once}
-use Rattle.fmp_law_waits.proofs.Steps.{follows_step, sound_step}
-use Rattle.fmp_law_waits.proofs.Booted.{quiet_booted}
+use Rattle.fmp_law_balance.specs.Waits.Waits.{OpenWaits, nobody_waits, after_record, after_records}
+use Rattle.fmp_law_balance.proofs.waits.Words.{IsKept}
+use Rattle.fmp_law_balance.proofs.waits.Follows.{Sound, Follows}
+use Rattle.fmp_law_balance.proofs.waits.Ticks.{numbered_once}
+use Rattle.fmp_law_balance.proofs.waits.Steps.{follows_step, sound_step}
+use Rattle.fmp_law_balance.proofs.waits.Booted.{quiet_booted}
 use Rattle.fmp_law_records.proofs.counts.Booted.{count_booted_tasks}
 
 module _ (c : Setup) where

@@ -16,7 +16,7 @@ use Rattle.fmp_rules.specs.Rows.{done_or_wait}
 use Rattle.fmp_law_records.proofs.counts.Tasks.{after_change}
 use Rattle.fmp_rules.specs.Tick.{tick, ticked, counted_down, released, tasks_expired}
 use Rattle.fmp_law_safety.proofs.KeepsDue.{released_keep}
-use Rattle.fmp_law_waits.proofs.Ticks.{handlers_beside}
+use Rattle.fmp_law_balance.proofs.waits.Ticks.{handlers_beside}
 
 -- what is counted for a task
 pub record Tally : Type 0 where

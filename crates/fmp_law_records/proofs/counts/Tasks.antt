@@ -10,8 +10,8 @@ use Rattle.fmp_rules.specs.Arguments.{caller, is_zero, task_or_caller}
 use Rattle.fmp_law_safety.proofs.Items.{item_after, item_same, item_other}
 use Rattle.fmp_law_safety.proofs.Calls.{FromTask}
 use Rattle.fmp_law_balance.specs.Queues.{is_task}
-use Rattle.fmp_law_waits.proofs.Named.{eqb_sym, caller_runs, task_known}
-use Rattle.fmp_law_words.proofs.Words.{nothing_same}
+use Rattle.fmp_law_balance.proofs.waits.Named.{eqb_sym, caller_runs, task_known}
+use Rattle.fmp_law_balance.proofs.Words.{nothing_same}
 use Rattle.fmp_law_records.specs.Counts.Naming.{names_task}
 
 module _ {Q : Type 0} (w : World Q) (p : Proc) (t : Task) where

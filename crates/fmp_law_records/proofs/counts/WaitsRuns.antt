@@ -30,16 +30,16 @@ use Rattle.fmp_law_safety.proofs.Queues.{Lists}
 use Rattle.fmp_law_safety.proofs.TickCounts.{in_range_fallen, lowered_item, served_task, waits_served}
 use Rattle.fmp_law_balance.specs.Accepted.{is_accepted, one_if}
 use Rattle.fmp_law_balance.specs.Queues.{is_call_of}
-use Rattle.fmp_law_waits.specs.Asked.{OpenWait, asked_by}
-use Rattle.fmp_law_waits.specs.Waits.{OpenWaits, nobody_waits, after_record, after_records, begins, ends, lasts, terminates, is_released, is_tick_for, is_waiting}
-use Rattle.fmp_law_waits.specs.Releases.{EndsOpenWait, IsServed, IsBrokenOff, IsOver}
-use Rattle.fmp_law_waits.specs.Laws.{Waits, left_of}
-use Rattle.fmp_law_waits.proofs.Follows.{Follows}
-use Rattle.fmp_law_waits.proofs.Ticks.{handlers_beside}
-use Rattle.fmp_law_waits.specs.Meanings.{after_tick}
-use Rattle.fmp_law_words.proofs.Words.{clock_counts}
+use Rattle.fmp_law_balance.specs.Waits.Asked.{OpenWait, asked_by}
+use Rattle.fmp_law_balance.specs.Waits.Waits.{OpenWaits, nobody_waits, after_record, after_records, begins, ends, lasts, terminates, is_released, is_tick_for, is_waiting}
+use Rattle.fmp_law_balance.specs.Waits.Releases.{EndsOpenWait, IsServed, IsBrokenOff, IsOver}
+use Rattle.fmp_law_balance.specs.Waits.Laws.{Waits, left_of}
+use Rattle.fmp_law_balance.proofs.waits.Follows.{Follows}
+use Rattle.fmp_law_balance.proofs.waits.Ticks.{handlers_beside}
+use Rattle.fmp_law_balance.specs.Waits.Meanings.{after_tick}
+use Rattle.fmp_law_balance.proofs.Words.{clock_counts}
 use Rattle.fmp_law_records.specs.Counts.Waits.{ReleasesInTime, EndsInTime, EndsAtLastTick, ticks_for, GoesOn}
-use Rattle.fmp_law_waits.proofs.Events.{event_reported, tick_state, untaken}
+use Rattle.fmp_law_balance.proofs.waits.Events.{event_reported, tick_state, untaken}
 use Rattle.fmp_law_records.proofs.counts.Ready.{Ready, followed, ready_next, ready_later, ready_end, ready_at_boot, ready_after}
 
 -- after a tick what is left of each wait is in range

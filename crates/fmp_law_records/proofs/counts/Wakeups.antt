@@ -34,16 +34,16 @@ use Rattle.fmp_law_balance.specs.Accepted.{is_accepted}
 use Rattle.fmp_law_balance.specs.Queues.{is_task}
 use Rattle.fmp_law_balance.proofs.Called.{refuses, by_called, either_way, not_accepted}
 use Rattle.fmp_law_balance.proofs.Steps.{report}
-use Rattle.fmp_law_waits.specs.Waits.{is_number_of}
+use Rattle.fmp_law_balance.specs.Waits.Waits.{is_number_of}
 use Rattle.fmp_law_records.specs.Counts.Naming.{names_task}
 use Rattle.fmp_law_records.specs.Counts.Lives.{ends}
 use Rattle.fmp_law_records.specs.Counts.Wakeups.{sleeps, wakes, cancels, releases_nobody, queued_after, TakesWhatIsQueued}
-use Rattle.fmp_law_waits.proofs.Follows.{running_may}
-use Rattle.fmp_law_waits.proofs.Named.{by_task, task_known}
+use Rattle.fmp_law_balance.proofs.waits.Follows.{running_may}
+use Rattle.fmp_law_balance.proofs.waits.Named.{by_task, task_known}
 use Rattle.fmp_law_records.proofs.counts.Tasks.{is_caller_of, named_or_caller_is, after_change, changed_here, changed_there}
 use Rattle.fmp_law_records.proofs.counts.Sparing.{Tally, tally, Spares, spares_ready, spares_begin, spares_tick}
 use Rattle.fmp_law_records.proofs.counts.SparesCalls.{spares_mig, spares_chg, spares_rel, spares_sus, spares_rsm, spares_dly, tally_call}
-use Rattle.fmp_law_waits.proofs.Events.{by_event}
+use Rattle.fmp_law_balance.proofs.waits.Events.{by_event}
 use Rattle.fmp_law_records.proofs.counts.Lives.{refused_ends, idle_ends}
 use Rattle.fmp_rules.specs.Tick.{tick}
 use Rattle.fmp_law_safety.specs.Safe.{Safe}

@@ -23,8 +23,8 @@ use Rattle.fmp_rules.proofs.Scenario.{a_task, both, call_on, tick_on, released}
 use Rattle.fmp_law_balance.specs.Accepted.{one_if}
 use Rattle.fmp_law_records.specs.Counts.Lives.{activated, ended, taken_back}
 use Rattle.fmp_law_records.specs.Counts.Wakeups.{queued_by}
-use Rattle.fmp_law_waits.specs.Waits.{nobody_waits, after_records}
-use Rattle.fmp_law_waits.specs.Laws.{left_of}
+use Rattle.fmp_law_balance.specs.Waits.Waits.{nobody_waits, after_records}
+use Rattle.fmp_law_balance.specs.Waits.Laws.{left_of}
 use Rattle.fmp_law_records.specs.Counts.Waits.{ticks_for}
 use Rattle.fmp_law_records.specs.Counts.Alarms.{alarm_left_by}
 use Rattle.fmp_law_records.specs.Counts.Cyclics.{cyclic_left_by, cyclic_at_boot}

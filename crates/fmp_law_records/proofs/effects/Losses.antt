@@ -56,7 +56,7 @@ use Rattle.fmp_law_safety.proofs.Queues.{Lists}
 use Rattle.fmp_law_balance.specs.Accepted.{is_accepted}
 use Rattle.fmp_law_balance.specs.Queues.{out_by}
 use Rattle.fmp_law_balance.proofs.Called.{refuses, not_accepted, by_called, either_way}
-use Rattle.fmp_law_waits.proofs.Events.{by_event}
+use Rattle.fmp_law_balance.proofs.waits.Events.{by_event}
 use Rattle.fmp_law_records.specs.Refusals.Meanings.{object_of}
 use Rattle.fmp_law_records.specs.Refusals.Found.{found_reported, takes_value}
 use Rattle.fmp_law_records.proofs.Rows.{task_rows, sync_rows, buffer_rows, time_rows, system_rows, spin_rows}

@@ -15,11 +15,11 @@ use Rattle.fmp_rules.specs.declared.machine.QueueKind.{QueueKind}
 use Rattle.fmp_rules.specs.World.{item, task}
 use Rattle.fmp_rules.specs.Ordering.{is_in, waits_in, order_in, queue}
 use Rattle.fmp_rules.specs.Arrivals.{State, numbered, inserted, inserted_if, in_order, comes_before, rank_in}
-use Rattle.fmp_law_waits.specs.Asked.{OpenWait}
-use Rattle.fmp_law_waits.proofs.Several.{Distinct}
-use Rattle.fmp_law_waits.proofs.Words.{IsKept}
+use Rattle.fmp_law_balance.specs.Waits.Asked.{OpenWait}
+use Rattle.fmp_law_balance.proofs.waits.Several.{Distinct}
+use Rattle.fmp_law_balance.proofs.waits.Words.{IsKept}
 use Rattle.fmp_law_records.specs.Served.{is_priority, Places, is_served_before}
-use Rattle.fmp_law_words.proofs.Turns.{turns_ordered}
+use Rattle.fmp_law_balance.proofs.Turns.{turns_ordered}
 use Rattle.fmp_law_records.proofs.Alike.{in_order_alike}
 use Rattle.fmp_law_records.proofs.Places.{ordered_as, ArePlaced}
 use Rattle.fmp_law_records.specs.Refusals.Found.{waits_so}

@@ -37,9 +37,9 @@ use Rattle.fmp_law_safety.proofs.Queues.{first_waits}
 use Rattle.fmp_law_balance.specs.Accepted.{is_accepted, accepted_value}
 use Rattle.fmp_law_balance.proofs.Called.{AllRefuse, not_accepted, by_called}
 use Rattle.fmp_law_records.proofs.counts.Ready.{ready_after}
-use Rattle.fmp_law_waits.specs.Asked.{OpenWait}
-use Rattle.fmp_law_waits.proofs.Events.{by_event}
-use Rattle.fmp_law_words.proofs.Words.{head_same}
+use Rattle.fmp_law_balance.specs.Waits.Asked.{OpenWait}
+use Rattle.fmp_law_balance.proofs.waits.Events.{by_event}
+use Rattle.fmp_law_balance.proofs.Words.{head_same}
 use Rattle.fmp_law_records.specs.Served.{Places, is_priority, places_by, places_at_boot}
 use Rattle.fmp_law_records.proofs.Places.{ordered_as}
 use Rattle.fmp_law_records.specs.Refusals.Meanings.{object_of}

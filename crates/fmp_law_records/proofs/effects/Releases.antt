@@ -51,11 +51,11 @@ use Rattle.fmp_law_safety.proofs.Calls.{Accepts, from_task}
 use Rattle.fmp_law_safety.proofs.Items.{item_other}
 use Rattle.fmp_law_balance.specs.Accepted.{is_accepted}
 use Rattle.fmp_law_balance.proofs.Called.{AllRefuse, refuses, not_accepted, by_called, either_way}
-use Rattle.fmp_law_waits.specs.Asked.{OpenWait}
-use Rattle.fmp_law_waits.proofs.Several.{Distinct}
-use Rattle.fmp_law_waits.proofs.Words.{IsKept}
+use Rattle.fmp_law_balance.specs.Waits.Asked.{OpenWait}
+use Rattle.fmp_law_balance.proofs.waits.Several.{Distinct}
+use Rattle.fmp_law_balance.proofs.waits.Words.{IsKept}
 use Rattle.fmp_law_records.specs.Patterns.{handed_on, clears_of, report_pattern}
-use Rattle.fmp_law_words.proofs.Words.{head_same}
+use Rattle.fmp_law_balance.proofs.Words.{head_same}
 use Rattle.fmp_law_records.specs.Served.{Places, is_priority}
 use Rattle.fmp_law_records.proofs.Rows.{task_rows, sync_rows, buffer_rows, time_rows, system_rows, spin_rows}
 use Rattle.fmp_law_records.proofs.Places.{ordered_as, ArePlaced}

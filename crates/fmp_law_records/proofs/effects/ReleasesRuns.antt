@@ -26,20 +26,20 @@ use Rattle.fmp_law_safety.proofs.Listed.{not_past}
 use Rattle.fmp_law_safety.proofs.TellsTick.{lowered_length}
 use Rattle.fmp_law_records.specs.Counts.Alarms.{is_last}
 use Rattle.fmp_law_records.proofs.counts.Ready.{ready_at_boot, ready_after}
-use Rattle.fmp_law_waits.specs.Asked.{OpenWait}
-use Rattle.fmp_law_waits.specs.Laws.{Waits, left_of}
-use Rattle.fmp_law_waits.specs.Releases.{over_code}
-use Rattle.fmp_law_waits.specs.Waits.{OpenWaits}
-use Rattle.fmp_law_waits.proofs.Events.{by_event}
-use Rattle.fmp_law_waits.proofs.Follows.{Sound, running_may}
-use Rattle.fmp_law_waits.proofs.Several.{Distinct}
-use Rattle.fmp_law_waits.proofs.Ticks.{numbered_once, lowered_at}
-use Rattle.fmp_law_waits.proofs.Words.{IsKept}
+use Rattle.fmp_law_balance.specs.Waits.Asked.{OpenWait}
+use Rattle.fmp_law_balance.specs.Waits.Laws.{Waits, left_of}
+use Rattle.fmp_law_balance.specs.Waits.Releases.{over_code}
+use Rattle.fmp_law_balance.specs.Waits.Waits.{OpenWaits}
+use Rattle.fmp_law_balance.proofs.waits.Events.{by_event}
+use Rattle.fmp_law_balance.proofs.waits.Follows.{Sound, running_may}
+use Rattle.fmp_law_balance.proofs.waits.Several.{Distinct}
+use Rattle.fmp_law_balance.proofs.waits.Ticks.{numbered_once, lowered_at}
+use Rattle.fmp_law_balance.proofs.waits.Words.{IsKept}
 use Rattle.fmp_law_records.specs.Patterns.{IsPatternReported}
 use Rattle.fmp_law_records.specs.Served.{Places, began_before, places_by, places_at_boot}
-use Rattle.fmp_law_words.specs.Turns.{in_turn}
-use Rattle.fmp_law_words.proofs.Turns.{turns_ordered}
-use Rattle.fmp_law_words.proofs.Words.{clock_counts}
+use Rattle.fmp_law_balance.specs.Turns.{in_turn}
+use Rattle.fmp_law_balance.proofs.Turns.{turns_ordered}
+use Rattle.fmp_law_balance.proofs.Words.{clock_counts}
 use Rattle.fmp_law_records.proofs.Alike.{in_order_alike}
 use Rattle.fmp_law_records.proofs.PatternsRuns.{patterns_reported}
 use Rattle.fmp_law_records.proofs.Places.{ArePlaced}

@@ -15,7 +15,7 @@ use Rattle.fmp_rules.specs.Step.{step, replay, answers}
 use Rattle.fmp_rules.specs.Boot.{booted}
 use Rattle.fmp_rules.proofs.Replays.{replay_more, answers_more}
 use Rattle.fmp_law_safety.specs.Runs.{processor_of, AreOn}
-use Rattle.fmp_law_waits.proofs.Events.{event_reported}
+use Rattle.fmp_law_balance.proofs.waits.Events.{event_reported}
 use Rattle.fmp_law_records.specs.Requests.{ProcessorReported, is_held_reported, came_to_end, is_among, processor_after, processor_by, processor_at_boot, report_processor}
 use Rattle.fmp_law_records.specs.Standing.{Standing, standing_after, standing_by, standing_at_boot, report_standing, top_reported}
 use Rattle.fmp_law_records.specs.Tops.{RequestsAreDue}

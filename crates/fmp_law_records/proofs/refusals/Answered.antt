@@ -31,7 +31,7 @@ use Rattle.fmp_rules.specs.TaskCalls.{is_sleep, wup, tslp_tsk, task_row}
 use Rattle.fmp_law_safety.proofs.Calls.{FromTask}
 use Rattle.fmp_law_safety.proofs.Queues.{Lists}
 use Rattle.fmp_law_balance.specs.Accepted.{accepted_value}
-use Rattle.fmp_law_waits.proofs.Named.{caller_runs}
+use Rattle.fmp_law_balance.proofs.waits.Named.{caller_runs}
 use Rattle.fmp_law_records.specs.Requests.{ProcessorReported}
 use Rattle.fmp_law_records.proofs.Accepting.{activation_same}
 use Rattle.fmp_law_records.proofs.Rows.{task_rows}

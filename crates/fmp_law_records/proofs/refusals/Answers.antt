@@ -18,8 +18,8 @@ use Rattle.fmp_setup.specs.declared.setup.Timer.{Timer}
 use Rattle.fmp_setup.specs.declared.setup.SemaphoreSetup.{SemaphoreSetup}
 use Rattle.fmp_setup.specs.declared.setup.PoolSetup.{PoolSetup}
 use Rattle.fmp_setup.specs.Setup.{Setup, no_semaphore, no_pool, has_time}
-use Rattle.fmp_law_words.specs.Words.{is_clock}
-use Rattle.fmp_law_words.proofs.Words.{clock_has_time}
+use Rattle.fmp_law_balance.specs.Words.{is_clock}
+use Rattle.fmp_law_balance.proofs.Words.{clock_has_time}
 use Rattle.fmp_setup.specs.Valid.{IsValid}
 use Rattle.fmp_rules.specs.World.{World, task, processor, handler, runner_of, is_held}
 use Rattle.fmp_rules.specs.Objects.{values}
@@ -35,8 +35,8 @@ use Rattle.fmp_law_safety.proofs.Listed.{numbered_lists}
 use Rattle.fmp_law_safety.proofs.Queues.{Lists}
 use Rattle.fmp_law_balance.specs.Accepted.{accepted_value}
 use Rattle.fmp_law_balance.specs.Queues.{puts, out_by}
-use Rattle.fmp_law_waits.proofs.Events.{event_reported}
-use Rattle.fmp_law_waits.proofs.Follows.{running_may}
+use Rattle.fmp_law_balance.proofs.waits.Events.{event_reported}
+use Rattle.fmp_law_balance.proofs.waits.Follows.{running_may}
 use Rattle.fmp_law_records.specs.Counts.Wakeups.{WakeupBalance}
 use Rattle.fmp_law_records.proofs.counts.QueuedRuns.{wakeups_balance}
 use Rattle.fmp_law_records.proofs.counts.Ready.{ready_after}

@@ -13,8 +13,8 @@ use Rattle.fmp_setup.specs.Setup.{Setup, has_member}
 use Rattle.fmp_rules.specs.World.{World, task, processor, runner_of}
 use Rattle.fmp_rules.specs.Arguments.{object_named, task_named, task_or_caller, class_of, processor_or_initial}
 use Rattle.fmp_law_safety.proofs.Calls.{FromTask}
-use Rattle.fmp_law_words.proofs.Words.{member_same}
-use Rattle.fmp_law_waits.specs.Waits.{setup_of}
+use Rattle.fmp_law_balance.proofs.Words.{member_same}
+use Rattle.fmp_law_balance.specs.Waits.Waits.{setup_of}
 use Rattle.fmp_law_records.specs.Refusals.Meanings.{is_one_of, is_zero_or_of, task_of, task_meant, object_of, processor_in, is_in_class}
 use Rattle.fmp_law_records.specs.Refusals.Errors.{Errors}
 use Rattle.fmp_law_records.proofs.refusals.FirstErrors.{Agree, unless}

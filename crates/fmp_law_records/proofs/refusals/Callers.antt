@@ -35,8 +35,8 @@ use Rattle.fmp_law_safety.proofs.KeepsTick.{keeps_tick}
 use Rattle.fmp_law_safety.proofs.Listed.{numbered_lists}
 use Rattle.fmp_law_safety.proofs.Settling.{with_latches, latches_at, settle_is}
 use Rattle.fmp_law_safety.proofs.Stepping.{numbered_tops, keeps_call, safe_step}
-use Rattle.fmp_law_waits.specs.Waits.{OpenWaits, nobody_waits, after_record}
-use Rattle.fmp_law_waits.proofs.Events.{by_event, event_reported}
+use Rattle.fmp_law_balance.specs.Waits.Waits.{OpenWaits, nobody_waits, after_record}
+use Rattle.fmp_law_balance.proofs.waits.Events.{by_event, event_reported}
 use Rattle.fmp_law_records.proofs.counts.Ready.{Ready, ready_next, ready_at_boot}
 use Rattle.fmp_law_records.specs.Requests.{processor_at_boot, report_processor}
 use Rattle.fmp_law_records.specs.Standing.{standing_at_boot, top_reported}

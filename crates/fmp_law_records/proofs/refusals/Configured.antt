@@ -24,8 +24,8 @@ use Rattle.fmp_rules.specs.Objects.{blank_semaphore, blank_eventflag, blank_pool
 use Rattle.fmp_rules.specs.Arguments.{number_within, object_named, task_named, task_or_caller, processor_named, processor_or_initial, caller, is_zero, is_time}
 use Rattle.fmp_rules.specs.Arguments.{is_timeout, is_priority_or_zero}
 use Rattle.fmp_law_safety.proofs.Calls.{FromTask}
-use Rattle.fmp_law_waits.specs.Waits.{setup_of}
-use Rattle.fmp_law_waits.proofs.Named.{caller_runs}
+use Rattle.fmp_law_balance.specs.Waits.Waits.{setup_of}
+use Rattle.fmp_law_balance.proofs.waits.Named.{caller_runs}
 use Rattle.fmp_law_records.specs.Refusals.Meanings.{is_one_of, is_zero_or_of, says_time, says_timeout, task_of, task_meant, object_of, processor_in}
 use Rattle.fmp_law_records.proofs.refusals.Frames.{Frame, frame, frame_of}
 

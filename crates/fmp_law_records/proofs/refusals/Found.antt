@@ -36,7 +36,7 @@ use Rattle.fmp_rules.specs.BufferCalls.{can_send, can_receive, sender}
 use Rattle.fmp_law_safety.proofs.First.{as_task_same}
 use Rattle.fmp_law_safety.proofs.Listed.{not_past}
 use Rattle.fmp_law_safety.proofs.Queues.{Lists, none_there, nobody_waits, first_waits}
-use Rattle.fmp_law_waits.specs.Asked.{OpenWait}
+use Rattle.fmp_law_balance.specs.Waits.Asked.{OpenWait}
 use Rattle.fmp_law_records.specs.Patterns.{are_there}
 use Rattle.fmp_law_records.specs.Locks.{is_holder}
 use Rattle.fmp_law_records.proofs.Accepting.{Agrees}

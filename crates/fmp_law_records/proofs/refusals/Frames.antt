@@ -56,7 +56,7 @@ use Rattle.fmp_law_footprint.specs.Shapes as shapes
 use Rattle.fmp_law_footprint.specs.Kinds.{may_change}
 use Rattle.fmp_law_footprint.proofs.OtherKinds.{call_leaves}
 use Rattle.fmp_law_balance.proofs.Called.{either_way}
-use Rattle.fmp_law_waits.proofs.Events.{by_event}
+use Rattle.fmp_law_balance.proofs.waits.Events.{by_event}
 use Rattle.fmp_law_records.proofs.Rows.{sync_rows, buffer_rows, time_rows}
 use Rattle.fmp_law_records.proofs.Leaving.{same_shape}
 

@@ -20,7 +20,7 @@ use Rattle.fmp_law_safety.proofs.Stepping.{numbered_tops, safe_step}
 use Rattle.fmp_law_balance.specs.Accepted.{one_if}
 use Rattle.fmp_law_balance.specs.Balance.{Balance}
 use Rattle.fmp_law_balance.proofs.Booted.{balanced_throughout}
-use Rattle.fmp_law_waits.specs.Waits.{OpenWaits, nobody_waits, after_record}
+use Rattle.fmp_law_balance.specs.Waits.Waits.{OpenWaits, nobody_waits, after_record}
 use Rattle.fmp_law_records.proofs.counts.Ready.{Ready, ready_next, ready_at_boot, ready_after}
 use Rattle.fmp_law_records.proofs.LivesRuns.{life_from_boot}
 use Rattle.fmp_law_records.specs.Refusals.Arguments.{is_out}

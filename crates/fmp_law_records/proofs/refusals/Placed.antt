@@ -17,7 +17,7 @@ use Rattle.fmp_rules.specs.World.{World, processor, handler, runner_of, is_held}
 use Rattle.fmp_rules.specs.Rows.{is_wrong_context, is_refused_context}
 use Rattle.fmp_rules.specs.Arguments.{caller, is_caller, task_named, task_or_caller}
 use Rattle.fmp_law_safety.proofs.Calls.{FromTask}
-use Rattle.fmp_law_waits.proofs.Named.{eqb_sym, caller_runs}
+use Rattle.fmp_law_balance.proofs.waits.Named.{eqb_sym, caller_runs}
 use Rattle.fmp_law_records.specs.Due.{is_handler}
 use Rattle.fmp_law_records.specs.Requests.{ProcessorReported, is_held_reported}
 use Rattle.fmp_law_records.specs.Refusals.Misplaced.{is_for_handlers, is_for_all, is_for_locked, is_not_for, may_wait, is_caller_named, moves_caller, is_misplaced}

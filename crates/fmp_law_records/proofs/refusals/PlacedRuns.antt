@@ -18,7 +18,7 @@ use Rattle.fmp_rules.specs.Arrivals.{State, numbered}
 use Rattle.fmp_rules.specs.Step.{replay, answers}
 use Rattle.fmp_rules.specs.Boot.{booted}
 use Rattle.fmp_law_safety.specs.Runs.{AreOn}
-use Rattle.fmp_law_waits.proofs.Follows.{running_within}
+use Rattle.fmp_law_balance.proofs.waits.Follows.{running_within}
 use Rattle.fmp_law_records.specs.Counts.Due.{by_number}
 use Rattle.fmp_law_records.proofs.counts.Ready.{ready_after}
 use Rattle.fmp_law_records.specs.Due.{HandlersReported, is_at_end, made_due, ticks_on, returns_on, handlers_after, handlers_by, handlers_at_boot, is_handler}

@@ -20,14 +20,14 @@ use Rattle.fmp_codes.specs.declared.records.Event.TheVariants as event
 use Rattle.fmp_codes.specs.declared.records.Record.{Record}
 use Rattle.fmp_codes.specs.declared.records.Runner.{Runner}
 use Rattle.fmp_setup.specs.Setup.{Setup}
-use Rattle.fmp_law_words.specs.Words.{is_clock}
+use Rattle.fmp_law_balance.specs.Words.{is_clock}
 use Rattle.fmp_setup.specs.Valid.{IsValid}
 use Rattle.fmp_rules.specs.Arrivals.{numbered}
 use Rattle.fmp_rules.specs.Step.{step, replay, answers}
 use Rattle.fmp_rules.specs.Boot.{booted}
 use Rattle.fmp_law_safety.specs.Runs.{processor_of, AreOn}
 use Rattle.fmp_law_balance.specs.Accepted.{accepted_value}
-use Rattle.fmp_law_waits.proofs.Events.{event_reported}
+use Rattle.fmp_law_balance.proofs.waits.Events.{event_reported}
 use Rattle.fmp_law_records.specs.Requests.{ProcessorReported, some_due, is_held_reported, report_processor}
 use Rattle.fmp_law_records.specs.Refusals.Misplaced.{is_misplaced, is_context_error, is_idle, EventIsPlaced, CallIsPlaced}
 use Rattle.fmp_law_records.specs.Refusals.Meanings.{task_meant, object_of}

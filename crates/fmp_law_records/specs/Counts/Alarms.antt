@@ -13,8 +13,8 @@ use Rattle.fmp_rules.specs.Arrivals.{State, numbered}
 use Rattle.fmp_rules.specs.Step.{step, replay}
 use Rattle.fmp_rules.specs.Boot.{booted}
 use Rattle.fmp_law_balance.specs.Accepted.{is_accepted, names, one_if}
-use Rattle.fmp_law_waits.specs.Meanings.{ticks_in}
-use Rattle.fmp_law_waits.specs.Waits.{is_tick_for}
+use Rattle.fmp_law_balance.specs.Waits.Meanings.{ticks_in}
+use Rattle.fmp_law_balance.specs.Waits.Waits.{is_tick_for}
 
 -- the event is a call that starts this alarm
 abbrev pub starts_alarm : Object → Event → Bool

@@ -14,7 +14,7 @@ use Rattle.fmp_rules.specs.Arrivals.{State, numbered}
 use Rattle.fmp_rules.specs.Step.{step, replay}
 use Rattle.fmp_rules.specs.Boot.{booted}
 use Rattle.fmp_law_balance.specs.Accepted.{is_accepted, names}
-use Rattle.fmp_law_waits.specs.Waits.{is_tick_for}
+use Rattle.fmp_law_balance.specs.Waits.Waits.{is_tick_for}
 use Rattle.fmp_law_records.specs.Counts.Alarms.{without_tick}
 
 -- the event is a call that starts this cyclic handler

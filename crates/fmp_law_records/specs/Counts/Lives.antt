@@ -15,7 +15,7 @@ use Rattle.fmp_rules.specs.World as world
 use Rattle.fmp_rules.specs.World.{World, item}
 use Rattle.fmp_law_balance.specs.Accepted.{is_accepted, accepted_value, one_if}
 use Rattle.fmp_law_balance.specs.Queues.{is_task}
-use Rattle.fmp_law_waits.specs.Waits.{is_number_of}
+use Rattle.fmp_law_balance.specs.Waits.Waits.{is_number_of}
 use Rattle.fmp_law_records.specs.Counts.Naming.{names_task}
 
 -- the event is a call that activates this task, where this runs

@@ -13,9 +13,9 @@ use Rattle.fmp_rules.specs.Arrivals.{State, numbered}
 use Rattle.fmp_rules.specs.Step.{step, replay, answers}
 use Rattle.fmp_rules.specs.Boot.{booted}
 use Rattle.fmp_law_balance.specs.Accepted.{one_if}
-use Rattle.fmp_law_waits.specs.Meanings.{ticks_in}
-use Rattle.fmp_law_waits.specs.Waits.{begins, ends, is_released, is_tick_for, nobody_waits, after_records}
-use Rattle.fmp_law_waits.specs.Laws.{left_of}
+use Rattle.fmp_law_balance.specs.Waits.Meanings.{ticks_in}
+use Rattle.fmp_law_balance.specs.Waits.Waits.{begins, ends, is_released, is_tick_for, nobody_waits, after_records}
+use Rattle.fmp_law_balance.specs.Waits.Laws.{left_of}
 
 -- where so much is left of the wait of t, a tick releases t just where this is one tick, and the tick counts for t
 abbrev pub ReleasesInTime : Task → Option ℕ → Bool → List Release → Type 0

@@ -12,7 +12,7 @@ use Rattle.fmp_setup.specs.Setup.{Setup}
 use Rattle.fmp_rules.specs.declared.machine.Wait.{Wait}
 use Rattle.fmp_rules.specs.declared.machine.Wait.TheVariants as wait
 use Rattle.fmp_law_balance.specs.Accepted.{is_accepted, accepted_value}
-use Rattle.fmp_law_waits.specs.Asked.{OpenWait}
+use Rattle.fmp_law_balance.specs.Waits.Asked.{OpenWait}
 use Rattle.fmp_law_records.specs.Served.{Places, places_by, places_at_boot}
 use Rattle.fmp_law_records.specs.Refusals.Meanings.{object_of}
 use Rattle.fmp_law_records.specs.Effects.Losses.{values_reported, oldest}

@@ -20,12 +20,12 @@ use Rattle.fmp_codes.specs.Records.{is_taken}
 use Rattle.fmp_setup.specs.Setup.{Setup, no_semaphore, no_eventflag, no_data_queue, no_pool}
 use Rattle.fmp_rules.specs.declared.machine.Wait.{Wait}
 use Rattle.fmp_rules.specs.declared.machine.Wait.TheVariants as wait
-use Rattle.fmp_law_words.specs.Turns.{in_turn}
-use Rattle.fmp_law_words.specs.Words.{is_clocked_by}
+use Rattle.fmp_law_balance.specs.Turns.{in_turn}
+use Rattle.fmp_law_balance.specs.Words.{is_clocked_by}
 use Rattle.fmp_law_balance.specs.Accepted.{is_accepted}
 use Rattle.fmp_law_records.specs.Counts.Alarms.{is_last}
-use Rattle.fmp_law_waits.specs.Asked.{OpenWait}
-use Rattle.fmp_law_waits.specs.Releases.{over_code}
+use Rattle.fmp_law_balance.specs.Waits.Asked.{OpenWait}
+use Rattle.fmp_law_balance.specs.Waits.Releases.{over_code}
 use Rattle.fmp_law_records.specs.Patterns.{are_there, handed_on, clears_of, report_pattern}
 use Rattle.fmp_law_records.specs.Served.{is_priority, Places, began_before, is_served_before, places_by, places_at_boot}
 use Rattle.fmp_law_records.specs.Refusals.Meanings.{task_of, task_meant, object_of}

@@ -25,7 +25,7 @@ use Rattle.fmp_setup.specs.declared.setup.Class.{Class}
 use Rattle.fmp_setup.specs.declared.setup.PoolSetup.{PoolSetup}
 use Rattle.fmp_setup.specs.Setup.{Setup, no_pool, no_cyclic, no_alarm}
 use Rattle.fmp_law_balance.specs.Pools.{handed_out, given_back}
-use Rattle.fmp_law_waits.specs.Waits.{setup_of}
+use Rattle.fmp_law_balance.specs.Waits.Waits.{setup_of}
 use Rattle.fmp_law_records.specs.Requests.{report_processor}
 use Rattle.fmp_law_records.specs.Refusals.Misplaced.{is_misplaced}
 use Rattle.fmp_law_records.specs.Refusals.Meanings.{is_one_of, is_zero_or_of, says_time, says_timeout, task_of, task_meant, object_of, is_in_class}

@@ -17,7 +17,7 @@ use Rattle.fmp_rules.specs.declared.machine.Wait.{Wait}
 use Rattle.fmp_rules.specs.declared.machine.Wait.TheVariants as wait
 use Rattle.fmp_law_balance.specs.Semaphores.{brought, granted}
 use Rattle.fmp_law_balance.specs.Queues.{puts, out_by}
-use Rattle.fmp_law_waits.specs.Asked.{OpenWait}
+use Rattle.fmp_law_balance.specs.Waits.Asked.{OpenWait}
 use Rattle.fmp_law_records.specs.Counts.Wakeups.{queued_by}
 use Rattle.fmp_law_records.specs.Accepting.{TaskReported, report_task}
 use Rattle.fmp_law_records.specs.Priorities.{report_priority}

@@ -8,7 +8,7 @@ use Rattle.fmp_codes.specs.declared.numbers.Object.{Object}
 use Rattle.fmp_codes.specs.declared.records.Runner.{Runner}
 use Rattle.fmp_codes.specs.declared.records.Runner.TheVariants as runner
 use Rattle.fmp_setup.specs.declared.setup.Class.{Class}
-use Rattle.fmp_law_words.specs.Words.{is_member, natural_in}
+use Rattle.fmp_law_balance.specs.Words.{is_member, natural_in}
 
 -- Numbers.
 

@@ -26,7 +26,7 @@ use Rattle.fmp_codes.specs.declared.records.Event.TheVariants as event
 use Rattle.fmp_codes.specs.declared.records.Record.{Record}
 use Rattle.fmp_codes.specs.declared.records.Runner.{Runner}
 use Rattle.fmp_setup.specs.Setup.{Setup}
-use Rattle.fmp_law_words.specs.Words.{is_clock}
+use Rattle.fmp_law_balance.specs.Words.{is_clock}
 use Rattle.fmp_law_balance.specs.Accepted.{accepted_value}
 use Rattle.fmp_law_records.specs.Lives.{queued_count}
 use Rattle.fmp_law_records.specs.Flags.{number_if}

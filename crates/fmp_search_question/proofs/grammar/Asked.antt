@@ -6,13 +6,13 @@ use Rattle.std.specs.Option.{option_map_or}
 use Rattle.std.proofs.lemmas.Bool.{and_parts}
 use Rattle.fmp_bytes.specs.Bytes.{is_of, space}
 use Rattle.fmp_names.specs.Names.{NameLists}
-use Rattle.fmp_search_words.specs.declared.spot.Spot.{Spot}
+use Rattle.fmp_search_pattern.specs.declared.spot.Spot.{Spot}
 use Rattle.fmp_search_pattern.specs.declared.items.Wanted.{Wanted}
 use Rattle.fmp_search_pattern.specs.declared.items.Wanted.TheVariants as wanted
 use Rattle.fmp_search_pattern.specs.declared.question.Step.{Step}
 use Rattle.fmp_search_pattern.specs.Items.{Item}
 use Rattle.fmp_search_question.specs.Reading.{Draft, after_word, nothing_read, with_part, with_pattern, with_refused, wanted_by}
-use Rattle.fmp_search_words.specs.Spots.{may_end}
+use Rattle.fmp_search_pattern.specs.Spots.{may_end}
 use Rattle.fmp_search_question.specs.Grammar.Rows.{SpellsRow}
 use Rattle.fmp_search_question.specs.Grammar.Grammar.{Negated, SpellsItem, SpellsMoment, SpellsPart, SpellsPattern, SpellsWanted, is_pattern_word, placed, spaced}
 use Rattle.fmp_search_question.proofs.grammar.Led.{led_first, led_on}

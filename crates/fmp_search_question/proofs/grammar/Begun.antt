@@ -6,14 +6,14 @@ use Rattle.std.specs.List.{list_all}
 use Rattle.std.proofs.lemmas.Bool.{and_parts}
 use Rattle.fmp_bytes.specs.Bytes.{pieces_of, space}
 use Rattle.fmp_names.specs.Names.{NameLists}
-use Rattle.fmp_search_words.specs.declared.spot.Spot.{Spot}
+use Rattle.fmp_search_pattern.specs.declared.spot.Spot.{Spot}
 use Rattle.fmp_search_pattern.specs.declared.items.Wanted.{Wanted}
 use Rattle.fmp_search_pattern.specs.declared.items.Wanted.TheVariants as wanted
 use Rattle.fmp_search_pattern.specs.Items.{Item}
 use Rattle.fmp_search_question.specs.Places.{longer, next_spot}
 use Rattle.fmp_search_question.specs.Reading.{Draft, nothing_read, with_not, with_pattern, with_refused, wanted_by}
-use Rattle.fmp_search_words.specs.Spots.{may_end, may_follow, stepped}
-use Rattle.fmp_search_words.specs.Words.{star}
+use Rattle.fmp_search_pattern.specs.Spots.{may_end, may_follow, stepped}
+use Rattle.fmp_search_pattern.specs.Words.{star}
 use Rattle.fmp_search_question.specs.Grammar.Grammar.{Negated, SpellsItem, SpellsWanted, is_pattern_word, may_stand, place_after, placed, spaced}
 use Rattle.fmp_search_question.proofs.grammar.Patterns.{all_more, longer-more, longer_by-first, not_parts, one_parts, or_parts, other_wanted, placed_parts, same_spot, some_length, unless_parts}
 use Rattle.fmp_search_question.proofs.grammar.Taken.{following_word, when_false, when_true}

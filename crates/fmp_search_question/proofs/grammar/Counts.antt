@@ -20,16 +20,16 @@ use Rattle.fmp_bytes.proofs.Spelled.{magnitude_of-small}
 use Rattle.fmp_bytes.proofs.Words.{is_word}
 use Rattle.fmp_names.specs.Names.{NameLists}
 use Rattle.fmp_names.proofs.Listed.{list_all-at}
-use Rattle.fmp_search_words.specs.declared.spot.Spot.{Spot}
+use Rattle.fmp_search_pattern.specs.declared.spot.Spot.{Spot}
 use Rattle.fmp_search_pattern.specs.declared.question.Step.{Step}
-use Rattle.fmp_search_words.specs.Forms.{spot_of}
+use Rattle.fmp_search_pattern.specs.Forms.{spot_of}
 use Rattle.fmp_fact_words.specs.Asking.{is_star}
 use Rattle.fmp_fact_words.specs.Reading.{row_of, words}
 use Rattle.fmp_fact_words.specs.Speaking.{is_of_state, is_run, is_thing, must_ask}
 use Rattle.fmp_search_question.specs.Places.{filled, last_spot, longer, next_spot, words_of}
 use Rattle.fmp_search_question.specs.Reading.{Draft, after_word, nothing_read, number_in, times_within, with_times}
-use Rattle.fmp_search_words.specs.Spots.{may_follow}
-use Rattle.fmp_search_words.specs.Words.{is_fine, is_outside, runs_of}
+use Rattle.fmp_search_pattern.specs.Spots.{may_follow}
+use Rattle.fmp_search_pattern.specs.Words.{is_fine, is_outside, runs_of}
 use Rattle.fmp_search_question.specs.Grammar.Grammar.{SpellsCount, is_pattern_word, own_words, spaced}
 use Rattle.fmp_search_question.proofs.grammar.Led.{led_first}
 use Rattle.fmp_search_question.proofs.grammar.Steps.{fresh, led}

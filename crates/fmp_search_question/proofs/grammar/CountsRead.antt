@@ -12,7 +12,7 @@ use Rattle.fmp_bytes.specs.Numerals.{are_digits, magnitude_of}
 use Rattle.fmp_bytes.proofs.Prefixes.{list_all-parts}
 use Rattle.fmp_bytes.proofs.Spelled.{magnitude_of-some}
 use Rattle.fmp_names.specs.Names.{NameLists}
-use Rattle.fmp_search_words.specs.declared.spot.Spot.{Spot}
+use Rattle.fmp_search_pattern.specs.declared.spot.Spot.{Spot}
 use Rattle.fmp_search_question.specs.Reading.{Draft, has_begun, nothing_read, number_in, times_within, with_times}
 use Rattle.fmp_search_question.specs.Grammar.Grammar.{SpellsCount, spaced}
 use Rattle.fmp_search_question.proofs.grammar.Patterns.{or_parts, some_length}

@@ -10,8 +10,8 @@ use Rattle.fmp_bytes.proofs.Cutting.{pieces_of-join}
 use Rattle.fmp_names.specs.Names.{NameLists}
 use Rattle.fmp_search_pattern.specs.Items.{Item}
 use Rattle.fmp_search_pattern.specs.Lasting.{Lasting}
-use Rattle.fmp_search_words.specs.Words.{is_printed}
-use Rattle.fmp_search_words.specs.Spots as spots
+use Rattle.fmp_search_pattern.specs.Words.{is_printed}
+use Rattle.fmp_search_pattern.specs.Spots as spots
 use Rattle.fmp_search_pattern.specs.declared.items.Wanted.{Wanted}
 use Rattle.fmp_search_pattern.specs.declared.items.Wanted.TheVariants as wanted
 use Rattle.fmp_search_question.specs.Places.{longer}

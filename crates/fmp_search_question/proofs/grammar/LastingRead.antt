@@ -10,7 +10,7 @@ use Rattle.fmp_bytes.proofs.Words.{is_word}
 use Rattle.fmp_names.specs.Names.{NameLists}
 use Rattle.fmp_search_pattern.specs.Items.{Item}
 use Rattle.fmp_search_pattern.specs.Lasting.{Lasting}
-use Rattle.fmp_search_words.specs.Words.{is_printed}
+use Rattle.fmp_search_pattern.specs.Words.{is_printed}
 use Rattle.fmp_search_question.specs.declared.fault.QuestionFault.{QuestionFault}
 use Rattle.fmp_search_question.specs.declared.fault.QuestionFault.TheVariants.{TooLong, BadForm}
 use Rattle.fmp_search_question.specs.declared.stage.Stage.{Stage}

@@ -8,7 +8,7 @@ use Rattle.std.proofs.lemmas.List.Folds.{list_all-append}
 use Rattle.fmp_bytes.proofs.Words.{is_word}
 use Rattle.fmp_names.specs.Names.{NameLists}
 use Rattle.fmp_search_pattern.specs.Items.{Item}
-use Rattle.fmp_search_words.specs.Words.{is_printed}
+use Rattle.fmp_search_pattern.specs.Words.{is_printed}
 use Rattle.fmp_search_question.specs.declared.fault.QuestionFault.{QuestionFault}
 use Rattle.fmp_search_question.specs.declared.stage.Stage.TheVariants as stage
 use Rattle.fmp_search_question.specs.Reading.{Draft, nothing_read, with_pattern}

@@ -2,7 +2,7 @@
 use Rattle.std.proofs.Common.{◌≡◌, ℕ, ◌≤◌, Bool, true, List, [], ◌∷◌, ◌++◌, length, Option, Some, None, Ok, refl, sym, ap, subst, ◌∙◌, append_assoc}
 use Rattle.std.specs.Prelude.{codes, is_none}
 use Rattle.fmp_names.specs.Names.{NameLists}
-use Rattle.fmp_search_words.specs.declared.spot.Spot.{Spot}
+use Rattle.fmp_search_pattern.specs.declared.spot.Spot.{Spot}
 use Rattle.fmp_search_pattern.specs.Items.{Item}
 use Rattle.fmp_search_question.specs.Reading.{Draft, after_word, before_without, part_ended, with_moment, with_not, with_part}
 use Rattle.fmp_search_question.specs.Reading.{with_pattern, with_read, with_refused, with_step, with_times}

@@ -10,12 +10,12 @@ use Rattle.std.proofs.lemmas.List.Folds.{list_all-append}
 use Rattle.fmp_bytes.specs.Bytes.{space, pieces_of}
 use Rattle.fmp_bytes.proofs.Words.{other_word, not_word}
 use Rattle.fmp_names.specs.Names.{NameLists}
-use Rattle.fmp_search_words.specs.declared.spot.Spot.{Spot}
+use Rattle.fmp_search_pattern.specs.declared.spot.Spot.{Spot}
 use Rattle.fmp_search_pattern.specs.declared.items.Wanted.TheVariants as wanted
 use Rattle.fmp_search_question.specs.Places.{last_spot, longer, next_spot, words_of}
 use Rattle.fmp_search_question.specs.Reading.{Draft, after_word, with_word, wanted_by}
-use Rattle.fmp_search_words.specs.Spots.{stepped}
-use Rattle.fmp_search_words.specs.Words.{is_fine, is_printed, runs_of, star}
+use Rattle.fmp_search_pattern.specs.Spots.{stepped}
+use Rattle.fmp_search_pattern.specs.Words.{is_fine, is_printed, runs_of, star}
 use Rattle.fmp_search_question.specs.Grammar.Grammar.{is_pattern_word, own_words, place_after, placed, spaced}
 use Rattle.fmp_search_question.proofs.grammar.Led.{led_first}
 use Rattle.fmp_search_question.proofs.grammar.Steps.{led}

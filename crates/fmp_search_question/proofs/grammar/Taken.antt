@@ -6,12 +6,12 @@ use Rattle.std.specs.Str.{bytes_eq}
 use Rattle.std.proofs.lemmas.Bool.{cases_Bool, leb-true}
 use Rattle.fmp_bytes.proofs.Words.{is_word}
 use Rattle.fmp_names.specs.Names.{NameLists}
-use Rattle.fmp_search_words.specs.declared.spot.Spot.{Spot}
+use Rattle.fmp_search_pattern.specs.declared.spot.Spot.{Spot}
 use Rattle.fmp_search_question.specs.declared.fault.QuestionFault.{QuestionFault}
 use Rattle.fmp_search_question.specs.declared.fault.QuestionFault.TheVariants.{TooLong}
 use Rattle.fmp_search_question.specs.Reading.{Draft, after_word, at_spot, limited, or_form, with_moment, with_not, with_part}
 use Rattle.fmp_search_question.specs.Reading.{with_pattern, with_refused, with_step, with_times, with_word}
-use Rattle.fmp_search_words.specs.Words.{is_fine, is_printed, runs_of}
+use Rattle.fmp_search_pattern.specs.Words.{is_fine, is_printed, runs_of}
 use Rattle.fmp_search_question.specs.Grammar.Grammar.{is_pattern_word, own_words}
 use Rattle.fmp_search_question.specs.Places.{longer, next_spot}
 

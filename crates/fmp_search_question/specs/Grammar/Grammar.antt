@@ -10,14 +10,14 @@ use Rattle.fmp_names.specs.Names.{NameLists}
 use Rattle.fmp_search_pattern.specs.declared.items.Wanted.{Wanted}
 use Rattle.fmp_search_pattern.specs.declared.items.Wanted.TheVariants as wanted
 use Rattle.fmp_search_pattern.specs.declared.question.Step.{Step}
-use Rattle.fmp_search_words.specs.declared.spot.Spot.{Spot}
-use Rattle.fmp_search_words.specs.declared.spot.Spot.TheVariants.{Front}
+use Rattle.fmp_search_pattern.specs.declared.spot.Spot.{Spot}
+use Rattle.fmp_search_pattern.specs.declared.spot.Spot.TheVariants.{Front}
 use Rattle.fmp_search_pattern.specs.Items.{Item}
 use Rattle.fmp_search_question.specs.Places.{last_spot, words_of}
 use Rattle.fmp_search_question.specs.Reading.{most_pattern, most_steps}
 use Rattle.fmp_search_question.specs.Resolved.{resolved}
-use Rattle.fmp_search_words.specs.Spots.{may_end, stepped}
-use Rattle.fmp_search_words.specs.Words.{is_fine, is_printed, runs_of, star}
+use Rattle.fmp_search_pattern.specs.Spots.{may_end, stepped}
+use Rattle.fmp_search_pattern.specs.Words.{is_fine, is_printed, runs_of, star}
 use Rattle.fmp_search_question.specs.Grammar.Rows.{SpellsRow}
 
 -- the words that the language keeps for itself

@@ -1,8 +1,8 @@
 use Rattle.std.proofs.Common.{◌≡◌, ℕ, ◌+◌, ◌≤◌, Bool, Some, take, drop, cond, subst, ap, sym, ◌∙◌}
 use Rattle.std.proofs.lemmas.Bool.{le-ltb}
 use Rattle.std.specs.Prelude.{slice_index}
-use Rattle.fmp_kernel_links.specs.Lists.{first_of}
-use Rattle.fmp_kernel_links.proofs.Walking.{part, left_over}
+use Rattle.fmp_kernel_parts.specs.Lists.{first_of}
+use Rattle.fmp_kernel_parts.proofs.Walking.{part, left_over}
 use Rattle.fmp_waitq.specs.Kept.{rank_in, spot_in}
 use Rattle.fmp_waitq.proofs.spot.Goals as goal
 

@@ -1,5 +1,5 @@
 use Rattle.std.proofs.Common.{◌≡◌, ◌≤◌, drop, length}
-use Rattle.fmp_kernel_links.specs.Lists.{first_of}
+use Rattle.fmp_kernel_parts.specs.Lists.{first_of}
 use Rattle.fmp_waitq.specs.Kept.{spot_in, rank_in}
 use Rattle.fmp_waitq.proofs.spot.Given as goal
 

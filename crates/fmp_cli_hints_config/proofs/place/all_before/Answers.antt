@@ -1,5 +1,5 @@
 use Rattle.std.proofs.Common.{arith}
-use Rattle.fmp_config_tokens.proofs.Few.{few_tokens}
+use Rattle.fmp_config_statements.proofs.Few.{few_tokens}
 use Rattle.fmp_cli_hints_config.proofs.place.all_before.Goals as goal
 
 pub loop-token-init : goal.loop-token-init

@@ -1,6 +1,6 @@
 use Rattle.std.proofs.Common.{ap}
 use Rattle.std.specs.Option.{option_copied}
-use Rattle.fmp_search_words.proofs.Running.{fewer_runs}
+use Rattle.fmp_search_pattern.proofs.Running.{fewer_runs}
 use Rattle.fmp_cli_hints_question.proofs.known.put_run_hints.Goals as goal
 
 pub loop-rest-smaller : goal.loop-rest-smaller

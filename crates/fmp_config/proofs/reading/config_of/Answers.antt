@@ -1,9 +1,9 @@
 use Rattle.std.proofs.Common.{◌≡◌, List, length, refl, ap, subst, ◌∙◌, arith}
 use Rattle.std.proofs.lemmas.Result.{err_from_is_err_and}
-use Rattle.fmp_config_tokens.specs.Lexing.{Lexed, Lexeme, lexed_text}
-use Rattle.fmp_config_tokens.specs.declared.tokens.End.{End}
+use Rattle.fmp_config_statements.specs.Lexing.{Lexed, Lexeme, lexed_text}
+use Rattle.fmp_config_statements.specs.declared.tokens.End.{End}
 use Rattle.fmp_config_statements.specs.Outcomes.{Gives}
-use Rattle.fmp_config_tokens.proofs.Few.{few_tokens}
+use Rattle.fmp_config_statements.proofs.Few.{few_tokens}
 use Rattle.fmp_config.specs.Reading.{State, depth_in, finished, setup_in}
 use Rattle.fmp_config.specs.Readers.{state_of}
 use Rattle.fmp_config.proofs.Turned.{reads_on, stops, is_read}

@@ -3,7 +3,7 @@ use Rattle.fmp_config.specs.Reading.{at_start, depth_in, take_token}
 use Rattle.fmp_config.specs.Readers.{state_of}
 use Rattle.fmp_config.specs.Sound.{IsSoundState}
 use Rattle.fmp_config_statements.specs.Folds.{each}
-use Rattle.fmp_config_tokens.specs.Lexing.{lexed_text}
+use Rattle.fmp_config_statements.specs.Lexing.{lexed_text}
 use Rattle.fmp_config.proofs.reading.config_of.Given as goal
 
 abbrev pub invariant-loop-token : goal.invariant-loop-token

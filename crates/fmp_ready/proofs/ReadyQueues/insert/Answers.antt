@@ -1,9 +1,9 @@
 use Rattle.std.proofs.Common.{ℕ, List, [], ◌∷◌, ◌++◌, ap, sym, arith, ◌∙◌, rules}
 use Rattle.fmp_codes.specs.declared.numbers.Task.{Task}
 use Rattle.std.proofs.lemmas.List.{get_or-set_other}
-use Rattle.fmp_kernel_links.specs.Lists as links
-use Rattle.fmp_kernel_links.specs.Tasks.{has_task}
-use Rattle.fmp_kernel_links.proofs.Tasks.{task_is}
+use Rattle.fmp_kernel_parts.specs.Lists as links
+use Rattle.fmp_kernel_parts.specs.Tasks.{has_task}
+use Rattle.fmp_kernel_parts.proofs.Tasks.{task_is}
 use Rattle.fmp_ready.specs.Queues.{PriorityLists, queue_at, push_last}
 use Rattle.fmp_ready.specs.Kept.{tasks_of}
 use Rattle.fmp_ready.proofs.Tasks.{has_task-tasks_of, push_tasks, queues_same}

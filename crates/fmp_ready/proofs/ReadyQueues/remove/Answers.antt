@@ -2,10 +2,10 @@ use Rattle.std.proofs.Common.{◌≡◌, ℕ, true, List, refl, ap, sym, arith, 
 use Rattle.std.specs.Option.{is_some}
 use Rattle.std.proofs.lemmas.Bool.{eq-eqb, ne_eqb}
 use Rattle.fmp_codes.specs.declared.numbers.Task.{Task}
-use Rattle.fmp_kernel_links.specs.Lists as links
-use Rattle.fmp_kernel_links.proofs.Having.{without_lacking}
-use Rattle.fmp_kernel_links.proofs.Soundness.{list_in, list_at-take_out}
-use Rattle.fmp_kernel_links.specs.Tasks.{has_task}
+use Rattle.fmp_kernel_parts.specs.Lists as links
+use Rattle.fmp_kernel_parts.proofs.Having.{without_lacking}
+use Rattle.fmp_kernel_parts.proofs.Soundness.{list_in, list_at-take_out}
+use Rattle.fmp_kernel_parts.specs.Tasks.{has_task}
 use Rattle.fmp_ready.specs.Queues.{PriorityLists, queue_at, take_out}
 use Rattle.fmp_ready.specs.Kept.{tasks_of}
 use Rattle.fmp_ready.proofs.Tasks.{has_task-tasks_of, remove_tasks, take_out-lacking, queues_same}

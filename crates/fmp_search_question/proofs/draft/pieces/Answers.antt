@@ -2,7 +2,7 @@ use Rattle.std.proofs.Common.{◌≡◌, ◌∙◌, ◌++◌, ◌∷◌, [], ap,
 use Rattle.std.specs.Option.{option_copied}
 use Rattle.fmp_bytes.specs.Bytes.{cut_at, pieces_of}
 use Rattle.fmp_bytes.proofs.Cutting.{fewer_left, pieces_left, pieces_of-cut}
-use Rattle.fmp_search_words.specs.Words.{star}
+use Rattle.fmp_search_pattern.specs.Words.{star}
 use Rattle.fmp_search_question.proofs.draft.pieces.Goals as goal
 
 pub loop-rest-smaller : goal.loop-rest-smaller

@@ -2,7 +2,7 @@ use Rattle.std.proofs.Common.{◌≡◌, ◌+◌, ◌++◌, length}
 use Rattle.std.specs.Option.{option_copied, option_map_or}
 use Rattle.fmp_bytes.specs.Bytes.{pieces_of}
 use Rattle.fmp_bytes.proofs.Cutting.{pieces_left}
-use Rattle.fmp_search_words.specs.Words.{star}
+use Rattle.fmp_search_pattern.specs.Words.{star}
 use Rattle.fmp_search_question.proofs.draft.pieces.Given as goal
 
 -- the pieces so far and those of what is left

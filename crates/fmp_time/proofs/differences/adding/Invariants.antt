@@ -1,6 +1,6 @@
 use Rattle.std.proofs.Common.{◌≡◌, ◌≤◌, drop, length}
 use Rattle.std.specs.Prelude.{slice_index}
-use Rattle.fmp_kernel_links.specs.Lists as links
+use Rattle.fmp_kernel_parts.specs.Lists as links
 use Rattle.fmp_time.specs.Differences.{first_adding}
 use Rattle.fmp_time.proofs.differences.adding.Given as goal
 

@@ -1,8 +1,8 @@
 use Rattle.std.proofs.Common.{◌≡◌, ℕ, ◌+◌, ◌<◌, ◌++◌, ◌∷◌, [], List, length, append_assoc, refl, sym, ap, ◌∙◌, arith, rules}
 use Rattle.std.specs.Prelude.{slice_index, slice_set}
 use Rattle.std.proofs.lemmas.List.{get_or-set_same, length-set, set-set, set-get_or, append-nil, length_push}
-use Rattle.fmp_kernel_links.specs.Lists as links
-use Rattle.fmp_kernel_links.proofs.Soundness.{first_there}
+use Rattle.fmp_kernel_parts.specs.Lists as links
+use Rattle.fmp_kernel_parts.proofs.Soundness.{first_there}
 use Rattle.fmp_time.specs.Differences.{zeros_of, rest_of}
 use Rattle.fmp_time.proofs.Expiring.{tail_of, first_is, no_first, zeros_on, rest_on, zeros_end, rest_end, pop_is}
 use Rattle.fmp_time.proofs.differences.expire.Goals as goal

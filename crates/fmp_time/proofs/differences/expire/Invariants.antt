@@ -1,6 +1,6 @@
 use Rattle.std.proofs.Common.{◌≡◌, ◌+◌, ◌≤◌, ◌++◌, length}
 use Rattle.std.specs.Prelude.{slice_index, slice_set}
-use Rattle.fmp_kernel_links.specs.Lists as links
+use Rattle.fmp_kernel_parts.specs.Lists as links
 use Rattle.fmp_time.specs.Differences.{zeros_of, rest_of}
 use Rattle.fmp_time.proofs.differences.expire.Given as goal
 

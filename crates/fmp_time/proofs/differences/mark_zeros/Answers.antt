@@ -1,7 +1,7 @@
 use Rattle.std.proofs.Common.{◌≡◌, ◌+◌, Some, None, drop, take, false, get_or, sym, ◌∙◌, arith, rules}
 use Rattle.std.specs.Prelude.{slice_index}
-use Rattle.fmp_kernel_links.specs.Lists as links
-use Rattle.fmp_kernel_links.proofs.Walking.{part, met}
+use Rattle.fmp_kernel_parts.specs.Lists as links
+use Rattle.fmp_kernel_parts.proofs.Walking.{part, met}
 use Rattle.fmp_time.proofs.Spots.{zeros_none, mark_one, no_more}
 use Rattle.fmp_time.proofs.differences.mark_zeros.Goals as goal
 

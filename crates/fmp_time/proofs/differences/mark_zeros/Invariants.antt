@@ -1,6 +1,6 @@
 use Rattle.std.proofs.Common.{◌≡◌, ℕ, ◌<◌, ◌≤◌, ◌||◌, false, drop, length, get_or}
 use Rattle.std.specs.Prelude.{slice_index}
-use Rattle.fmp_kernel_links.specs.Lists as links
+use Rattle.fmp_kernel_parts.specs.Lists as links
 use Rattle.fmp_time.specs.Differences.{zeros_of}
 use Rattle.fmp_time.proofs.differences.mark_zeros.Given as goal
 

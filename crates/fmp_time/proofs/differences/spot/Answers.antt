@@ -1,7 +1,7 @@
 use Rattle.std.proofs.Common.{◌≡◌, ◌+◌, Some, None, drop, take, sym, ◌∙◌, arith, rules}
 use Rattle.std.specs.Prelude.{slice_index}
-use Rattle.fmp_kernel_links.specs.Lists as links
-use Rattle.fmp_kernel_links.proofs.Walking.{part, met}
+use Rattle.fmp_kernel_parts.specs.Lists as links
+use Rattle.fmp_kernel_parts.proofs.Walking.{part, met}
 use Rattle.fmp_time.proofs.Spots.{spot_here, rest_here, spot_on, rest_on, spot_end, rest_end}
 use Rattle.fmp_time.proofs.differences.spot.Goals as goal
 

@@ -1,6 +1,6 @@
 use Rattle.std.proofs.Common.{◌≡◌, ◌≤◌, drop, length}
 use Rattle.std.specs.Prelude.{slice_index}
-use Rattle.fmp_kernel_links.specs.Lists as links
+use Rattle.fmp_kernel_parts.specs.Lists as links
 use Rattle.fmp_time.specs.Differences.{spot_in, rest_in}
 use Rattle.fmp_time.proofs.differences.spot.Given as goal
 

@@ -1,7 +1,7 @@
 use Rattle.std.proofs.Common.{◌≡◌, ◌+◌, Some, drop, take, sym, ◌∙◌, arith, rules}
 use Rattle.std.specs.Prelude.{slice_index}
-use Rattle.fmp_kernel_links.specs.Lists as links
-use Rattle.fmp_kernel_links.proofs.Walking.{part, met}
+use Rattle.fmp_kernel_parts.specs.Lists as links
+use Rattle.fmp_kernel_parts.proofs.Walking.{part, met}
 use Rattle.fmp_time.proofs.Reading.{ticks_here, ticks_on, there_on, sum_on, there_end}
 use Rattle.fmp_time.proofs.differences.ticks_at.Goals as goal
 

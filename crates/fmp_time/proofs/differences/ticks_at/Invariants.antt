@@ -1,6 +1,6 @@
 use Rattle.std.proofs.Common.{◌≡◌, ◌+◌, ◌≤◌, true, drop, length}
 use Rattle.std.specs.Prelude.{slice_index}
-use Rattle.fmp_kernel_links.specs.Lists as links
+use Rattle.fmp_kernel_parts.specs.Lists as links
 use Rattle.fmp_time.specs.Differences.{ticks_in, entries_from, sum_of}
 use Rattle.fmp_time.proofs.differences.ticks_at.Given as goal
 

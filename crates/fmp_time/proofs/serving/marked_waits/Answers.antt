@@ -1,8 +1,8 @@
 use Rattle.std.proofs.Common.{◌≡◌, ℕ, ◌+◌, Bool, false, Some, List, ◌∷◌, [], ◌++◌, length, take, drop, filter, get_or, ap, sym, arith, ◌∙◌}
 use Rattle.std.proofs.lemmas.List.{length_push}
 use Rattle.fmp_codes.specs.declared.numbers.Task.{Task}
-use Rattle.fmp_kernel_links.specs.Lists.{first_of}
-use Rattle.fmp_kernel_links.proofs.Walking.{part, prefix, ended}
+use Rattle.fmp_kernel_parts.specs.Lists.{first_of}
+use Rattle.fmp_kernel_parts.proofs.Walking.{part, prefix, ended}
 use Rattle.fmp_time.specs.Times.{is_marked}
 use Rattle.fmp_time.proofs.Served.{filter_more, filter_same}
 use Rattle.fmp_time.proofs.serving.marked_waits.Goals as goal

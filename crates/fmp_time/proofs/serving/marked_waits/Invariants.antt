@@ -1,5 +1,5 @@
 use Rattle.std.proofs.Common.{◌≡◌, ◌≤◌, filter, take, drop, length}
-use Rattle.fmp_kernel_links.specs.Lists.{first_of}
+use Rattle.fmp_kernel_parts.specs.Lists.{first_of}
 use Rattle.fmp_time.specs.Times.{is_marked}
 use Rattle.fmp_time.proofs.serving.marked_waits.Given as goal
 

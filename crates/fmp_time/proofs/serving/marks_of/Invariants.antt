@@ -1,5 +1,5 @@
 use Rattle.std.proofs.Common.{◌≡◌, ◌<◌, ℕ, false, get_or, take, length}
-use Rattle.fmp_kernel_links.specs.Lists.{has}
+use Rattle.fmp_kernel_parts.specs.Lists.{has}
 use Rattle.fmp_time.proofs.serving.marks_of.Given as goal
 
 -- the items so far are marked

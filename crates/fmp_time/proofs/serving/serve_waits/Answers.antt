@@ -1,7 +1,7 @@
 use Rattle.std.proofs.Common.{◌≡◌, ℕ, ◌+◌, ◌-◌, Bool, false, not, List, ◌∷◌, [], ◌++◌, length, take, drop, filter, map, get_or, subst, ap, sym, arith, ◌∙◌}
 use Rattle.std.proofs.lemmas.List.{take_more, length_push, map_push}
 use Rattle.fmp_codes.specs.declared.numbers.Task.{Task}
-use Rattle.fmp_kernel_links.specs.Tasks.{without, AreDistinct}
+use Rattle.fmp_kernel_parts.specs.Tasks.{without, AreDistinct}
 use Rattle.fmp_time.specs.declared.item.Item.{Item}
 use Rattle.fmp_time.specs.Times.{wait_of, is_marked}
 use Rattle.fmp_time.proofs.Served.{filter_more, filter_same, goes, stays}

@@ -1,5 +1,5 @@
 use Rattle.std.proofs.Common.{◌≡◌, ◌≤◌, ◌++◌, not, filter, map, take, drop, length}
-use Rattle.fmp_kernel_links.specs.Tasks.{AreDistinct}
+use Rattle.fmp_kernel_parts.specs.Tasks.{AreDistinct}
 use Rattle.fmp_time.specs.Times.{wait_of, is_marked}
 use Rattle.fmp_time.proofs.serving.serve_waits.Given as goal
 

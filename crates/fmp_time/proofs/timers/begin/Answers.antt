@@ -1,6 +1,6 @@
 use Rattle.std.proofs.Common.{ap, ◌∙◌}
-use Rattle.fmp_kernel_links.specs.Tasks.{has_task}
-use Rattle.fmp_kernel_links.proofs.Tasks.{gone_from}
+use Rattle.fmp_kernel_parts.specs.Tasks.{has_task}
+use Rattle.fmp_kernel_parts.proofs.Tasks.{gone_from}
 use Rattle.fmp_time.proofs.timers.begin.Goals as goal
 
 pub push_last-requires : goal.push_last-requires

@@ -1,7 +1,7 @@
 use Rattle.std.proofs.Common.{ℕ, [], ◌∷◌, ◌++◌, map, sym, ap, ◌∙◌}
 use Rattle.std.specs.Prelude.{slice_set}
 use Rattle.fmp_setup.specs.declared.setup.Order.{Order}
-use Rattle.fmp_kernel_links.specs.Tasks.{inserted}
+use Rattle.fmp_kernel_parts.specs.Tasks.{inserted}
 use Rattle.fmp_waitq.specs.Queue.{rank_of}
 use Rattle.fmp_waitq.specs.Kept.{rank_in, waiter_in}
 use Rattle.fmp_waitq.proofs.Waiters.{is_absent, joined_is, joined_last, joined_before, spot_flat, spot_there}

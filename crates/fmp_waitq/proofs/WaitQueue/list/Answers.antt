@@ -1,5 +1,5 @@
 use Rattle.std.proofs.Common.{map, sym, ap, subst, ◌∙◌}
-use Rattle.fmp_kernel_links.specs.Tasks.{AreDistinct}
+use Rattle.fmp_kernel_parts.specs.Tasks.{AreDistinct}
 use Rattle.fmp_waitq.specs.Queue.{Queue, task_of}
 use Rattle.fmp_waitq.proofs.Waiters.{map-task_of}
 use Rattle.fmp_waitq.proofs.WaitQueue.list.Goals as goal

@@ -3,7 +3,7 @@ use Rattle.fmp_time.specs.Times.{Times}
 use Rattle.fmp_kernel_assigned.specs.Assignments.{Assignments, assignments_of}
 use Rattle.fmp_kernel_assigned.specs.Counting.{AreInStep}
 use Rattle.fmp_kernel_assigned.proofs.Changes.{wait_set, wait_step}
-use Rattle.fmp_kernel_links.specs.Tasks.{without}
+use Rattle.fmp_kernel_parts.specs.Tasks.{without}
 use Rattle.fmp_rules.specs.World.{with_item}
 use Rattle.fmp_kernel_assigned.proofs.assigned.Assigned.end_wait.Goals as goal
 

@@ -2,7 +2,7 @@ use Rattle.std.proofs.Common.{◌≡◌, ◌≤◌, ◌&&◌, true, length, sym,
 use Rattle.std.specs.Prelude.{is_none}
 use Rattle.std.specs.List.{list_all}
 use Rattle.fmp_codes.specs.declared.numbers.Task.{Task}
-use Rattle.fmp_kernel_links.specs.Tasks.{has_task}
+use Rattle.fmp_kernel_parts.specs.Tasks.{has_task}
 use Rattle.fmp_kernel_assigned.specs.Assignments.{Assignments}
 use Rattle.fmp_kernel_assigned.proofs.Untimed.{none_is, untimed}
 use Rattle.fmp_kernel_assigned.proofs.assigned.Assigned.is_untimed.Goals as goal

@@ -1,6 +1,6 @@
 use Rattle.std.proofs.Common.{◌≡◌, ◌≤◌, true, length, sym, ap, subst, ◌∙◌}
 use Rattle.fmp_codes.specs.declared.numbers.Task.{Task}
-use Rattle.fmp_kernel_links.specs.Tasks.{has_task}
+use Rattle.fmp_kernel_parts.specs.Tasks.{has_task}
 use Rattle.fmp_setup.specs.declared.setup.Timer.{Timer}
 use Rattle.fmp_rules.specs.Due.{IsLeast}
 use Rattle.fmp_kernel_assigned.specs.Assignments.{Assignments, IsNextDue}

@@ -1,6 +1,6 @@
 use Rattle.std.proofs.Common.{◌≡◌, true, None, length, sym, ap, subst, ◌∙◌, arith}
 use Rattle.std.specs.Prelude.{is_some}
-use Rattle.fmp_kernel_links.specs.Tasks.{without}
+use Rattle.fmp_kernel_parts.specs.Tasks.{without}
 use Rattle.fmp_rules.specs.World.{item}
 use Rattle.fmp_kernel_order.specs.Queues.{timed_by}
 use Rattle.fmp_time.specs.declared.item.Item.TheVariants.{Wait}

@@ -3,7 +3,7 @@ use Rattle.fmp_codes.specs.Records.{processor_of}
 use Rattle.fmp_codes.specs.declared.records.Record.{Record}
 use Rattle.fmp_rules.specs.World.{World}
 use Rattle.fmp_kernel_order.specs.Queues.{Queues, listed}
-use Rattle.fmp_law_waits.proofs.Events.{event_reported}
+use Rattle.fmp_law_balance.proofs.waits.Events.{event_reported}
 use Rattle.fmp_search_orders.specs.Places.{is_busy_at}
 use Rattle.fmp_search_kernel.specs.Walked.{Walked}
 use Rattle.fmp_search_kernel.proofs.Bounds.{roomy_less}

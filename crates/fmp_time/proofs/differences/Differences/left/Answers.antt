@@ -1,8 +1,8 @@
 use Rattle.std.proofs.Common.{◌≡◌, Some, None, true, List, refl, sym, ap, ◌∙◌, arith}
 use Rattle.std.specs.Option.{option_map}
 use Rattle.std.proofs.lemmas.Bool.{eq-eqb}
-use Rattle.fmp_kernel_links.specs.Lists as links
-use Rattle.fmp_kernel_links.proofs.Soundness.{list_in}
+use Rattle.fmp_kernel_parts.specs.Lists as links
+use Rattle.fmp_kernel_parts.proofs.Soundness.{list_in}
 use Rattle.fmp_time.specs.Differences.{Entry, entries_at, ticks_in}
 use Rattle.fmp_time.specs.Left.{ticks_of}
 use Rattle.fmp_time.proofs.Entries.{list_at-entries_of}

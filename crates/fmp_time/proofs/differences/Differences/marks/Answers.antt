@@ -2,7 +2,7 @@ use Rattle.std.proofs.Common.{◌||◌, Bool, false, List, [], get_or, sym, ap, 
 use Rattle.std.specs.List.{list_any}
 use Rattle.std.proofs.lemmas.List.{get_or-replicate, take_all}
 use Rattle.std.proofs.lemmas.List.Folds.{list_any_more}
-use Rattle.fmp_kernel_links.specs.Lists.{has}
+use Rattle.fmp_kernel_parts.specs.Lists.{has}
 use Rattle.fmp_time.specs.Differences.{Entry, entries_at, due, items_of}
 use Rattle.fmp_time.specs.Left.{AreDisjoint}
 use Rattle.fmp_time.proofs.Found.{disjoint-entries_of}

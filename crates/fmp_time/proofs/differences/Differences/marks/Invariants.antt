@@ -1,6 +1,6 @@
 use Rattle.std.proofs.Common.{◌≡◌, ℕ, ◌<◌, ◌≤◌, false, get_or, take}
 use Rattle.std.specs.List.{list_any}
-use Rattle.fmp_kernel_links.specs.Lists.{has}
+use Rattle.fmp_kernel_parts.specs.Lists.{has}
 use Rattle.fmp_time.specs.Differences.{due, items_of}
 use Rattle.fmp_time.specs.Left.{AreDisjoint}
 use Rattle.fmp_time.proofs.differences.Differences.marks.Given as goal

@@ -1,7 +1,7 @@
 use Rattle.std.proofs.Common.{Some, List, sym, ap, subst, ◌∙◌, arith}
 use Rattle.std.specs.Prelude.{slice_index}
-use Rattle.fmp_kernel_links.specs.Lists as links
-use Rattle.fmp_kernel_links.proofs.Soundness.{first_there}
+use Rattle.fmp_kernel_parts.specs.Lists as links
+use Rattle.fmp_kernel_parts.proofs.Soundness.{first_there}
 use Rattle.fmp_time.specs.Differences.{Entry, entries_at, least_of, IsLeastIn}
 use Rattle.fmp_time.specs.Left.{AreDisjoint}
 use Rattle.fmp_time.proofs.Entries.{list_at-entries_of}

@@ -1,6 +1,6 @@
 use Rattle.std.proofs.Common.{ℕ, ◌^◌, ◌<◌, List, sym, ap, subst, ◌∙◌, arith, rules}
 use Rattle.std.specs.Prelude.{slice_index}
-use Rattle.fmp_kernel_links.specs.Lists as links
+use Rattle.fmp_kernel_parts.specs.Lists as links
 use Rattle.fmp_time.specs.Differences.{Entry, take_out, entries_of, sum_of}
 use Rattle.fmp_time.proofs.Removing.{parts_in, there_in, after_in, two_most, gains_next, gains_none, removed_entries, removed_summed}
 use Rattle.fmp_time.proofs.differences.Differences.remove.Goals as goal

@@ -1,7 +1,7 @@
 use Rattle.std.proofs.Common.{◌≡◌, List, [], sym, ap, ◌∙◌, arith}
 use Rattle.std.specs.Prelude.{slice_set}
 use Rattle.std.proofs.lemmas.List.{set-get_or}
-use Rattle.fmp_kernel_links.proofs.Soundness.{first_there}
+use Rattle.fmp_kernel_parts.proofs.Soundness.{first_there}
 use Rattle.fmp_time.specs.Differences.{Entry, entries_at, due, not_due, entries_of, items_of, items_given}
 use Rattle.fmp_time.proofs.Expiring.{rest_entries, rest_summed, rest_due, quiet_entries, quiet_due, empty_is}
 use Rattle.fmp_time.proofs.differences.Differences.take_due.Goals as goal

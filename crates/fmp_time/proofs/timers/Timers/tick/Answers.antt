@@ -1,6 +1,6 @@
 use Rattle.std.proofs.Common.{◌≡◌, ℕ, ◌<◌, false, None, List, ◌++◌, sym, ap, subst, ◌∙◌}
 use Rattle.std.specs.Prelude.{slice_index_or, slice_set}
-use Rattle.fmp_kernel_links.specs.Lists.{has}
+use Rattle.fmp_kernel_parts.specs.Lists.{has}
 use Rattle.fmp_time.specs.declared.item.Item.{Item}
 use Rattle.fmp_time.specs.Differences.{entries_at, lowered, due, not_due, items_of}
 use Rattle.fmp_time.specs.Left.{left_in}

@@ -1,2 +1,0 @@
-mod Asked  -- What two words ask.
-mod Only  -- Names are distinct, so no other object has the name of one.

@@ -1,5 +1,0 @@
-use Rattle.fmp_law_facts.proofs.Asked.{some_mean}
-use Rattle.fmp_law_facts.proofs.laws.facts_without_a_thing_are_asked_of_any.Goals as goal
-
-pub returns : goal.returns
-returns c = some_mean

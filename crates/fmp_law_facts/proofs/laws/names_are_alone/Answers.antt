@@ -1,5 +1,0 @@
-use Rattle.fmp_law_facts.proofs.Only.{alone}
-use Rattle.fmp_law_facts.proofs.laws.names_are_alone.Goals as goal
-
-pub returns : goal.returns
-returns c = alone

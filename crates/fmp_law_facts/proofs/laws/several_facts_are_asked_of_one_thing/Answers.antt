@@ -1,5 +1,0 @@
-use Rattle.fmp_law_facts.proofs.Asked.{facts_mean}
-use Rattle.fmp_law_facts.proofs.laws.several_facts_are_asked_of_one_thing.Goals as goal
-
-pub returns : goal.returns
-returns c = facts_mean

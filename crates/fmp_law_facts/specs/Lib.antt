@@ -1,1 +1,0 @@
-pub mod Things  -- The word of a thing.

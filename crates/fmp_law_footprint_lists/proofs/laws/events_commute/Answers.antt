@@ -1,5 +1,0 @@
-use Rattle.fmp_law_footprint_lists.proofs.Commuting.{enough_commute}
-use Rattle.fmp_law_footprint_lists.proofs.laws.events_commute.Goals as goal
-
-pub returns : goal.returns
-returns c = enough_commute

@@ -1,6 +1,0 @@
-use Rattle.fmp_rules.specs.Arrivals.{numbered}
-use Rattle.fmp_law_frames.proofs.Steps.{framed_step}
-use Rattle.fmp_law_frames.proofs.laws.frames_are_reported.Goals as goal
-
-pub returns : goal.returns
-returns c = λ w e. framed_step numbered w e

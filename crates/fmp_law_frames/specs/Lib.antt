@@ -1,1 +1,0 @@
-pub mod Frames  -- What a record says that its event may change, and what it leaves.

@@ -1,5 +1,0 @@
-use Rattle.fmp_law_waits.proofs.Fewer.{few_releases}
-use Rattle.fmp_law_waits.proofs.laws.releases_are_few.Goals as goal
-
-pub returns : goal.returns
-returns c = λ c events valid on. few_releases c events valid on

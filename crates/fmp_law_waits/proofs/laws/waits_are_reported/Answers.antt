@@ -1,5 +1,0 @@
-use Rattle.fmp_law_waits.proofs.Booted.{waits_reported}
-use Rattle.fmp_law_waits.proofs.laws.waits_are_reported.Goals as goal
-
-pub returns : goal.returns
-returns c = λ c events valid on. waits_reported c valid events on

@@ -1,1 +1,0 @@
-pub mod Running  -- The runs of a word, one after the other.
