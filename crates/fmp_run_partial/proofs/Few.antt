@@ -1,5 +1,5 @@
 -- An order of lines has no more of them than there are.
-use Rattle.std.proofs.Common.{◌≡◌, ℕ, ◌+◌, ◌<◌, ◌≤◌, true, List, [], ◌∷◌, length, sym, subst, arith}
+use Rattle.std.proofs.Common.{◌≡◌, ℕ, ◌+◌, ◌<◌, ◌≤◌, true, List, [], ◌∷◌, length, subst, arith}
 use Rattle.std.proofs.lemmas.Bool.{cases_eq}
 use Rattle.fmp_search_lines.specs.Orders.{has, numbers_from, AreApart, AreWithin}
 use Rattle.fmp_search_lines.specs.Places.{without}

@@ -1,5 +1,5 @@
 -- The ends of waits from one on, as the loop puts in what is left out of them.
-use Rattle.std.proofs.Common.{◌≡◌, ℕ, ◌+◌, List, [], ◌∷◌, ◌++◌, drop, Option, Some, sym, ap, ◌∙◌, append_assoc}
+use Rattle.std.proofs.Common.{◌≡◌, ℕ, ◌+◌, List, [], ◌∷◌, ◌++◌, drop, Some, sym, ap, ◌∙◌, append_assoc}
 use Rattle.std.specs.Prelude.{slice_get, unwrap_or}
 use Rattle.fmp_codes.specs.declared.records.Release.{Release}
 use Rattle.fmp_trace.proofs.Releases.{drop-slice_get}

@@ -1,18 +1,15 @@
 -- The verdict on a text that may say that it ends before its log.
-use Rattle.std.proofs.Common.{◌≡◌, ◌⊎◌, ℕ, ◌≤◌, inl, inr, List, length, Option, None, Result, Ok, Err, IfOk, IfErr, refl, sym, ap, subst, ◌∙◌, arith}
+use Rattle.std.proofs.Common.{◌≡◌, ◌⊎◌, ℕ, ◌≤◌, inl, inr, List, length, Option, None, Result, Ok, Err, sym, ap, subst, ◌∙◌, arith}
 use Rattle.fmp_codes.specs.declared.records.Event.{Event}
 use Rattle.fmp_codes.specs.declared.records.Record.{Record}
-use Rattle.fmp_names.specs.Names.{AreValid}
 use Rattle.fmp_rules.specs.Arrivals.{numbered}
 use Rattle.fmp_rules.specs.Boot.{booted}
 use Rattle.fmp_rules.specs.Step.{answers}
 use Rattle.fmp_setup.specs.Setup.{Setup}
-use Rattle.fmp_setup.specs.Valid.{IsValid}
 use Rattle.fmp_text.specs.Events.{IsMemory}
 use Rattle.fmp_text.specs.Limits.{most_bytes}
 use Rattle.fmp_text.specs.declared.fault.TextFault.{TextFault}
 use Rattle.fmp_trace.specs.Reading.{GivesOrFails}
-use Rattle.fmp_trace_check.specs.Checking.{PrintsAnswers}
 use Rattle.fmp_trace_orders.specs.Lines.{lines_of}
 use Rattle.fmp_trace_partial.specs.Saying.{said_in}
 use Rattle.fmp_trace_partial.specs.declared.telling.Said.{Said}
@@ -29,7 +26,7 @@ use Rattle.fmp_run_partial.specs.declared.verdict.Found.TheVariants as found
 use Rattle.fmp_run_partial.specs.declared.verdict.PartialVerdict.{PartialVerdict}
 use Rattle.fmp_run_partial.specs.declared.verdict.PartialVerdict.TheVariants as partial
 use Rattle.fmp_run_partial.proofs.NoEnds.{no_longer, own_body}
-use Rattle.fmp_run_partial.proofs.PartlyPrinted.{plain_prints, whole_answers}
+use Rattle.fmp_run_partial.proofs.PartlyPrinted.{plain_prints}
 use Rattle.fmp_run_partial.proofs.Played.{said_of}
 
 module _ (c : Setup) (text body : List ℕ) (ends : Option ℕ) (is : IsBody text body ends) (short : length text ≤ most_bytes) where

@@ -1,23 +1,24 @@
 -- The events that are played of lines, and what is known of them.
-use Rattle.std.proofs.Common.{◌≡◌, ℕ, ◌+◌, ◌<◌, ◌≤◌, List, [], ◌∷◌, ◌++◌, append_assoc, length, take, map, Option, None, Some, Result, Ok, slice_get, inl, inr, refl, sym, ap, subst, ◌∙◌, arith}
+use Rattle.std.proofs.Common.{◌≡◌, ℕ, ◌+◌, ◌-◌, ◌≤◌, List, [], ◌∷◌, ◌++◌, append_assoc, length, take, Option, None, Some, Result, Ok, option_map, slice_get, inl, inr, refl, sym, ap, ◌∙◌, arith}
 use Rattle.std.proofs.lemmas.Bool.{cases_lt}
-use Rattle.std.proofs.lemmas.List.{append-nil, length-map, length-take-le, take_all}
+use Rattle.std.proofs.lemmas.List.{length-map, length-take-le, take_all}
+use Rattle.std.proofs.lemmas.Option.{slice_get-map}
 use Rattle.fmp_codes.specs.declared.records.Event.{Event}
 use Rattle.fmp_names.specs.Names.{AreValid}
 use Rattle.fmp_setup.specs.Setup.{Setup}
 use Rattle.fmp_text.specs.Limits.{most_events}
 use Rattle.fmp_text.specs.declared.fault.TextFault.{TextFault}
 use Rattle.fmp_trace_orders.specs.Lines.{AreLinesOf, lines_of}
-use Rattle.fmp_trace_orders.specs.Playing.{lines_from}
+use Rattle.fmp_trace_orders.specs.Playing.{line_from}
 use Rattle.fmp_trace_orders.specs.declared.lines.Lines.{Lines}
 use Rattle.fmp_trace_partial.specs.Saying.{said_in}
 use Rattle.fmp_trace_partial.specs.declared.telling.Said.{Said}
 use Rattle.fmp_trace_partial.proofs.SaidTexts.{read_says}
-use Rattle.fmp_run_partial.specs.Showing.{event_and, events_at, events_of, HasFew, HasLine, head_text, IsBare, IsShown, pair_shown, played, rest_text}
+use Rattle.fmp_run_partial.specs.Playing.{event_and, events_at, HasFew, played}
+use Rattle.fmp_run_partial.specs.Showing.{events_of}
+use Rattle.fmp_run_partial.specs.Telling.{IsTold}
 use Rattle.fmp_run_partial.specs.Verdicts.{JudgesLines}
-use Rattle.fmp_run_partial.specs.declared.showing.PartialShown.{PartialShown}
-use Rattle.fmp_run_partial.specs.declared.showing.Shown.{Shown}
-use Rattle.fmp_run_partial.specs.declared.verdict.PartialVerdict.{PartialVerdict}
+use Rattle.fmp_run_partial.specs.declared.telling.Told.{Told}
 use Rattle.fmp_run_partial.specs.declared.verdict.Found.{Found}
 use Rattle.fmp_run_partial.specs.declared.verdict.Found.TheVariants as found
 use Rattle.fmp_run_partial.proofs.Few.{few_within}
@@ -75,25 +76,18 @@ module _ (c : Setup) (text : List ℕ) (lines : Lines) (are : AreLinesOf c.names
       let long = ap length events_read ∙ length-map said (λ s. s.entry.event) in
       omega (arith, few, long)
 
-  -- what is shown of them
-  pub shown_again : (asked : PartialShown) (order : Option (List ℕ)) (f : Found) (verdict : PartialVerdict) (s : Shown)
-      → IsShown asked c text (lines_from text lines.starts.items) lines.events.items order f verdict s
-      → IsShown asked c text (lines_of text) (events_of said) order f verdict s
-  shown_again asked order f verdict s is =
-      subst (λ (events : List Event). IsShown asked c text (lines_of text) events order f verdict s) events_read
-      (subst (λ (all : List (List ℕ)). IsShown asked c text all lines.events.items order f verdict s) are.starts is)
-
--- where nothing is written after it, and no line is told
-pub bare_shown : (asked : PartialShown) (c : Setup) (body : List ℕ) (lines : List (List ℕ)) (events : List Event) (order : Option (List ℕ)) (f : Found) (verdict : PartialVerdict)
-    (s : Shown) → rest_text asked c body lines events order f ≡ [] → pair_shown c lines events order f ≡ [] → IsBare asked body verdict s
-    → IsShown asked c body lines events order f verdict s
-bare_shown asked c body lines events order f verdict s rest pair is =
-    record {
-      verdict_is = is.verdict_is;
-      is_empty = is.is_empty;
-      text = is.text ∙ rw rest (sym (append-nil (head_text asked verdict)));
-      pair = is.pair ∙ sym pair;
-    }
+  -- a line of them that is told
+  pub is_told : (order : Option (List ℕ)) (k : ℕ) (told : Told) → told.number ≡ k → told.start ≡ slice_get lines.starts.items (k - 1)
+      → told.event ≡ slice_get lines.events.items (k - 1) → told.before.items ≡ played lines.events.items (k - 1) order
+      → IsTold text (lines_of text) (events_of said) order k told
+  is_told order k told number start event before =
+      record {
+        number = number;
+        line = ap (option_map (line_from text)) start ∙ sym (slice_get-map (line_from text) lines.starts.items (k - 1))
+            ∙ ap (λ (all : List (List ℕ)). slice_get all (k - 1)) are.starts;
+        event = event ∙ ap (λ (events : List Event). slice_get events (k - 1)) events_read;
+        before = before ∙ ap (λ (events : List Event). played events (k - 1) order) events_read;
+      }
 
 -- ---- what was found
 
@@ -118,9 +112,3 @@ module _ (c : Setup) (text : List ℕ) where
       let within = few_within _ _ order judges.says.4.within in
       omega (arith, few, within)
   has_few valid found.NotKnown (Some order) judges = let none : length order ≡ 0 = ap length judges.says in omega (arith, none)
-
-  pub has_line : (f : Found) (order : Option (List ℕ)) → JudgesLines c text f order → HasLine f
-  has_line found.Yes order judges = tt
-  has_line (found.No k) None judges = let number = judges.1.compares.number in omega (arith, number)
-  has_line (found.No k) (Some order) judges = let number = judges.says.1 in omega (arith, number)
-  has_line found.NotKnown order judges = tt

@@ -1,5 +1,5 @@
 -- What is shown of a partial trace beside its verdict.
-use Rattle.std.specs.Prelude.{◌≡◌, ℕ, ◌+◌, ◌-◌, ◌<◌, ◌≤◌, ◌==◌, List, [], ◌∷◌, ◌++◌, Option, None, Some, length, map, slice_get, take, codes}
+use Rattle.std.specs.Prelude.{◌≡◌, ℕ, ◌+◌, ◌-◌, ◌==◌, List, [], ◌++◌, Option, None, Some, length, map, slice_get, codes}
 use Rattle.fmp_bytes.specs.Bytes.{line_feed, pieces_of}
 use Rattle.fmp_codes.specs.declared.records.Event.{Event}
 use Rattle.fmp_rules.specs.Arrivals.{State, numbered}
@@ -8,11 +8,11 @@ use Rattle.fmp_rules.specs.Step.{answers, replay, step}
 use Rattle.fmp_names.specs.Names.{NameLists}
 use Rattle.fmp_setup.specs.Setup.{Setup}
 use Rattle.fmp_show_state.specs.States.{state_text}
-use Rattle.fmp_text.specs.Limits.{most_events}
 use Rattle.fmp_trace.specs.Lines.{line_text, lines_from}
 use Rattle.fmp_trace_partial.specs.declared.telling.Said.{Said}
 use Rattle.fmp_run_partial.specs.Differing.{diff_head, differences_from, hunk_of}
 use Rattle.fmp_run_partial.specs.Filling.{filled_line}
+use Rattle.fmp_run_partial.specs.Playing.{played, state_before}
 use Rattle.fmp_run_partial.specs.Written.{partial_text}
 use Rattle.fmp_run_partial.specs.declared.verdict.Found.{Found}
 use Rattle.fmp_run_partial.specs.declared.verdict.Found.TheVariants as found
@@ -20,42 +20,6 @@ use Rattle.fmp_run_partial.specs.declared.verdict.PartialVerdict.{PartialVerdict
 use Rattle.fmp_run_partial.specs.declared.showing.PartialShown.{PartialShown}
 use Rattle.fmp_run_partial.specs.declared.showing.PartialShown.TheVariants as asked
 use Rattle.fmp_run_partial.specs.declared.showing.Shown.{Shown}
-
--- ---- what is played
-
--- an event before others, if there is one
-abbrev pub event_and : Option Event → List Event → List Event
-event_and None others = others
-event_and (Some e) others = e ∷ others
-
--- of lines that have these events, those of some, one after the other
-abbrev pub events_at : List Event → List ℕ → List Event
-events_at events [] = []
-events_at events (j ∷ js) = event_and (slice_get events j) (events_at events js)
-
--- the events of so many lines as they stand, or those of an order
-abbrev pub played : List Event → ℕ → Option (List ℕ) → List Event
-played events count None = take count events
-played events count (Some order) = events_at events order
-
--- the machine before line k: all lines before it were played, or an order of lines
-abbrev pub state_before : Setup → List Event → Option (List ℕ) → ℕ → State
-state_before c events order k = replay numbered (booted c) (played events (k - 1) order)
-
--- ---- what is known of lines that are shown
-
--- an order has no more lines than a text may have
-abbrev pub HasFew : Option (List ℕ) → Type 0
-HasFew None = Unit {0}
-HasFew (Some order) = length order ≤ most_events
-
--- lines are counted from 1
-abbrev pub HasLine : Found → Type 0
-HasLine (found.No k) = 0 < k
-HasLine found.Yes = Unit {0}
-HasLine found.NotKnown = Unit {0}
-
--- ---- what is shown
 
 -- a line as it stands, and what is printed of the machine's answer to its event, as line k
 abbrev pub pair_of : NameLists → ℕ → State → Option (List ℕ) → Option Event → List ℕ
@@ -80,20 +44,22 @@ head_text asked.Order verdict = []
 head_text asked.Each verdict = []
 head_text asked.Filled verdict = []
 
--- the machine's own lines up to line k, and that line with what it leaves out put in, whatever number it has then
+-- what the machine answers to the events before line k, and that line with what it leaves out put in, whatever number it has then
+abbrev pub up_to_line : Setup → ℕ → List Event → Option (List ℕ) → List ℕ
+up_to_line c k before line =
+    lines_from c.names 1 (answers numbered (booted c) before) ++ filled_line c.names k (length before + 1) (replay numbered (booted c) before) line
+
 abbrev pub up_to_text : Setup → List (List ℕ) → List Event → Option (List ℕ) → ℕ → List ℕ
-up_to_text c lines events order k =
-    lines_from c.names 1 (answers numbered (booted c) (played events (k - 1) order))
-    ++ filled_line c.names k (length (played events (k - 1) order) + 1) (state_before c events order k) (slice_get lines (k - 1))
+up_to_text c lines events order k = up_to_line c k (played events (k - 1) order) (slice_get lines (k - 1))
 
 -- each line of a text that differs, as they stand; where they come in an order, the line with which there is none
-abbrev pub diff_lines : Setup → List ℕ → List (List ℕ) → List Event → Option (List ℕ) → ℕ → List ℕ
-diff_lines c body lines events None k = differences_from c.names 1 (booted c) (pieces_of line_feed body)
-diff_lines c body lines events (Some order) k =
-    hunk_of c.names k (state_before c events (Some order) k) (slice_get lines (k - 1)) (slice_get events (k - 1))
+abbrev pub diff_lines : Setup → List ℕ → Option (List ℕ) → ℕ → State → Option (List ℕ) → Option Event → List ℕ
+diff_lines c body None k w line e = differences_from c.names 1 (booted c) (pieces_of line_feed body)
+diff_lines c body (Some order) k w line e = hunk_of c.names k w line e
 
 abbrev pub diff_text : Setup → List ℕ → List (List ℕ) → List Event → Option (List ℕ) → ℕ → List ℕ
-diff_text c body lines events order k = diff_head ++ diff_lines c body lines events order k
+diff_text c body lines events order k =
+    diff_head ++ diff_lines c body order k (state_before c events order k) (slice_get lines (k - 1)) (slice_get events (k - 1))
 
 -- what is written of a `no`: the machine before the line, and both lines; or one of these texts
 abbrev pub below_no : PartialShown → List ℕ → List ℕ → List ℕ → List ℕ → List ℕ

@@ -1,21 +1,20 @@
 //! What a line of a partial trace leaves out, put in from what the machine answers.
-ghost use Rattle.std.specs.Prelude.{◌≡◌, ◌<◌, ◌++◌, IfOk, Ok, OnOk};
+ghost use Rattle.std.specs.Prelude.{◌≡◌, ◌<◌};
 ghost use Rattle.std.specs.Option.{option_copied};
 ghost use Rattle.std.specs.Str.{bytes_eq};
 ghost use Rattle.fmp_codes.specs.Codes.{name_of};
+ghost use Rattle.fmp_out.specs.Putting.{Adds};
 ghost use Rattle.fmp_rules.specs.Arrivals.{numbered};
 ghost use Rattle.fmp_rules.specs.Step.{step};
 ghost use Rattle.fmp_trace.specs.Lines.{line_text};
-ghost use Rattle.fmp_trace_partial.specs.Saying.{line_said};
 ghost use Rattle.fmp_run_partial.specs.Filling as spec;
 
-use crate::playing::blank;
+use crate::playing::{blank, put_record};
 use fmp_codes::{Answer, Code, Record, Release, Releases};
 use fmp_out::Text;
 use fmp_plain::Plain;
 use fmp_rules::Config;
 use fmp_text::Names;
-use fmp_trace::put_line;
 use fmp_trace_partial::{AnswerKept, CodeKept, CodesKept, Said, read_said};
 use std::alloc::AllocError;
 
@@ -134,66 +133,38 @@ fn filled(said: Said, own: Record) -> Record
     }
 }
 
-/// What line n of a text says that was read before. The error is want of memory.
-fn said_again(names: &Names, config: &Config, n: u32, line: &[u8]) -> Result<Said, AllocError>
-    ensures { IfOk result (λ said. line_said names.now n line.now ≡ Ok said) }
-{
-    let mut scratch = Text::new(config.allocator());
-    match read_said(&mut scratch, names, n, line) {
-        Ok(said) => Ok(said),
-        Err(_) => Err(AllocError),
-    }
-}
-
 /// Plays the event of a line that says this, and adds the line whole with this number: what it says, and the rest as the machine answers.
-fn put_whole(
-    out: &mut Vec<u8>,
-    names: &Names,
-    plain: &mut Plain,
-    number: u32,
-    said: Said,
-) -> Result<(), AllocError>
+fn put_whole(out: &mut Text, names: &Names, plain: &mut Plain, number: u32, said: Said)
     requires { plain.old.steps < 4294967295 }
-    ensures { OnOk result (out.new.items ≡ out.old.items ++ line_text names.now number (spec.filled said (step numbered plain.old.state said.entry.event).1)) }
+    ensures { Adds (line_text names.now number (spec.filled said (step numbered plain.old.state said.entry.event).1)) out.old out.new }
 {
     let mut report = blank();
     plain.step_into(said.entry.event, &mut report);
     let whole = filled(said, report);
-    put_line(out, names, number, &whole)
+    put_record(out, names, number, &whole);
 }
 
-/// Plays the event of line n of a text that was read before, and adds the line whole with this number. The error is want of memory.
-fn put_filled(
-    out: &mut Vec<u8>,
-    config: &Config,
-    plain: &mut Plain,
-    n: u32,
-    number: u32,
-    line: &[u8],
-) -> Result<(), AllocError>
-    requires { plain.old.steps < 4294967295 }
-    ensures { OnOk result (out.new.items ≡ out.old.items ++ spec.filled_text config.now.names number plain.old.state (line_said config.now.names n line.now)) }
-{
-    let names = config.names();
-    names.validity();
-    let said = said_again(names, config, n, line)?;
-    put_whole(out, names, plain, number, said)
-}
-
-/// The same, if there is such a line.
-pub(crate) fn put_filled_line(
-    out: &mut Vec<u8>,
+/// Plays the event of line n of a text that was read before, if there is such a line, and adds the line whole with this number.
+pub(crate) fn put_filled(
+    out: &mut Text,
     config: &Config,
     plain: &mut Plain,
     n: u32,
     number: u32,
     line: Option<&[u8]>,
-) -> Result<(), AllocError>
+)
     requires { plain.old.steps < 4294967295 }
-    ensures { OnOk result (out.new.items ≡ out.old.items ++ spec.filled_line config.now.names n number plain.old.state (option_copied line.entry)) }
+    ensures { Adds (spec.filled_line config.now.names n number plain.old.state (option_copied line.entry)) out.old out.new }
 {
-    match line {
-        Some(line) => put_filled(out, config, plain, n, number, line),
-        None => Ok(()),
+    let Some(line) = line else {
+        return;
+    };
+    let names = config.names();
+    names.validity();
+    let mut scratch = Text::new(config.allocator());
+    match read_said(&mut scratch, names, n, line) {
+        Ok(said) => put_whole(out, names, plain, number, said),
+        // what was read before has no fault: memory was wanting
+        Err(_) => out.note(Err(AllocError)),
     }
 }

@@ -1,5 +1,5 @@
 //! Judging the text of a partial trace.
-ghost use Rattle.std.specs.Prelude.{◌≡◌, ◌⊎◌, false, List, None, option_map, Ok, IfOk, IfErr};
+ghost use Rattle.std.specs.Prelude.{◌≡◌, ◌⊎◌, false, List, option_map, Ok, IfOk, IfErr};
 ghost use Rattle.fmp_codes.specs.declared.records.Event.{Event as AnyEvent};
 ghost use Rattle.fmp_codes.specs.declared.records.Record.{Record as AnyRecord};
 ghost use Rattle.fmp_trace_check.specs.Checking.{PrintsAnswers};
@@ -52,14 +52,6 @@ fn judge_ordered(alloc: Global, config: &Config, body: &[u8]) -> Result<Finding,
     }
 }
 
-/// What is found of lines as they stand.
-fn standing(found: Found) -> Finding
-    ensures found { result.found ≡ found }
-    ensures order { result.order ≡ None }
-{
-    Finding { found, order: None }
-}
-
 /// Judges lines as they stand, or in some order within their bounds where some say something of orders.
 fn found_in(alloc: Global, config: &Config, body: &[u8]) -> Result<Finding, TextFault>
     ensures verdict { IfOk result (λ f. JudgesLines config.now body.now f.found (option_map (λ v. v.items) f.order)) }
@@ -69,8 +61,14 @@ fn found_in(alloc: Global, config: &Config, body: &[u8]) -> Result<Finding, Text
     ensures fault { IfErr result (λ fault. (FirstFault config.now.names body.now fault ⊎ IsOfOrders config.now.names body.now fault) ⊎ IsMemory fault) }
 {
     match follow_text(alloc, config, body) {
-        Ok(Followed::Yes) => Ok(standing(Found::Yes)),
-        Ok(Followed::No(line)) => Ok(standing(Found::No(line))),
+        Ok(Followed::Yes) => Ok(Finding {
+            found: Found::Yes,
+            order: None,
+        }),
+        Ok(Followed::No(line)) => Ok(Finding {
+            found: Found::No(line),
+            order: None,
+        }),
         Ok(Followed::Ordered) => judge_ordered(alloc, config, body),
         Err(fault) => Err(fault),
     }

@@ -17,6 +17,7 @@ mod judging;
 mod playing;
 mod run;
 mod showing;
+mod telling;
 mod verdict;
 
 pub use judging::judge_partial;

@@ -1,12 +1,15 @@
 //! The machine plays lines again, to tell what it is like before one of them, or what it answers to all of them.
-ghost use Rattle.std.specs.Prelude.{◌≡◌, ◌≤◌, ◌<◌, ◌+◌, ◌++◌, [], length, option_map, slice_get, take, IfOk, OnOk};
+ghost use Rattle.std.specs.Prelude.{◌≡◌, ◌≤◌, ◌+◌, ◌++◌, [], length, option_map, slice_get, take, IfOk, OnOk};
+ghost use Rattle.fmp_out.specs.Putting.{Adds};
 ghost use Rattle.fmp_rules.specs.Arrivals.{numbered};
-ghost use Rattle.fmp_rules.specs.Step.{answers, replay};
+ghost use Rattle.fmp_rules.specs.Step.{answers};
 ghost use Rattle.fmp_text.specs.Limits.{most_events};
-ghost use Rattle.fmp_trace.specs.Lines.{lines_from};
-ghost use Rattle.fmp_run_partial.specs.Showing as spec;
+ghost use Rattle.fmp_trace.specs.Lines.{line_text, lines_from};
+ghost use Rattle.fmp_run_partial.specs.Playing as spec;
+ghost use Rattle.fmp_run_partial.specs.Playing.{Replayed};
 
 use fmp_codes::{Answer, Event, Proc, Record};
+use fmp_out::Text;
 use fmp_plain::Plain;
 use fmp_text::Names;
 use fmp_trace::put_line;
@@ -77,11 +80,18 @@ pub(crate) fn blank() -> Record {
     Record::answer(Event::Tick(Proc::new(1)), None, Answer::Nothing)
 }
 
+/// Adds line n, as it is printed of a record.
+pub(crate) fn put_record(out: &mut Text, names: &Names, n: u32, report: &Record)
+    ensures { Adds (line_text names.now n report.now) out.old out.new }
+{
+    let told = put_line(out.as_mut_vec(), names, n, report);
+    out.note(told);
+}
+
 /// Plays events.
 pub(crate) fn play(plain: &mut Plain, events: &[Event])
     requires { plain.old.steps + length events.now ≤ most_events }
-    ensures state { plain.new.state ≡ replay numbered plain.old.state events.now }
-    ensures steps { plain.new.steps ≡ plain.old.steps + length events.now }
+    ensures { Replayed plain.old events.now plain.new }
 {
     let mut report = blank();
     let mut rest = events;
@@ -92,16 +102,10 @@ pub(crate) fn play(plain: &mut Plain, events: &[Event])
 }
 
 /// Plays events, and adds what is printed of each answer, numbered from 1.
-pub(crate) fn put_answers(
-    out: &mut Vec<u8>,
-    plain: &mut Plain,
-    names: &Names,
-    events: &[Event],
-) -> Result<(), AllocError>
+pub(crate) fn put_answers(out: &mut Text, plain: &mut Plain, names: &Names, events: &[Event])
     requires { plain.old.steps + length events.now ≤ most_events }
-    ensures text { OnOk result (out.new.items ≡ out.old.items ++ lines_from names.now 1 (answers numbered plain.old.state events.now)) }
-    ensures state { OnOk result (plain.new.state ≡ replay numbered plain.old.state events.now) }
-    ensures steps { OnOk result (plain.new.steps ≡ plain.old.steps + length events.now) }
+    ensures text { Adds (lines_from names.now 1 (answers numbered plain.old.state events.now)) out.old out.new }
+    ensures played { Replayed plain.old events.now plain.new }
 {
     let mut report = blank();
     let mut number: u32 = 0;
@@ -109,8 +113,7 @@ pub(crate) fn put_answers(
     while let Some((event, after)) = rest.split_first() {
         plain.step_into(*event, &mut report);
         number += 1;
-        put_line(out, names, number, &report)?;
+        put_record(out, names, number, &report);
         rest = after;
     }
-    Ok(())
 }

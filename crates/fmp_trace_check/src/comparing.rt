@@ -1,8 +1,9 @@
 //! The lines of a trace that are not the plain machine's own, with those.
-ghost use Rattle.std.specs.Prelude.{◌≡◌, ◌≤◌, ◌+◌, ◌++◌, ◌⊎◌, [], List, length, Ok, IfOk, IfErr, OnOk};
+ghost use Rattle.std.specs.Prelude.{◌≡◌, ◌≤◌, ◌+◌, ◌⊎◌, [], List, length, Ok, IfOk, IfErr};
 ghost use Rattle.fmp_bytes.specs.Bytes.{pieces_of};
 ghost use Rattle.fmp_codes.specs.declared.records.Event.{Event as AnyEvent};
 ghost use Rattle.fmp_codes.specs.declared.records.Record.{Record as AnyRecord};
+ghost use Rattle.fmp_out.specs.Putting.{Adds};
 ghost use Rattle.fmp_text.specs.Events.{IsMemory};
 ghost use Rattle.fmp_text.specs.Limits.{most_bytes};
 ghost use Rattle.fmp_trace_check.specs.Checking.{Judges, PrintsAnswers};
@@ -15,10 +16,11 @@ ghost use Rattle.fmp_trace.specs.Reading.{GivesOrFails};
 use crate::checking::Verdict;
 use crate::walking::{Player, Stop, walk};
 use crate::watching::Nobody;
+use fmp_out::Text;
 use fmp_rules::Config;
 use fmp_text::{Names, TextFault};
-use fmp_trace::{next_line, put_number};
-use std::alloc::{AllocError, Global};
+use fmp_trace::next_line;
+use std::alloc::Global;
 
 /// Which of the lines that differ are shown, and how.
 #[derive(Clone, Copy)]
@@ -39,76 +41,65 @@ pub struct Comparison {
 }
 
 /// Adds a line of a trace after `- `, and the machine's own line after `+ `.
-fn put_pair(out: &mut Vec<u8>, line: &[u8], own: &[u8]) -> Result<(), AllocError>
-    ensures { OnOk result (out.new.items ≡ out.old.items ++ difference_text Shown.First (record { number = 0; line = line.now; own = own.now })) }
+fn put_pair(out: &mut Text, line: &[u8], own: &[u8])
+    ensures { Adds (difference_text Shown.First (record { number = 0; line = line.now; own = own.now })) out.old out.new }
 {
-    out.extend_from_slice(b"- ")?;
-    out.extend_from_slice(line)?;
-    out.extend_from_slice(b"\n+ ")?;
-    out.extend_from_slice(own)?;
-    out.extend_from_slice(b"\n")?;
-    Ok(())
+    out.put(b"- ");
+    out.put(line);
+    out.put(b"\n+ ");
+    out.put(own);
+    out.put_byte(b'\n');
 }
 
 /// Adds the head of a hunk of a unified diff, for line n alone.
 #[tactic(auto, unfolding(crate::specs::Differences::hunk_head))]
-fn put_hunk_head(out: &mut Vec<u8>, n: u32) -> Result<(), AllocError>
-    ensures { OnOk result (out.new.items ≡ out.old.items ++ hunk_head n) }
+pub fn put_hunk_head(out: &mut Text, n: u32)
+    ensures { Adds (hunk_head n) out.old out.new }
 {
-    out.extend_from_slice(b"@@ -")?;
-    put_number(out, u64::from(n))?;
-    out.extend_from_slice(b",1 +")?;
-    put_number(out, u64::from(n))?;
-    out.extend_from_slice(b",1 @@\n")?;
-    Ok(())
+    out.put(b"@@ -");
+    out.put_number(u64::from(n));
+    out.put(b",1 +");
+    out.put_number(u64::from(n));
+    out.put(b",1 @@\n");
 }
 
 /// Adds line n of a trace and the machine's own line, as a hunk of a unified diff.
-fn put_hunk(out: &mut Vec<u8>, n: u32, line: &[u8], own: &[u8]) -> Result<(), AllocError>
-    ensures { OnOk result (out.new.items ≡ out.old.items ++ difference_text Shown.Each (record { number = n; line = line.now; own = own.now })) }
+fn put_hunk(out: &mut Text, n: u32, line: &[u8], own: &[u8])
+    ensures { Adds (difference_text Shown.Each (record { number = n; line = line.now; own = own.now })) out.old out.new }
 {
-    put_hunk_head(out, n)?;
-    out.extend_from_slice(b"-")?;
-    out.extend_from_slice(line)?;
-    out.extend_from_slice(b"\n+")?;
-    out.extend_from_slice(own)?;
-    out.extend_from_slice(b"\n")?;
-    Ok(())
+    put_hunk_head(out, n);
+    out.put_byte(b'-');
+    out.put(line);
+    out.put(b"\n+");
+    out.put(own);
+    out.put_byte(b'\n');
 }
 
 /// Adds a hunk for each line of a text that is not the machine's own. The text begins after line n.
-fn put_hunks(
-    out: &mut Vec<u8>,
-    player: &mut Player,
-    names: &Names,
-    n: u32,
-    text: &[u8],
-) -> Result<(), AllocError>
+fn put_hunks(out: &mut Text, player: &mut Player, names: &Names, n: u32, text: &[u8])
     requires steps { player.old.plain.steps ≤ n }
     requires count { player.old.count ≡ n }
     requires left { n + length text.now ≤ most_bytes }
-    ensures { OnOk result (out.new.items ≡ out.old.items ++ spec.hunks_from names.now player.old.plain.state (n + 1) (pieces_of 10 text.now)) }
+    ensures { Adds (spec.hunks_from names.now player.old.plain.state (n + 1) (pieces_of 10 text.now)) out.old out.new }
 {
     let mut number = n;
     let mut rest = text;
     while let Some((line, after)) = next_line(rest) {
         number += 1;
         if !player.play(names, number, line) {
-            put_hunk(out, number, line, player.own.as_slice())?;
+            put_hunk(out, number, line, player.own.as_slice());
         }
         rest = after;
     }
-    Ok(())
 }
 
 /// Adds what is shown of lines that differ, where this is the first of them.
-fn put_shown(out: &mut Vec<u8>, shown: Shown, names: &Names, stop: Stop) -> Result<(), AllocError>
+fn put_shown(out: &mut Text, shown: Shown, names: &Names, stop: Stop)
     requires steps { stop.player.plain.steps ≤ stop.number }
     requires count { stop.player.count ≡ stop.number }
     requires left { stop.number + length stop.rest.now ≤ most_bytes }
-    ensures { OnOk result (out.new.items ≡ out.old.items
-        ++ spec.shown_from shown names.now
-        (seen stop.entry.number stop.entry.line.now stop.entry.player.own stop.entry.player.plain.state (pieces_of 10 stop.entry.rest.now))) }
+    ensures { Adds (spec.shown_from shown names.now
+        (seen stop.entry.number stop.entry.line.now stop.entry.player.own stop.entry.player.plain.state (pieces_of 10 stop.entry.rest.now))) out.old out.new }
 {
     let Stop {
         mut player,
@@ -119,8 +110,8 @@ fn put_shown(out: &mut Vec<u8>, shown: Shown, names: &Names, stop: Stop) -> Resu
     match shown {
         Shown::First => put_pair(out, line, player.own.as_slice()),
         Shown::Each => {
-            put_hunk(out, number, line, player.own.as_slice())?;
-            put_hunks(out, &mut player, names, number, rest)
+            put_hunk(out, number, line, player.own.as_slice());
+            put_hunks(out, &mut player, names, number, rest);
         }
     }
 }
@@ -135,15 +126,19 @@ fn comparison_of(
 ) -> Result<Comparison, TextFault>
     ensures { GivesOrFails spec.found_of result (spec.found_in shown config.now text.now) }
 {
-    let mut found = Comparison {
-        verdict: Verdict::Yes,
-        lines: Vec::new(alloc),
+    let Some(stop) = walk(alloc, config, text, &mut Nobody {})? else {
+        return Ok(Comparison {
+            verdict: Verdict::Yes,
+            lines: Vec::new(alloc),
+        });
     };
-    if let Some(stop) = walk(alloc, config, text, &mut Nobody {})? {
-        found.verdict = Verdict::No(stop.number);
-        put_shown(&mut found.lines, shown, config.names(), stop)?;
-    }
-    Ok(found)
+    let verdict = Verdict::No(stop.number);
+    let mut lines = Text::new(alloc);
+    put_shown(&mut lines, shown, config.names(), stop);
+    Ok(Comparison {
+        verdict,
+        lines: lines.finish()?,
+    })
 }
 
 /// Compares a trace line by line with what the plain machine answers to the trace's own events, whatever it is that the

@@ -3,22 +3,17 @@ use Rattle.fmp_names.specs.Names.{AreValid}
 use Rattle.fmp_run_partial.proofs.Judged.{text_answers, text_complete, text_failed, text_fault, text_judged}
 use Rattle.fmp_run_partial.proofs.NoEnds.{no_longer}
 use Rattle.fmp_run_partial.proofs.PartlyPrinted.{whole_answers}
-use Rattle.fmp_run_partial.proofs.Played.{has_few, has_line}
+use Rattle.fmp_run_partial.proofs.Played.{has_few}
 use Rattle.fmp_run_partial.proofs.judging.judge_partial.Goals as goal
 
-pub show-requires-clause-few : goal.show-requires-clause-few
-show-requires-clause-few c =
-    has_few c.args.config.now c.split_ending-ends.result.0.now (subst AreValid c.names.ensures.value c.validity.ensures) c.in-Ok.finding.found
-    (option_map (λ v. v.items) c.in-Ok.finding.order) c.in-Ok.ensures.verdict
-
-pub show-requires-clause-line : goal.show-requires-clause-line
-show-requires-clause-line c =
-    has_line c.args.config.now c.split_ending-ends.result.0.now c.in-Ok.finding.found (option_map (λ v. v.items) c.in-Ok.finding.order) c.in-Ok.ensures.verdict
-
-pub show-requires-clause-short : goal.show-requires-clause-short
-show-requires-clause-short c =
+pub show-requires : goal.show-requires
+show-requires c =
     let fits = no_longer c.args.text.now c.split_ending-ends.result.0.now c.split_ending-ends.result.1 c.split_ending-ends.ensures in
-    omega (arith, fits, c.if-text-gt-MOST_BYTES.false)
+    record {
+      short = omega (arith, fits, c.if-text-gt-MOST_BYTES.false);
+      few = has_few c.args.config.now c.split_ending-ends.result.0.now (subst AreValid c.names.ensures.value c.validity.ensures) c.in-Ok.finding.found
+          (option_map (λ v. v.items) c.in-Ok.finding.order) c.in-Ok.ensures.verdict;
+    }
 
 pub returns-in_ok-show-in-Ok-clause-verdict : goal.returns-in_ok-show-in-Ok-clause-verdict
 returns-in_ok-show-in-Ok-clause-verdict c =

@@ -1,5 +1,5 @@
 use Rattle.std.proofs.Common.{◌≡◌, ◌++◌, length}
-use Rattle.fmp_run_partial.specs.Showing.{events_at}
+use Rattle.fmp_run_partial.specs.Playing.{events_at}
 use Rattle.fmp_run_partial.proofs.playing.events_at.Given as goal
 
 abbrev pub invariant-loop-line : goal.invariant-loop-line
