@@ -14,7 +14,7 @@ use fmp_cli_questions::{
     Answer, Reply, Row, RowFault, RowKind, Rows, judgement_of, junit_text, plain_line, read_rows,
     tap_head, tap_line,
 };
-use fmp_cli_runs::{reply_to, status_of};
+use fmp_cli_runs::{Replied, reply_to, status_of};
 use fmp_config::Config;
 use fmp_run_events::{MemSource, Status};
 use fmp_run_explore::{Outcome, Progress};
@@ -210,6 +210,45 @@ fn misfits<D: Desk>(
     }
 }
 
+/// What is asked of one question.
+fn asked_of<'x>(asking: &Asking<'x>, row: &'x Row) -> ExploreRequest<'x> {
+    ExploreRequest {
+        question: str::from_utf8(row.question()).unwrap_or(""),
+        ..asking.request
+    }
+}
+
+/// Searches for what is asked of one question.
+fn reply_of<D: Desk>(
+    desk: &D,
+    texts: &Texts,
+    request: &ExploreRequest<'_>,
+    progress: &mut ProgressLine<'_, D>,
+) -> Result<Replied, Ending> {
+    let run = reply_to(
+        desk.alloc(),
+        texts.config.as_slice(),
+        texts.scripts.as_slice(),
+        request,
+        progress,
+    );
+    settled(run, false)
+}
+
+/// Writes the trace that shows a question, where one does and that is asked for.
+fn put_trace<D: Desk>(
+    desk: &D,
+    folder: Option<&str>,
+    row: &Row,
+    replied: &Replied,
+) -> Result<(), Ending> {
+    if let (Answer::Shown(_), Some(folder)) = (replied.answer, folder) {
+        let name = str::from_utf8(row.name()).unwrap_or("");
+        trace_put(desk, folder, name, replied.trace.as_slice())?;
+    }
+    Ok(())
+}
+
 /// The answer to a question, whose trace is written where that is asked for. A question that is not begun in time is not searched for.
 fn answered<'x, D: Desk>(
     desk: &D,
@@ -221,22 +260,9 @@ fn answered<'x, D: Desk>(
     if Progress::is_over(progress) {
         return Ok((Answer::NotWithin(0), None));
     }
-    let request = ExploreRequest {
-        question: str::from_utf8(row.question()).unwrap_or(""),
-        ..asking.request
-    };
-    let run = reply_to(
-        desk.alloc(),
-        texts.config.as_slice(),
-        texts.scripts.as_slice(),
-        &request,
-        progress,
-    );
-    let replied = settled(run, false)?;
-    if let (Answer::Shown(_), Some(folder)) = (replied.answer, request.traces) {
-        let name = str::from_utf8(row.name()).unwrap_or("");
-        trace_put(desk, folder, name, replied.trace.as_slice())?;
-    }
+    let request = asked_of(asking, row);
+    let replied = reply_of(desk, texts, &request, progress)?;
+    put_trace(desk, request.traces, row, &replied)?;
     Ok((replied.answer, replied.outcome))
 }
 

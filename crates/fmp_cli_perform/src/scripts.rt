@@ -42,11 +42,19 @@ enum SeedReported {
 }
 
 impl SeedReported {
+    /// What is reported of a seed that was found, whose line shows what is asked, if something is.
+    fn of_found(seed: u64, line: usize, asked: bool) -> SeedReported {
+        if asked {
+            SeedReported::Shown(seed, line)
+        } else {
+            SeedReported::Found(seed)
+        }
+    }
+
     /// What is reported of the runs of many seeds, where a question was asked or was not.
     fn of(search: &SeedSearch, asked: bool) -> SeedReported {
         match search {
-            SeedSearch::Found(found) if asked => SeedReported::Shown(found.seed, found.line),
-            SeedSearch::Found(found) => SeedReported::Found(found.seed),
+            SeedSearch::Found(found) => SeedReported::of_found(found.seed, found.line, asked),
             SeedSearch::Passed => SeedReported::Nothing,
             SeedSearch::Ended(seed) => SeedReported::Ended(*seed),
         }

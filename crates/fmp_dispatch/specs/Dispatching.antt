@@ -1,14 +1,23 @@
 -- The processors with the handlers that are due on them, and when one of them dispatches.
-use Rattle.std.specs.Prelude.{ℕ, Bool, false, ◌||◌, Option, List, [], replicate, is_some, if◌then◌else◌}
+use Rattle.std.specs.Prelude.{ℕ, Bool, false, ◌||◌, Option, List, [], length, replicate, is_some, if◌then◌else◌}
 use Rattle.fmp_codes.specs.declared.numbers.Proc.{Proc}
 use Rattle.fmp_codes.specs.declared.numbers.Task.{Task}
 use Rattle.fmp_codes.specs.declared.records.Runner.{Runner}
 use Rattle.fmp_rules.specs.declared.machine.Processor.{Processor}
+use Rattle.fmp_kernel_parts.specs.Digests.{added, added_all}
+use Rattle.fmp_kernel_same.specs.Digests.{added_runner, added_processor}
 use Rattle.fmp_rules.specs.World.{item, with_item, first, no_processor}
 
 pub record Dispatching : Type 0 where
   pub processors : List Processor
   pub due : List (List Runner)  -- the handlers that are due on each processor, the running one first
+
+-- what a digest is after the handlers that are due on a processor were added
+abbrev pub added_due : List Runner → ℕ → ℕ
+added_due due sum = added_all added_runner due (added sum (length due))
+
+abbrev pub added_dispatching : Dispatching → ℕ → ℕ
+added_dispatching d sum = added_all added_due d.due (added_all added_processor d.processors sum)
 
 -- so many processors, on which nothing runs and nothing is due
 abbrev pub idle : ℕ → Dispatching

@@ -1,7 +1,7 @@
 //! All processors, and what may run on them.
 ghost use Rattle.std.specs.Prelude.{◌≡◌, ◌≤◌, ◌<◌, ◌++◌, ◌∷◌, [], length, replicate, true, false};
 ghost use Rattle.fmp_rules.specs.World.{first, rest, no_processor};
-ghost use Rattle.fmp_dispatch.specs.Dispatching.{idle, processor_in, with_processor_in, due_on, with_due_on, with_lock_in};
+ghost use Rattle.fmp_dispatch.specs.Dispatching.{idle, processor_in, with_processor_in, due_on, with_due_on, with_lock_in, added_dispatching};
 
 use crate::due::{Due, nothing_due};
 use arrayvec::ArrayVec;
@@ -147,6 +147,8 @@ impl Dispatch {
 
 impl Part for Dispatch {
     ghost fits = { λ a b. length a.processors ≡ length b.processors };
+
+    ghost digested = { λ d sum. added_dispatching d sum };
 
     fn is_same(&self, other: &Self) -> bool {
         are_equal(self.processors.as_slice(), other.processors.as_slice())

@@ -1,5 +1,6 @@
 //! The handlers that are due on a processor.
 ghost use Rattle.std.specs.Prelude.{◌≡◌, ◌<◌, ◌≤◌, ◌++◌, ◌∷◌, [], length, replicate};
+ghost use Rattle.fmp_dispatch.specs.Dispatching.{added_due};
 ghost use Rattle.fmp_rules.specs.World.{first, rest};
 
 use arrayvec::ArrayVec;
@@ -88,6 +89,8 @@ impl Default for Due {
 impl Part for Due {
     ghost fits = { λ a b. Unit {0} };
 
+    ghost digested = { λ due sum. added_due due sum };
+
     /// Whether the same handlers are due, wherever in the ring they stand.
     fn is_same(&self, other: &Self) -> bool {
         if self.len == 0 && other.len == 0 {
@@ -106,9 +109,12 @@ impl Part for Due {
     }
 
     fn add_to(&self, digest: &mut Digest) {
-        digest.add(self.len as u64);
-        if 0 < self.len {
-            add_each(self.list().as_slice(), digest);
+        if self.len == 0 {
+            digest.add(0);
+        } else {
+            let list = self.list();
+            digest.add(list.len() as u64);
+            add_each(list.as_slice(), digest);
         }
     }
 }

@@ -7,11 +7,12 @@
 //! `Dtq::new` takes the memory for as many values as the configuration says. No other call allocates.
 #![tactic(auto)]
 
-ghost use Rattle.std.specs.Prelude.{◌≡◌, ◌≤◌, ◌<◌, ◌++◌, ◌∷◌, [], length, map, slice_get, ℤ, Some, IfOk, IsTrue};
+ghost use Rattle.std.specs.Prelude.{◌≡◌, ◌↔◌, ◌≤◌, ◌<◌, ◌++◌, ◌∷◌, [], length, map, slice_get, ℤ, Some, IfOk, IsTrue};
 ghost use Rattle.fmp_rules.specs.World.{first, rest};
+ghost use Rattle.fmp_kernel_parts.specs.Digests.{added_all};
 ghost use Rattle.fmp_kernel_parts.specs.Tasks.{AreDistinct};
 ghost use Rattle.fmp_waitq.specs.Queue.{task_of, has_waiter, left_by, joined_by, waiter_of};
-ghost use Rattle.fmp_dtq.specs.DataQueue.{sender, receiver};
+ghost use Rattle.fmp_dtq.specs.DataQueue.{added_value, added_queue, sender, receiver};
 ghost use Rattle.fmp_dtq.specs.Served.{IsServed};
 
 mod operations;
@@ -173,7 +174,7 @@ impl Dtq {
 
 /// Whether there are two values, and they are the same.
 fn are_both(one: Option<i64>, other: Option<i64>) -> bool
-    ensures { IsTrue result → (v : ℤ) × (one ≡ Some v) × (other ≡ Some v) }
+    ensures { IsTrue result ↔ ((v : ℤ) × (one ≡ Some v) × (other ≡ Some v)) }
 {
     match (one, other) {
         (Some(one), Some(other)) => one == other,
@@ -184,7 +185,7 @@ fn are_both(one: Option<i64>, other: Option<i64>) -> bool
 /// Whether two rings have the same values.
 #[tactic(auto, using(crate::proofs::Values::one_more))]
 fn are_same_values(one: &HeapCircularBuffer<i64>, other: &HeapCircularBuffer<i64>) -> bool
-    ensures { IsTrue result → one.now.items ≡ other.now.items }
+    ensures { IsTrue result ↔ (one.now.items ≡ other.now.items) }
 {
     if one.len() != other.len() {
         return false;
@@ -195,6 +196,15 @@ fn are_same_values(one: &HeapCircularBuffer<i64>, other: &HeapCircularBuffer<i64
         }
     }
     true
+}
+
+/// Adds values to a digest.
+fn add_values(values: &[i64], digest: &mut Digest)
+    ensures { digest.new ≡ added_all added_value values.now digest.old }
+{
+    for value in values {
+        digest.add(value.cast_unsigned());
+    }
 }
 
 /// A ring gets the values of another one, for which it has the places.
@@ -212,6 +222,8 @@ fn copy_values(values: &mut HeapCircularBuffer<i64>, others: &HeapCircularBuffer
 impl Part for Dtq {
     ghost fits = { λ a b. b.setup.capacity ≤ a.setup.capacity };
 
+    ghost digested = { λ q sum. added_queue q sum };
+
     fn is_same(&self, other: &Self) -> bool {
         are_same_values(&self.values, &other.values)
             && self.senders.is_same(&other.senders)
@@ -227,9 +239,9 @@ impl Part for Dtq {
     }
 
     fn add_to(&self, digest: &mut Digest) {
-        for value in self.values.iter() {
-            digest.add(value.cast_unsigned());
-        }
+        let (front, back) = self.values.as_slices();
+        add_values(front, digest);
+        add_values(back, digest);
         self.senders.add_to(digest);
         self.receivers.add_to(digest);
     }

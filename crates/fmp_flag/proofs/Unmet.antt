@@ -3,7 +3,6 @@ use Rattle.std.proofs.Common.{◌≡◌, ℕ, ◌⊎◌, inl, inr, ◌||◌, ◌
 use Rattle.std.specs.Prelude.{nat_lt, bit_or}
 use Rattle.std.proofs.lemmas.Bool.{cases_eq, cond_both, ne_eqb}
 use Rattle.fmp_codes.specs.declared.numbers.Task.{Task}
-use Rattle.fmp_codes.specs.declared.calls.Mode.TheVariants as mode
 use Rattle.fmp_rules.specs.World.{item}
 use Rattle.fmp_rules.specs.Objects.{holds}
 use Rattle.fmp_rules.proofs.Patterns.{unmet_with_none}

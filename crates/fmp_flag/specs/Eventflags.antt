@@ -3,14 +3,19 @@ use Rattle.std.specs.Prelude.{◌≡◌, ℕ, Bool, true, false, Option, None, S
 use Rattle.fmp_codes.specs.declared.numbers.Task.{Task}
 use Rattle.fmp_codes.specs.declared.calls.Mode.TheVariants as mode
 use Rattle.fmp_rules.specs.declared.machine.Eventflag.{Eventflag}
+use Rattle.fmp_kernel_parts.specs.Digests.{added}
 use Rattle.fmp_rules.specs.World.{first, item}
 use Rattle.fmp_rules.specs.Objects.{holds}
-use Rattle.fmp_waitq.specs.Queue.{Waiter, task_of, has_waiter, left_by}
+use Rattle.fmp_waitq.specs.Queue.{Waiter, task_of, added_waiters, has_waiter, left_by}
 use Rattle.fmp_flag.specs.declared.wanted.Wanted.{Wanted}
 
 pub record EventflagState : Type 0 where
   pub eventflag : Eventflag
   pub waiters : List Waiter
+
+-- what a digest is after it was added, with nothing of what the configuration says of it
+abbrev pub added_eventflag : EventflagState → ℕ → ℕ
+added_eventflag s sum = added_waiters s.waiters (added sum s.eventflag.pattern)
 
 -- the first task that waits
 abbrev pub waiter : EventflagState → Option Task

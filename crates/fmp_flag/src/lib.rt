@@ -9,7 +9,7 @@
 ghost use Rattle.std.specs.Prelude.{◌≡◌, List, map, []};
 ghost use Rattle.fmp_kernel_parts.specs.Tasks.{AreDistinct};
 ghost use Rattle.fmp_waitq.specs.Queue.{task_of, has_waiter, left_by, joined_by, waiter_of};
-ghost use Rattle.fmp_flag.specs.Eventflags.{waiter, with_pattern, WaitsUnmet};
+ghost use Rattle.fmp_flag.specs.Eventflags.{added_eventflag, waiter, with_pattern, WaitsUnmet};
 ghost use Rattle.fmp_flag.specs.declared.wanted.Wanted.{Wanted as AnyWanted};
 
 mod operations;
@@ -108,6 +108,8 @@ impl Flag {
 
 impl Part for Flag {
     ghost fits = { λ a b. Unit {0} };
+
+    ghost digested = { λ s sum. added_eventflag s sum };
 
     fn is_same(&self, other: &Self) -> bool {
         self.pattern == other.pattern

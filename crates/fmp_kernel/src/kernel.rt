@@ -12,6 +12,7 @@ ghost use Rattle.fmp_kernel_order.specs.Queues.{listed, no_queues};
 ghost use Rattle.fmp_law_lists.specs.Stands.{Stands};
 ghost use Rattle.fmp_law_lists.specs.Laws.{ListsAreRight};
 ghost use Rattle.fmp_kernel_machine.specs.Alike.{AreAlike};
+ghost use Rattle.fmp_kernel.specs.Hashed.{hashed};
 
 use fmp_codes::{Answer, Event, Record};
 use fmp_kernel_machine::KernelMachine;
@@ -133,10 +134,9 @@ impl Kernel {
         &self.machine
     }
 
-    /// Whether it is the same as another kernel, so that both answer all events alike. Where it says no, contracts may see the
-    /// same all the same.
+    /// Whether it is the same as another kernel, so that both answer all events alike.
     pub fn is_same(&self, other: &Kernel) -> bool
-        ensures { IsTrue result → self.now ≡ other.now }
+        ensures { IsTrue result ↔ (self.now ≡ other.now) }
     {
         self.machine.is_same(&other.machine)
     }
@@ -157,7 +157,10 @@ impl Kernel {
 
     /// A number that is the same for kernels that are the same. Others may have the same number too, so no answer may depend
     /// on it.
-    pub fn hash(&self) -> u64 {
+    #[tactic(auto, unfolding(crate::specs::Hashed::hashed))]
+    pub fn hash(&self) -> u64
+        ensures { result ≡ hashed self.now }
+    {
         let mut digest = Digest::new();
         self.machine.add_to(&mut digest);
         digest.value()

@@ -12,7 +12,7 @@ use Rattle.fmp_rules.specs.Objects.{no_cyclic}
 use Rattle.fmp_rules.specs.World.{no_task}
 use Rattle.fmp_time.specs.Left.{Left, ticks_of}
 use Rattle.fmp_kernel_assigned.specs.Assignments.{lefts, blank_cyclic, blank_alarm}
-use Rattle.fmp_kernel_assigned.specs.Counting.{IsAt, AreInStep}
+use Rattle.fmp_kernel_assigned.specs.Counting.{IsAt, IsUnseen, AreInStep}
 use Rattle.fmp_kernel_assigned.specs.Starting.{first_cyclic, start_left, started_at}
 use Rattle.fmp_kernel_assigned.proofs.Lefts.{length-lefts, lefts-at}
 
@@ -74,6 +74,7 @@ module _ (cyclics : List Cyclic) (left : List (Option Left)) (few : length cycli
     tasks_at = λ i l. subst (IsAt (get_or tasks i no_task).assigned) (sym (low (0 + i) (omega (arith, l, few_tasks)))) tt;
     cyclics_at = λ i l. subst (IsAt (get_or cyclics i blank_cyclic).assigned) (sym (high i l)) (start_at (get_or cyclics i blank_cyclic));
     alarms_at = λ i l. subst (IsAt (get_or alarms i blank_alarm).assigned) (sym (low (64 + i) (omega (arith, l, few_alarms)))) tt;
+    no_tasks = λ k f g. subst IsUnseen (sym (low k (omega (arith, g)))) tt;
     no_cyclics = past;
     no_alarms = λ k f g. low k g;
     few_tasks = few_tasks;

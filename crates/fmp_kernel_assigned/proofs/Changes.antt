@@ -1,6 +1,6 @@
 -- What each change of the timers shows.
 use Rattle.std.proofs.Common.{◌≡◌, ℕ, ◌+◌, ◌-◌, ◌<◌, ◌≤◌, ◌==◌, ◌++◌, ◌∷◌, [], Bool, true, false, cond, Option, Some, None, List, length, set, get_or, refl, sym, ap, ◌∙◌, subst, arith, ⊎_elim}
-use Rattle.std.specs.Prelude.{option_map, is_some}
+use Rattle.std.specs.Prelude.{option_map, is_some, IfSome}
 use Rattle.std.proofs.lemmas.Bool.{cases_eq, eq-eqb, ne_eqb}
 use Rattle.std.proofs.lemmas.List.{length-set, set-get_or, set_past, get_or_past}
 use Rattle.fmp_codes.specs.declared.numbers.Proc.{Proc}
@@ -18,9 +18,9 @@ use Rattle.fmp_time.specs.declared.item.Item.TheVariants.{Wait, Alarm as AlarmIt
 use Rattle.fmp_time.specs.Left.{Left, ticks_of}
 use Rattle.fmp_time.specs.Times.{Times, left_of, moved, moved_to, cancelled, renewed}
 use Rattle.fmp_kernel_assigned.specs.Assignments.{Assignments, assignments_of, lefts, blank_cyclic, blank_alarm, cyclic_in, alarm_in}
-use Rattle.fmp_kernel_assigned.specs.Counting.{IsAt, NoneCounts, AreInStep, followed, with_left}
+use Rattle.fmp_kernel_assigned.specs.Counting.{IsAt, NoneCounts, IsUnseen, AreInStep, followed, with_left, shown_left}
 use Rattle.fmp_kernel_assigned.proofs.Lefts.{length-lefts, lefts-at, lefts-set, lefts-past, lefts-moved}
-use Rattle.fmp_kernel_assigned.proofs.Standing.{at_same, at_moved, at-past, at-set, at-write, at-both, none-set}
+use Rattle.fmp_kernel_assigned.proofs.Standing.{at_same, at_moved, at-past, at-set, at-write, at-both, none-set, unseen-set}
 
 -- assignments are the same where their lists are
 pub made : (timer : Timer) (tasks : List TaskRecord) (cyclics : List Cyclic) (alarms : List Alarm) (w v c d a b : List (Option ℕ)) (t u : List Task) → w ≡ v → t ≡ u → c ≡ d → a ≡ b →
@@ -60,11 +60,12 @@ module _ (timer : Timer) (tasks : List TaskRecord) (cyclics : List Cyclic) (alar
       (lefts-past m.left 96 (length cyclics) (t.number - 1) l (λ i h e. apart-wait t 96 i (omega arith) e))
       (lefts-past m.left 64 (length alarms) (t.number - 1) l (λ i h e. apart-wait t 64 i (omega arith) e))
 
-  pub wait_step : (t : Task) (l : Option Left) → IsAt (item no_task tasks t.number).assigned l → AreInStep tasks cyclics alarms (set m.left (t.number - 1) l)
-  wait_step t l h = record {
+  pub wait_step : (t : Task) (l : Option Left) → IsAt (item no_task tasks t.number).assigned l → (length tasks ≤ t.number - 1 → IsUnseen l) → AreInStep tasks cyclics alarms (set m.left (t.number - 1) l)
+  wait_step t l h unseen = record {
     tasks_at = at-set (λ r. r.assigned) no_task tasks m.left 0 s.tasks_at (t.number - 1) (t.number - 1) l (wait_in t) (omega arith) (λ low. h);
     cyclics_at = at-past (λ c. c.assigned) blank_cyclic cyclics m.left 96 s.cyclics_at (t.number - 1) l (λ i low e. apart-wait t 96 i (omega arith) e);
     alarms_at = at-past (λ a. a.assigned) blank_alarm alarms m.left 64 s.alarms_at (t.number - 1) l (λ i low e. apart-wait t 64 i (omega arith) e);
+    no_tasks = unseen-set m.left (length tasks) 64 (t.number - 1) l s.no_tasks (λ past high. unseen past);
     no_cyclics = none-wait t l (96 + length cyclics) 128 (omega arith) s.no_cyclics;
     no_alarms = none-wait t l (64 + length alarms) 96 (omega arith) s.no_alarms;
     few_tasks = s.few_tasks;
@@ -73,14 +74,44 @@ module _ (timer : Timer) (tasks : List TaskRecord) (cyclics : List Cyclic) (alar
     all = length-set m.left (t.number - 1) l ∙ s.all;
   }
 
-  pub begun : (t : Task) (p : Proc) (left : Option ℕ) → assignments_of timer tasks cyclics alarms (with_left m p (Wait t) left)
-      ≡ record (assignments_of timer tasks cyclics alarms m) { waits_left = with_item (lefts m.left 0 (length tasks)) t.number left; timed = timed_by left t m.waits }
-  begun t p None = wait_set t None (without t m.waits)
-  begun t p (Some n) = wait_set t (Some (record { processor = p; ticks = n })) (without t m.waits ++ t ∷ [])
+  shown_same : (b : Bool) (t : Task) (left : Option ℕ) → (b ≡ false → length tasks ≤ t.number - 1) →
+      with_item (lefts m.left 0 (length tasks)) t.number (shown_left b left) ≡ with_item (lefts m.left 0 (length tasks)) t.number left
+  shown_same true t left h = refl
+  shown_same false t left h =
+      let past : length (lefts m.left 0 (length tasks)) ≤ t.number - 1 = omega (arith, h refl, length-lefts m.left 0 (length tasks)) in
+      set_past (lefts m.left 0 (length tasks)) (t.number - 1) (shown_left false left) past ∙ sym (set_past (lefts m.left 0 (length tasks)) (t.number - 1) left past)
 
-  pub begun_step : (t : Task) (p : Proc) (left : Option ℕ) → p ≡ (item no_task tasks t.number).assigned → AreInStep tasks cyclics alarms (with_left m p (Wait t) left).left
-  begun_step t p None e = wait_step t None tt
-  begun_step t p (Some n) e = wait_step t (Some (record { processor = p; ticks = n })) (ap (λ (q : Proc). q.number) e)
+  shown_timed : (b : Bool) (t : Task) (left : Option ℕ) → timed_by (shown_left b left) t m.waits ≡ timed_by left t m.waits
+  shown_timed true t left = refl
+  shown_timed false t None = refl
+  shown_timed false t (Some n) = refl
+
+  set_is : (t : Task) (p : Proc) (left : Option ℕ) → assignments_of timer tasks cyclics alarms (with_left m p (Wait t) left)
+      ≡ record (assignments_of timer tasks cyclics alarms m) { waits_left = with_item (lefts m.left 0 (length tasks)) t.number left; timed = timed_by left t m.waits }
+  set_is t p None = wait_set t None (without t m.waits)
+  set_is t p (Some n) = wait_set t (Some (record { processor = p; ticks = n })) (without t m.waits ++ t ∷ [])
+
+  set_step : (t : Task) (p : Proc) (left : Option ℕ) → p ≡ (item no_task tasks t.number).assigned → (length tasks ≤ t.number - 1 → IfSome left (λ n. n ≡ 0)) →
+      AreInStep tasks cyclics alarms (with_left m p (Wait t) left).left
+  set_step t p None e none = wait_step t None tt (λ past. tt)
+  set_step t p (Some n) e none = wait_step t (Some (record { processor = p; ticks = n })) (ap (λ (q : Proc). q.number) e)
+      (λ past. (ap (λ (q : Proc). q.number) (e ∙ ap (λ (r : TaskRecord). r.assigned) (get_or_past tasks (t.number - 1) no_task past)), none past))
+
+  none_shown : (left : Option ℕ) → IfSome (shown_left false left) (λ n. n ≡ 0)
+  none_shown None = tt
+  none_shown (Some n) = refl
+
+  shown_none : (b : Bool) (t : Task) (left : Option ℕ) → (b ≡ true → t.number - 1 < length tasks) → length tasks ≤ t.number - 1 → IfSome (shown_left b left) (λ n. n ≡ 0)
+  shown_none true t left h past = absurd (omega (arith, h refl, past))
+  shown_none false t left h past = none_shown left
+
+  pub begun : (t : Task) (p : Proc) (b : Bool) (left : Option ℕ) → (b ≡ false → length tasks ≤ t.number - 1) → assignments_of timer tasks cyclics alarms (with_left m p (Wait t) (shown_left b left))
+      ≡ record (assignments_of timer tasks cyclics alarms m) { waits_left = with_item (lefts m.left 0 (length tasks)) t.number left; timed = timed_by left t m.waits }
+  begun t p b left h = set_is t p (shown_left b left) ∙ made timer tasks cyclics alarms _ _ _ _ _ _ _ _ (shown_same b t left h) (shown_timed b t left) refl refl
+
+  pub begun_step : (t : Task) (p : Proc) (b : Bool) (left : Option ℕ) → (b ≡ true → t.number - 1 < length tasks) → p ≡ (item no_task tasks t.number).assigned →
+      AreInStep tasks cyclics alarms (with_left m p (Wait t) (shown_left b left)).left
+  begun_step t p b left h e = set_step t p (shown_left b left) e (shown_none b t left h)
 
   -- A cyclic handler.
 
@@ -105,6 +136,7 @@ module _ (timer : Timer) (tasks : List TaskRecord) (cyclics : List Cyclic) (alar
     tasks_at = at-past (λ r. r.assigned) no_task tasks m.left 0 s.tasks_at (96 + (o.number - 1)) l (λ i low e. apart-cyclic o 0 i (length tasks) low (omega (arith, s.few_tasks)) e);
     cyclics_at = at-set (λ c. c.assigned) blank_cyclic cyclics m.left 96 s.cyclics_at (96 + (o.number - 1)) (o.number - 1) l (cyclic_in_left o) refl (λ low. h);
     alarms_at = at-past (λ a. a.assigned) blank_alarm alarms m.left 64 s.alarms_at (96 + (o.number - 1)) l (λ i low e. apart-cyclic o 64 i (length alarms) low (omega (arith, s.few_alarms)) e);
+    no_tasks = unseen-set m.left (length tasks) 64 (96 + (o.number - 1)) l s.no_tasks (λ f g. absurd (omega (arith, g)));
     no_cyclics = none-set m.left (96 + length cyclics) 128 (96 + (o.number - 1)) l s.no_cyclics (λ f g. absurd (omega (arith, f, here)));
     no_alarms = none-set m.left (64 + length alarms) 96 (96 + (o.number - 1)) l s.no_alarms (λ f g. absurd (omega (arith, g)));
     few_tasks = s.few_tasks;
@@ -160,6 +192,7 @@ module _ (timer : Timer) (tasks : List TaskRecord) (cyclics : List Cyclic) (alar
     tasks_at = at-past (λ r. r.assigned) no_task tasks m.left 0 s.tasks_at (64 + (o.number - 1)) l (λ i low e. apart-alarm o i (length tasks) low s.few_tasks e);
     cyclics_at = at-past (λ c. c.assigned) blank_cyclic cyclics m.left 96 s.cyclics_at (64 + (o.number - 1)) l (λ i low e. beside-alarm o i e);
     alarms_at = at-set (λ a. a.assigned) blank_alarm alarms m.left 64 s.alarms_at (64 + (o.number - 1)) (o.number - 1) l (alarm_in_left o) refl (λ low. h);
+    no_tasks = unseen-set m.left (length tasks) 64 (64 + (o.number - 1)) l s.no_tasks (λ f g. absurd (omega (arith, g)));
     no_cyclics = none-alarm o l;
     no_alarms = none-set m.left (64 + length alarms) 96 (64 + (o.number - 1)) l s.no_alarms (λ f g. absurd (omega (arith, f, here)));
     few_tasks = s.few_tasks;
@@ -231,6 +264,7 @@ module _ (timer : Timer) (tasks : List TaskRecord) (cyclics : List Cyclic) (alar
 
   noted_step_same : (t : Task) (r : TaskRecord) → r.assigned.number ≡ (item no_task tasks t.number).assigned.number → AreInStep (with_item tasks t.number r) cyclics alarms m.left
   noted_step_same t r e = record {
+    no_tasks = λ k f. s.no_tasks k (omega (arith, f, length-set tasks (t.number - 1) r));
     tasks_at = at-write (λ r. r.assigned) no_task tasks m.left 0 s.tasks_at (t.number - 1) r
         (λ low. at_same r.assigned (item no_task tasks t.number).assigned (get_or m.left (0 + (t.number - 1)) None) e (s.tasks_at (t.number - 1) low));
     cyclics_at = s.cyclics_at;
@@ -243,8 +277,10 @@ module _ (timer : Timer) (tasks : List TaskRecord) (cyclics : List Cyclic) (alar
     all = s.all;
   }
 
-  noted_step_moved : (t : Task) (r : TaskRecord) → AreInStep (with_item tasks t.number r) cyclics alarms (moved_to m (Wait t) r.assigned).left
-  noted_step_moved t r = record {
+  noted_step_moved : (t : Task) (r : TaskRecord) → t.number - 1 < length tasks → AreInStep (with_item tasks t.number r) cyclics alarms (moved_to m (Wait t) r.assigned).left
+  noted_step_moved t r here = record {
+    no_tasks = unseen-set m.left (length (with_item tasks t.number r)) 64 (t.number - 1) (moved r.assigned (left_of m (Wait t)))
+        (λ k f. s.no_tasks k (omega (arith, f, length-set tasks (t.number - 1) r))) (λ f g. absurd (omega (arith, f, here, length-set tasks (t.number - 1) r)));
     tasks_at = at-both (λ r. r.assigned) no_task tasks m.left 0 s.tasks_at (t.number - 1) (t.number - 1) r (moved r.assigned (left_of m (Wait t))) (wait_in t) (omega arith)
         (at_moved r.assigned (left_of m (Wait t)));
     cyclics_at = at-past (λ c. c.assigned) blank_cyclic cyclics m.left 96 s.cyclics_at (t.number - 1) (moved r.assigned (left_of m (Wait t))) (λ i low e. apart-wait t 96 i (omega arith) e);
@@ -263,13 +299,17 @@ module _ (timer : Timer) (tasks : List TaskRecord) (cyclics : List Cyclic) (alar
       as (λ (b : Bool). assignments_of timer (with_item tasks t.number r) cyclics alarms (cond b m (moved_to m (Wait t) r.assigned)) ≡ record (assignments_of timer tasks cyclics alarms m) { tasks = with_item tasks t.number r })
       [ true ↦ noted_same t r | false ↦ noted_moved t r ]
 
-  pub noted_step : (t : Task) (r : TaskRecord) → AreInStep (with_item tasks t.number r) cyclics alarms (followed m (Wait t) (item no_task tasks t.number).assigned r.assigned).left
-  noted_step t r = ⊎_elim
+  pub noted_step : (t : Task) (r : TaskRecord) → t.number - 1 < length tasks → AreInStep (with_item tasks t.number r) cyclics alarms (followed m (Wait t) (item no_task tasks t.number).assigned r.assigned).left
+  noted_step t r here = ⊎_elim
       (λ (e : r.assigned.number ≡ (item no_task tasks t.number).assigned.number).
       subst (λ (b : Bool). AreInStep (with_item tasks t.number r) cyclics alarms (cond b m (moved_to m (Wait t) r.assigned)).left) (sym (eq-eqb _ _ e)) (noted_step_same t r e))
       (λ (e : r.assigned.number ≡ (item no_task tasks t.number).assigned.number → ⊥).
-      subst (λ (b : Bool). AreInStep (with_item tasks t.number r) cyclics alarms (cond b m (moved_to m (Wait t) r.assigned)).left) (sym (ne_eqb _ _ e)) (noted_step_moved t r))
+      subst (λ (b : Bool). AreInStep (with_item tasks t.number r) cyclics alarms (cond b m (moved_to m (Wait t) r.assigned)).left) (sym (ne_eqb _ _ e)) (noted_step_moved t r here))
       (cases_eq r.assigned.number (item no_task tasks t.number).assigned.number)
+
+  -- where there is no such task
+  pub noted_past : (t : Task) (r : TaskRecord) → length tasks ≤ t.number - 1 → with_item tasks t.number r ≡ tasks
+  noted_past t r past = set_past tasks (t.number - 1) r past
 
   pub cyclic_moved : (o : Object) (p : Proc) (c : Cyclic) → assignments_of timer tasks (with_item cyclics o.number c) alarms (moved_to m (CyclicItem o) p)
       ≡ record (assignments_of timer tasks cyclics alarms m) { cyclics = with_item cyclics o.number c }
@@ -284,6 +324,7 @@ module _ (timer : Timer) (tasks : List TaskRecord) (cyclics : List Cyclic) (alar
     cyclics_at = at-both (λ c. c.assigned) blank_cyclic cyclics m.left 96 s.cyclics_at (96 + (o.number - 1)) (o.number - 1) c (moved p (left_of m (CyclicItem o))) (cyclic_in_left o) refl
         (subst (λ (q : Proc). IsAt q (moved p (left_of m (CyclicItem o)))) (sym e) (at_moved p (left_of m (CyclicItem o))));
     alarms_at = at-past (λ a. a.assigned) blank_alarm alarms m.left 64 s.alarms_at (96 + (o.number - 1)) (moved p (left_of m (CyclicItem o))) (λ i low e. apart-cyclic o 64 i (length alarms) low (omega (arith, s.few_alarms)) e);
+    no_tasks = unseen-set m.left (length tasks) 64 (96 + (o.number - 1)) (moved p (left_of m (CyclicItem o))) s.no_tasks (λ f g. absurd (omega (arith, g)));
     no_cyclics = none-set m.left (96 + length (with_item cyclics o.number c)) 128 (96 + (o.number - 1)) (moved p (left_of m (CyclicItem o)))
         (λ k f g. s.no_cyclics k (omega (arith, f, length-set cyclics (o.number - 1) c)) g)
         (λ f g. ap (moved p) (s.no_cyclics (96 + (o.number - 1)) (omega (arith, f, length-set cyclics (o.number - 1) c)) g));
@@ -307,6 +348,7 @@ module _ (timer : Timer) (tasks : List TaskRecord) (cyclics : List Cyclic) (alar
     cyclics_at = at-past (λ c. c.assigned) blank_cyclic cyclics m.left 96 s.cyclics_at (64 + (o.number - 1)) (moved p (left_of m (AlarmItem o))) (λ i low e. beside-alarm o i e);
     alarms_at = at-both (λ a. a.assigned) blank_alarm alarms m.left 64 s.alarms_at (64 + (o.number - 1)) (o.number - 1) a (moved p (left_of m (AlarmItem o))) (alarm_in_left o) refl
         (subst (λ (q : Proc). IsAt q (moved p (left_of m (AlarmItem o)))) (sym e) (at_moved p (left_of m (AlarmItem o))));
+    no_tasks = unseen-set m.left (length tasks) 64 (64 + (o.number - 1)) (moved p (left_of m (AlarmItem o))) s.no_tasks (λ f g. absurd (omega (arith, g)));
     no_cyclics = none-alarm o (moved p (left_of m (AlarmItem o)));
     no_alarms = none-set m.left (64 + length (with_item alarms o.number a)) 96 (64 + (o.number - 1)) (moved p (left_of m (AlarmItem o)))
         (λ k f g. s.no_alarms k (omega (arith, f, length-set alarms (o.number - 1) a)) g)

@@ -15,9 +15,9 @@ use Rattle.fmp_rules.specs.World.{no_task}
 use Rattle.fmp_time.specs.Left.{Left, ticks_of}
 use Rattle.fmp_time.specs.Times.{Times, lowered_on}
 use Rattle.fmp_kernel_assigned.specs.Assignments.{assignments_of, lefts, blank_cyclic, blank_alarm}
-use Rattle.fmp_kernel_assigned.specs.Counting.{IsAt, AreAt, AreInStep, less_one, less_below, fallen}
+use Rattle.fmp_kernel_assigned.specs.Counting.{IsAt, AreAt, IsUnseen, AreInStep, less_one, less_below, fallen}
 use Rattle.fmp_kernel_assigned.proofs.Lefts.{length-lefts, lefts-at}
-use Rattle.fmp_kernel_assigned.proofs.Standing.{at-map, none-map}
+use Rattle.fmp_kernel_assigned.proofs.Standing.{at-map, none-map, unseen-map}
 use Rattle.fmp_kernel_assigned.proofs.Changes.{made}
 
 -- One processor after the other.
@@ -135,6 +135,11 @@ fallen_at : (t : Timer) (p q : Proc) (l : Option Left) → IsAt q l → IsAt q (
 fallen_at t p q None h = tt
 fallen_at t p q (Some l) h = elim (counts_for t p l.processor) as (λ (b : Bool). IsAt q (cond b (less_one (Some l)) (Some l))) [ true ↦ h | false ↦ h ]
 
+fallen_unseen : (t : Timer) (p : Proc) (l : Option Left) → IsUnseen l → IsUnseen (fallen t p l)
+fallen_unseen t p None h = tt
+fallen_unseen t p (Some l) h = elim (counts_for t p l.processor) as (λ (b : Bool). IsUnseen (cond b (less_one (Some l)) (Some l)))
+    [ true ↦ (h.0, omega (arith, h.1)) | false ↦ h ]
+
 module _ (t : Timer) (tasks : List TaskRecord) (cyclics : List Cyclic) (alarms : List Alarm) (m : Times) (s : AreInStep tasks cyclics alarms m.left) (p : Proc) where
   pub fallen_is : assignments_of t tasks cyclics alarms (record { left = map (fallen t p) m.left; waits = m.waits })
       ≡ record (assignments_of t tasks cyclics alarms m) {
@@ -152,6 +157,7 @@ module _ (t : Timer) (tasks : List TaskRecord) (cyclics : List Cyclic) (alarms :
     tasks_at = at-map (λ r. r.assigned) no_task tasks m.left 0 s.tasks_at (fallen t p) (λ q l. fallen_at t p q l) (omega (arith, s.few_tasks, s.all));
     cyclics_at = at-map (λ c. c.assigned) blank_cyclic cyclics m.left 96 s.cyclics_at (fallen t p) (λ q l. fallen_at t p q l) (omega (arith, s.few_cyclics, s.all));
     alarms_at = at-map (λ a. a.assigned) blank_alarm alarms m.left 64 s.alarms_at (fallen t p) (λ q l. fallen_at t p q l) (omega (arith, s.few_alarms, s.all));
+    no_tasks = unseen-map m.left (length tasks) 64 (fallen t p) (omega (arith, s.all)) (fallen_unseen t p) s.no_tasks;
     no_cyclics = none-map m.left (96 + length cyclics) 128 (fallen t p) (omega (arith, s.all)) refl s.no_cyclics;
     no_alarms = none-map m.left (64 + length alarms) 96 (fallen t p) (omega (arith, s.all)) refl s.no_alarms;
     few_tasks = s.few_tasks;

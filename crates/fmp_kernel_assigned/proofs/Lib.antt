@@ -6,3 +6,4 @@ pub mod Among  -- Those whose time is over, among so many.
 pub mod Boot  -- What counts at boot.
 pub mod Least  -- The least ticks left.
 pub mod Untimed  -- Whether anything has ticks left.
+pub mod Telling  -- What is shown tells the timers.

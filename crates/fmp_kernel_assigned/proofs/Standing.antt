@@ -5,7 +5,7 @@ use Rattle.std.proofs.lemmas.List.{get_or-set_same, get_or-set_other, get_or_pas
 use Rattle.fmp_codes.specs.declared.numbers.Proc.{Proc}
 use Rattle.fmp_time.specs.Left.{Left}
 use Rattle.fmp_time.specs.Times.{moved}
-use Rattle.fmp_kernel_assigned.specs.Counting.{IsAt, AreAt, NoneCounts}
+use Rattle.fmp_kernel_assigned.specs.Counting.{IsAt, AreAt, NoneCounts, IsUnseen, AreUnseen}
 
 pub at_same : (p q : Proc) (l : Option Left) → p.number ≡ q.number → IsAt q l → IsAt p l
 at_same p q None e h = tt
@@ -71,3 +71,18 @@ none-set left from to k l h none = λ j low high. ⊎_elim
 -- what changes nothing where there is nothing
 pub none-map : (left : List (Option Left)) (from to : ℕ) (f : Option Left → Option Left) → to ≤ length left → f None ≡ None → NoneCounts left from to → NoneCounts (map f left) from to
 none-map left from to f few e h = λ j low high. get_or-map f left j None None (omega (arith, high, few)) ∙ ap f (h j low high) ∙ e
+
+-- another value, which is unseen where it is one of those that do not show
+pub unseen-set : (left : List (Option Left)) (from to k : ℕ) (l : Option Left) → AreUnseen left from to → (from ≤ k → k < to → IsUnseen l) → AreUnseen (set left k l) from to
+unseen-set left from to k l h unseen = λ j low high. ⊎_elim
+    (λ (f : j ≡ k). ⊎_elim
+    (λ (g : k < length left). subst IsUnseen (sym (ap (λ (u : ℕ). get_or (set left k l) u None) f ∙ get_or-set_same left k l None g)) (unseen (omega (arith, low, f)) (omega (arith, high, f))))
+    (λ (g : length left ≤ k). subst IsUnseen (sym (get_or_past (set left k l) j None (omega (arith, f, g, length-set left k l)))) tt)
+    (cases_lt k (length left)))
+    (λ (f : j ≡ k → ⊥). subst IsUnseen (sym (get_or-set_other left k j l None f)) (h j low high))
+    (cases_eq j k)
+
+-- what leaves it unseen
+pub unseen-map : (left : List (Option Left)) (from to : ℕ) (f : Option Left → Option Left) → to ≤ length left → ((l : Option Left) → IsUnseen l → IsUnseen (f l)) → AreUnseen left from to →
+    AreUnseen (map f left) from to
+unseen-map left from to f few stays h = λ j low high. subst IsUnseen (sym (get_or-map f left j None None (omega (arith, high, few)))) (stays (get_or left j None) (h j low high))

@@ -1,5 +1,6 @@
 -- The timers count on the processors to which things are assigned.
-use Rattle.std.specs.Prelude.{◌≡◌, ℕ, ◌+◌, ◌-◌, ◌<◌, ◌≤◌, Option, None, Some, List, length, nat_lt, slice_index_or, if◌then◌else◌, ◌==◌, min}
+use Rattle.std.specs.Prelude.{◌≡◌, ℕ, ◌+◌, ◌-◌, ◌<◌, ◌≤◌, ◌==◌, Bool, true, false, Option, None, Some, List, if◌then◌else◌}
+use Rattle.std.specs.Prelude.{length, nat_lt, slice_index_or, min, option_map}
 use Rattle.fmp_codes.specs.declared.numbers.Proc.{Proc}
 use Rattle.fmp_setup.specs.declared.setup.Timer.{Timer}
 use Rattle.fmp_rules.specs.declared.machine.TaskRecord.{TaskRecord}
@@ -25,10 +26,20 @@ AreAt assigned blank xs left place = (i : ℕ) → i < length xs → IsAt (assig
 abbrev pub NoneCounts : List (Option Left) → ℕ → ℕ → Type 0
 NoneCounts left from to = (k : ℕ) → from ≤ k → k < to → slice_index_or left k None ≡ None
 
+-- where something counts that does not show it has no ticks left, and is where it would be assigned
+abbrev pub IsUnseen : Option Left → Type 0
+IsUnseen None = Unit {0}
+IsUnseen (Some l) = (l.processor.number ≡ no_task.assigned.number) × (l.ticks ≡ 0)
+
+abbrev pub AreUnseen : List (Option Left) → ℕ → ℕ → Type 0
+AreUnseen left from to = (k : ℕ) → from ≤ k → k < to → IsUnseen (slice_index_or left k None)
+
 pub record AreInStep (tasks : List TaskRecord) (cyclics : List Cyclic) (alarms : List Alarm) (left : List (Option Left)) : Type 0 where
   pub tasks_at : AreAt (λ r. r.assigned) no_task tasks left 0
   pub cyclics_at : AreAt (λ c. c.assigned) blank_cyclic cyclics left 96
   pub alarms_at : AreAt (λ a. a.assigned) blank_alarm alarms left 64
+  -- tasks past the last one
+  pub no_tasks : AreUnseen left (length tasks) 64
   -- handlers past the last one
   pub no_cyclics : NoneCounts left (96 + length cyclics) 128
   pub no_alarms : NoneCounts left (64 + length alarms) 96
@@ -36,6 +47,11 @@ pub record AreInStep (tasks : List TaskRecord) (cyclics : List Cyclic) (alarms :
   pub few_cyclics : length cyclics ≤ 32
   pub few_alarms : length alarms ≤ 32
   pub all : length left ≡ 128
+
+-- so many ticks left as show
+abbrev pub shown_left : Bool → Option ℕ → Option ℕ
+shown_left true left = left
+shown_left false left = option_map (λ n. 0) left
 
 -- what counts goes on on another processor, if it is assigned to another one
 abbrev pub followed : Times → Item → Proc → Proc → Times

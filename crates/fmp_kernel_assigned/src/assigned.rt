@@ -9,9 +9,10 @@ ghost use Rattle.fmp_rules.specs.World.{item, with_item, no_task, resting};
 ghost use Rattle.fmp_kernel_parts.specs.Tasks.{has_task, without};
 ghost use Rattle.fmp_kernel_order.specs.Queues.{timed_by};
 ghost use Rattle.fmp_kernel_assigned.specs.Assignments.{cyclic_in, alarm_in, IsNextDue};
+ghost use Rattle.fmp_kernel_assigned.specs.Telling.{added_assignments};
 ghost use Rattle.fmp_kernel_assigned.specs.Starting.{first_cyclic, first_alarm};
 
-use crate::counting::{count_down, follow, least, set_left};
+use crate::counting::{count_down, follow, least, set_left, shown};
 use crate::expired::{objects_among, tasks_among};
 use crate::handlers::{
     assign_alarm_at, assign_cyclic_at, copy_alarms, copy_cyclics, first_alarms, first_cyclics,
@@ -166,9 +167,11 @@ impl Assigned {
     pub fn set_task(&mut self, t: Task, changed: TaskRecord)
         ensures { self.new ≡ record self.old { tasks = with_item self.old.tasks t.number changed } }
     {
-        let from = self.tasks.get(t).assigned;
-        follow(&mut self.timers, Item::Wait(t), from, changed.assigned);
-        self.tasks.set(t, changed);
+        if t.index() < self.tasks.len() {
+            let from = self.tasks.get(t).assigned;
+            follow(&mut self.timers, Item::Wait(t), from, changed.assigned);
+            self.tasks.set(t, changed);
+        }
     }
 
     /// A wait of a task begins, with so many ticks left or for ever. With ticks left it is the last that began.
@@ -176,6 +179,7 @@ impl Assigned {
         ensures { self.new ≡ record self.old { waits_left = with_item self.old.waits_left t.number left; timed = timed_by left t self.old.timed } }
     {
         let p = self.tasks.get(t).assigned;
+        let left = shown(t.index() < self.tasks.len(), left);
         set_left(&mut self.timers, p, Item::Wait(t), left);
     }
 
@@ -308,7 +312,11 @@ impl Assigned {
 impl Part for Assigned {
     ghost fits = { λ a b. Unit {0} };
 
+    ghost digested = { λ a sum. added_assignments a sum };
+
     fn is_same(&self, other: &Self) -> bool {
+        self.timers.know_waits();
+        other.timers.know_waits();
         self.tasks.is_same(&other.tasks)
             && self.timers.is_same(&other.timers)
             && are_equal(self.cyclics.as_slice(), other.cyclics.as_slice())
@@ -325,6 +333,7 @@ impl Part for Assigned {
     }
 
     fn add_to(&self, digest: &mut Digest) {
+        self.timers.know_waits();
         self.tasks.add_to(digest);
         add_each(self.cyclics.as_slice(), digest);
         add_each(self.alarms.as_slice(), digest);

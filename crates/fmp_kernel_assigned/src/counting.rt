@@ -2,7 +2,7 @@
 ghost use Rattle.std.specs.Prelude.{◌≡◌, map};
 ghost use Rattle.fmp_rules.specs.Due.{IsLeast};
 ghost use Rattle.fmp_time.specs.Times.{AreWaits};
-ghost use Rattle.fmp_kernel_assigned.specs.Counting.{followed, with_left, less_one, fallen, ticks_below, AreShown, lesser};
+ghost use Rattle.fmp_kernel_assigned.specs.Counting.{followed, with_left, less_one, fallen, ticks_below, AreShown, lesser, shown_left};
 
 use fmp_codes::Proc;
 use fmp_rules::Timer;
@@ -60,6 +60,13 @@ pub(crate) fn follow(timers: &mut Timers, item: Item, from: Proc, to: Proc)
     if to.number != from.number {
         timers.move_to(item, to);
     }
+}
+
+/// The ticks left where they show, and else 0 in their place.
+pub(crate) fn shown(shows: bool, left: Option<u64>) -> Option<u64>
+    ensures { result ≡ shown_left shows left }
+{
+    if shows { left } else { left.and(Some(0)) }
 }
 
 /// Gives an item so many ticks left on a processor, or lets it count no more.

@@ -10,6 +10,7 @@ ghost use Rattle.fmp_ready.specs.Queues.{bit_of};
 ghost use Rattle.fmp_rules.specs.Boot.{blank};
 ghost use Rattle.fmp_rules.specs.Due.{IsNextDue};
 ghost use Rattle.fmp_kernel_machine.specs.Alike.{AreAlike};
+ghost use Rattle.fmp_kernel_machine.specs.Digests.{added_world};
 ghost use Rattle.fmp_rules.specs.Objects.{pool, values};
 ghost use Rattle.fmp_rules.specs.World.{item};
 ghost use Rattle.fmp_kernel_order.specs.Queues.{listed, no_queues};
@@ -174,6 +175,9 @@ impl KernelMachine {
 impl Part for KernelMachine {
     ghost fits = { AreAlike };
 
+    ghost digested = { λ w sum. added_world w sum };
+
+    #[tactic(auto, using(fmp_codes::proofs::Same::priorities_same))]
     fn is_same(&self, other: &Self) -> bool {
         self.assigned.is_same(&other.assigned)
             && self.dispatch.is_same(&other.dispatch)
@@ -194,6 +198,7 @@ impl Part for KernelMachine {
         self.last_priority = other.last_priority;
     }
 
+    #[tactic(auto, unfolding(crate::specs::Digests::added_world))]
     fn add_to(&self, digest: &mut Digest) {
         self.assigned.add_to(digest);
         self.dispatch.add_to(digest);

@@ -1,5 +1,5 @@
 -- What is told of all objects of a kind, field by field: a look-up of it, and a change of one object.
-use Rattle.std.proofs.Common.{◌≡◌, ℕ, List, [], get_or, set, map, sym}
+use Rattle.std.proofs.Common.{◌≡◌, ℕ, List, [], ◌∷◌, get_or, set, map, refl, sym, ap, ◌∙◌}
 use Rattle.std.proofs.lemmas.List.{map-id, map-set, set-get_or}
 use Rattle.std.proofs.lemmas.Simd.{map-map}
 use Rattle.std.proofs.lemmas.Option.{unwrap_or-slice_get}
@@ -9,6 +9,8 @@ use Rattle.fmp_sem.specs.Semaphores.{SemaphoreState}
 use Rattle.fmp_flag.specs.Eventflags.{EventflagState}
 use Rattle.fmp_dtq.specs.DataQueue.{DataQueue}
 use Rattle.fmp_mpf.specs.MemoryPool.{MemoryPool}
+use Rattle.fmp_kernel_parts.specs.Digests.{added_all}
+use Rattle.fmp_kernel_objects.specs.Digests.{rows_of, with_values, with_senders, with_receivers}
 use Rattle.fmp_kernel_objects.specs.Kinds.{no_semaphore, no_eventflag, no_queue, no_pool}
 
 pub changed : {X Y : Type 0} (f : X → Y) (xs : List X) (i : ℕ) (x : X) → map f (set xs i x) ≡ set (map f xs) i (f x)
@@ -71,3 +73,31 @@ pub as_they_are : {X : Type 0} (xs : List X) → map (λ x. x) xs ≡ xs
 as_they_are xs = map-id xs
 
 pub ruleset made = (of_each, as_they_are)
+
+-- the rows of two columns of a list
+rows_told : {A B X Y : Type 0} (make : A → B → Y) (f : X → A) (g : X → B) (xs : List X) → rows_of make (map f xs) (map g xs) ≡ map (λ x. make (f x) (g x)) xs
+rows_told make f g [] = refl
+rows_told {A} {B} {X} {Y} make f g (x ∷ xs) = ap (λ (ys : List Y). make (f x) (g x) ∷ ys) (rows_told make f g xs)
+
+pub semaphores_told : (xs : List SemaphoreState) → rows_of (λ s es. record { semaphore = s; waiters = es }) (map (λ s. s.semaphore) xs) (map (λ s. s.waiters) xs) ≡ xs
+semaphores_told xs = rows_told (λ s es. record { semaphore = s; waiters = es }) (λ (s : SemaphoreState). s.semaphore) (λ s. s.waiters) xs ∙ map-id xs
+
+pub eventflags_told : (xs : List EventflagState) → rows_of (λ f es. record { eventflag = f; waiters = es }) (map (λ f. f.eventflag) xs) (map (λ f. f.waiters) xs) ≡ xs
+eventflags_told xs = rows_told (λ f es. record { eventflag = f; waiters = es }) (λ (f : EventflagState). f.eventflag) (λ f. f.waiters) xs ∙ map-id xs
+
+pub pools_told : (xs : List MemoryPool) → rows_of (λ m es. record { pool = m; waiters = es }) (map (λ m. m.pool) xs) (map (λ m. m.waiters) xs) ≡ xs
+pools_told xs = rows_told (λ m es. record { pool = m; waiters = es }) (λ (m : MemoryPool). m.pool) (λ m. m.waiters) xs ∙ map-id xs
+
+pub queues_told : (xs : List DataQueue) →
+    rows_of with_receivers (rows_of with_senders (rows_of with_values (map (λ q. q.setup) xs) (map (λ q. q.values) xs)) (map (λ q. q.senders) xs)) (map (λ q. q.receivers) xs) ≡ xs
+queues_told xs =
+    ap (λ (qs : List DataQueue). rows_of with_receivers (rows_of with_senders qs (map (λ q. q.senders) xs)) (map (λ q. q.receivers) xs))
+    (rows_told with_values (λ (q : DataQueue). q.setup) (λ q. q.values) xs)
+    ∙ ap (λ (qs : List DataQueue). rows_of with_receivers qs (map (λ q. q.receivers) xs))
+    (rows_told with_senders (λ (q : DataQueue). with_values q.setup q.values) (λ q. q.senders) xs)
+    ∙ rows_told with_receivers (λ (q : DataQueue). with_senders (with_values q.setup q.values) q.senders) (λ q. q.receivers) xs
+    ∙ map-id xs
+
+-- the same is added of equal lists, to equal digests
+pub all_same : {X : Type 0} (f : X → ℕ → ℕ) (xs ys : List X) (sum s t : ℕ) → sum ≡ added_all f xs s → s ≡ t → ys ≡ xs → sum ≡ added_all f ys t
+all_same {X} f xs ys sum s t e g h = e ∙ ap (added_all f xs) g ∙ ap (λ (zs : List X). added_all f zs t) (sym h)

@@ -1,5 +1,6 @@
 //! The list of all objects of a kind, each with the tasks that wait for it.
 ghost use Rattle.std.specs.Prelude.{◌≡◌, ◌≤◌, ◌<◌, ℕ, ◌-◌, List, [], length, map, option_copied, slice_get, slice_index_or, unwrap_or, IfOk};
+ghost use Rattle.fmp_kernel_parts.specs.Digests.{added_all};
 ghost use Rattle.fmp_setup.specs.declared.setup.Order.{Order};
 ghost use Rattle.fmp_rules.specs.World.{first, item, with_item};
 ghost use Rattle.fmp_waitq.specs.Queue.{Waiter, task_of, left_by, joined_by, waiter_of};
@@ -146,6 +147,8 @@ impl<T: Kind> Objects<T> {
 impl<T: Part> Part for Objects<T> {
     ghost fits = { λ xs ys. (length xs ≡ length ys)
         × ((k : ℕ) (a b : T) → k < length ys → T.fits (slice_index_or xs k a) (slice_index_or ys k b)) };
+
+    ghost digested = { λ xs sum. added_all T.digested xs sum };
 
     fn is_same(&self, other: &Self) -> bool {
         are_same(self.items.as_slice(), other.items.as_slice())

@@ -5,6 +5,7 @@ ghost use Rattle.fmp_rules.specs.Objects.{blank_semaphore, blank_eventflag, no_d
 ghost use Rattle.fmp_rules.specs.World.{first, rest, item, with_item};
 ghost use Rattle.fmp_waitq.specs.Queue.{task_of, left_by, joined_by, waiter_of};
 ghost use Rattle.fmp_kernel_order.specs.Queues.{queue, place_of, place_in, changed};
+ghost use Rattle.fmp_kernel_objects.specs.Digests.{added_objects};
 ghost use Rattle.fmp_kernel_objects.specs.Kinds.{is_handed_in};
 ghost use Rattle.fmp_kernel_objects.specs.Objects.{blank_objects, order_for, AreAlike};
 
@@ -322,6 +323,8 @@ impl Resources {
 
 impl Part for Resources {
     ghost fits = { AreAlike };
+
+    ghost digested = { λ a sum. added_objects a sum };
 
     fn is_same(&self, other: &Self) -> bool {
         self.semaphores.is_same(&other.semaphores)

@@ -19,7 +19,7 @@ pub record Linked (n p m q : ℕ → ℕ) (b t : ℕ) : Type 0 where
 pub record Unlinked (n p m q : ℕ → ℕ) (t : ℕ) : Type 0 where
   pub over : m (p t) ≡ n t
   pub back : q (n t) ≡ p t
-  pub next_rest : (k : ℕ) → (k ≡ p t → ⊥) → m k ≡ n k
+  pub next_rest : (k : ℕ) → (k ≡ p t → ⊥) → (k ≡ t → ⊥) → m k ≡ n k
   pub prev_rest : (k : ℕ) → (k ≡ n t → ⊥) → q k ≡ p k
 
 -- a chain whose links stay
@@ -46,6 +46,19 @@ next_there n p a [] z b c h =
 next_there n p a (x ∷ xs) z b c h =
     ⊎_elim (λ (e : b ≡ a). has_as (n b) x (z ∷ x ∷ xs) (ap n e ∙ c.0) (has_there x z (x ∷ xs) (has_here x xs)))
     (λ (e : b ≡ a → ⊥). has_wider (n b) z x xs (next_there n p x xs z b c.2 (has_after b a (x ∷ xs) e h))) (cases_eq b a)
+
+-- no item of a ring stands before itself
+pub prev_other : (n p : ℕ → ℕ) (a : ℕ) (xs : List ℕ) (z t : ℕ) → IsChain n p a xs z → AreDistinct (a ∷ xs) → has t xs ≡ true → p t ≡ t → ⊥
+prev_other n p a [] z t c d h e = cc
+prev_other n p a (x ∷ xs) z t c d h e =
+    ⊎_elim (λ (f : t ≡ x). lacks_first a x xs d.0 (sym (sym e ∙ ap p f ∙ c.1) ∙ f)) (λ (f : t ≡ x → ⊥). prev_other n p x xs z t c.2 d.1 (has_after t x xs f h) e) (cases_eq t x)
+
+-- where two chains have the same items, the links ahead are the same
+pub chain_same : (n p m q : ℕ → ℕ) (a : ℕ) (xs : List ℕ) (z k : ℕ) → IsChain n p a xs z → IsChain m q a xs z → has k (a ∷ xs) ≡ true → n k ≡ m k
+chain_same n p m q a [] z k c d h =
+    ⊎_elim (λ (e : k ≡ a). ap n e ∙ c.0 ∙ sym d.0 ∙ ap m (sym e)) (λ (e : k ≡ a → ⊥). let out : false ≡ true = has_after k a [] e h in cc) (cases_eq k a)
+chain_same n p m q a (x ∷ xs) z k c d h =
+    ⊎_elim (λ (e : k ≡ a). ap n e ∙ c.0 ∙ sym d.0 ∙ ap m (sym e)) (λ (e : k ≡ a → ⊥). chain_same n p m q x xs z k c.2 d.2 (has_after k a (x ∷ xs) e h)) (cases_eq k a)
 
 pub chain_insert : (n p m q : ℕ → ℕ) (b t a : ℕ) (xs : List ℕ) (z : ℕ) → Linked n p m q b t → IsChain n p a xs z → has b (z ∷ xs) ≡ true →
     AreDistinct (a ∷ xs) → has z xs ≡ false → has t (a ∷ xs) ≡ false → (t ≡ z → ⊥) → IsChain m q a (inserted b t xs) z
@@ -90,24 +103,24 @@ chain_without n p m q t a (x ∷ xs) z u c h d e =
     let from : p t ≡ a = ap p (sym f) ∙ c.1 in
     let lack : has t xs ≡ false = subst (λ y. has y xs ≡ false) f d.1.0 in
     let rest : IsChain n p t xs z = subst (λ y. IsChain n p y xs z) f c.2 in
-    rw (eq-eqb x t f, without_lacking t xs lack) (bridge xs from rest (lacks_after a x xs d.0) d.1.1 (lacks_after z x xs e)))
+    rw (eq-eqb x t f, without_lacking t xs lack) (bridge xs from rest (lacks_after a x xs d.0) lack d.1.1 (lacks_after z x xs e)))
     (λ (f : x ≡ t → ⊥).
     let there : has t xs ≡ true = has_after t x xs (λ (g : t ≡ x). f (sym g)) h in
     let back : has (p t) (x ∷ xs) ≡ true = prev_there n p x xs z t c.2 (has_there t z xs there) in
     let on : has (n t) (z ∷ xs) ≡ true = next_there n p x xs z t c.2 (has_there t x xs there) in
     rw (ne_eqb x t f) (
-      u.next_rest a (λ (g : a ≡ p t). ne (p t) a (x ∷ xs) back d.0 (sym g)) ∙ c.0,
+      u.next_rest a (λ (g : a ≡ p t). ne (p t) a (x ∷ xs) back d.0 (sym g)) (λ (g : a ≡ t). ne t a (x ∷ xs) (has_there t x xs there) d.0 (sym g)) ∙ c.0,
       u.prev_rest x (λ (g : x ≡ n t). ne (n t) x (z ∷ xs) on (lacks x z xs (λ (y : x ≡ z). lacks_first z x xs e (sym y)) d.1.0) (sym g)) ∙ c.1,
       chain_without n p m q t x xs z u c.2 there d.1 (lacks_after z x xs e),
     ))
     (cases_eq x t)
   where
-    bridge : (ys : List ℕ) → p t ≡ a → IsChain n p t ys z → has a ys ≡ false → AreDistinct ys → has z ys ≡ false → IsChain m q a ys z
-    bridge [] from c out d e = (ap m (sym from) ∙ u.over ∙ c.0, ap q (sym c.0) ∙ u.back ∙ from)
-    bridge (y ∷ ys) from c out d e = (
+    bridge : (ys : List ℕ) → p t ≡ a → IsChain n p t ys z → has a ys ≡ false → has t ys ≡ false → AreDistinct ys → has z ys ≡ false → IsChain m q a ys z
+    bridge [] from c out lack d e = (ap m (sym from) ∙ u.over ∙ c.0, ap q (sym c.0) ∙ u.back ∙ from)
+    bridge (y ∷ ys) from c out lack d e = (
       ap m (sym from) ∙ u.over ∙ c.0,
       ap q (sym c.0) ∙ u.back ∙ from,
-      frame n p m q y ys z (λ k i. u.next_rest k (λ (g : k ≡ p t). ne k a (y ∷ ys) i out (g ∙ from)))
+      frame n p m q y ys z (λ k i. u.next_rest k (λ (g : k ≡ p t). ne k a (y ∷ ys) i out (g ∙ from)) (ne k t (y ∷ ys) i lack))
           (λ k i. u.prev_rest k (λ (g : k ≡ n t). ne k y (z ∷ ys) i (lacks y z ys (λ (w : y ≡ z). lacks_first z y ys e (sym w)) d.0) (g ∙ c.0))) c.2,
     )
 

@@ -1,13 +1,21 @@
 -- The one list of tasks, after each change.
-use Rattle.std.proofs.Common.{◌≡◌, ℕ, ◌<◌, Bool, true, false, ◌||◌, Option, Some, None, List, [], ◌∷◌, ◌++◌, nat_eq, refl, sym, ap, ◌∙◌, arith, ⊎_elim}
+use Rattle.std.proofs.Common.{◌≡◌, ℕ, ◌<◌, Bool, true, false, ◌||◌, Option, Some, None, List, [], ◌∷◌, ◌++◌, map, nat_eq, refl, sym, ap, ◌∙◌, arith, ⊎_elim}
 use Rattle.std.specs.Prelude.{is_some}
 use Rattle.std.specs.Option.{option_eq}
 use Rattle.std.proofs.lemmas.Bool.{cases_eq, eq-eqb, eqb-true, or_cases}
-use Rattle.std.proofs.lemmas.List.{get_or-set_same, get_or_past, length-set, length-map}
+use Rattle.std.proofs.lemmas.List.{ext_get_or, get_or-set_same, get_or_past, length-set, length-map}
 use Rattle.fmp_kernel_parts.specs.Lists.{has, list_at, without, inserted, push_last, insert_before, take_out}
-use Rattle.fmp_kernel_parts.specs.Tasks.{IsOneList}
+use Rattle.fmp_kernel_parts.specs.Tasks.{task_at, IsOneList}
 use Rattle.fmp_kernel_parts.proofs.Having.{has_inserted, has_push, lacks_without}
+use Rattle.fmp_kernel_parts.proofs.Tasks.{items_same}
 use Rattle.fmp_kernel_parts.proofs.Soundness.{list_in, list_at-take_out}
+
+-- equal tasks are of equal lists
+pub one_same : (q r : List (List ℕ)) → IsOneList q → IsOneList r → map task_at (list_at q 0) ≡ map task_at (list_at r 0) → q ≡ r
+one_same q r o p e =
+    ext_get_or [] q r (o.count ∙ sym p.count) (λ i h.
+    let only : i ≡ 0 = omega (arith, h, o.count) in
+    ap (list_at q) only ∙ items_same (list_at q 0) (list_at r 0) o.small p.small e ∙ ap (list_at r) (sym only))
 
 pub one_push : (q : List (List ℕ)) (t : ℕ) → IsOneList q → list_at (push_last q 0 t) 0 ≡ list_at q 0 ++ t ∷ []
 one_push q t o = get_or-set_same q 0 (list_at q 0 ++ t ∷ []) [] (omega (arith, o.count))

@@ -7,7 +7,7 @@ use Rattle.std.proofs.Math.Numerals.{suc-eq-add-one}
 use Rattle.fmp_kernel_parts.specs.Lists.{has, list_at, without, inserted, insert_before, push_last, take_out, AreDistinct, first_of, rotated, AreDisjoint}
 use Rattle.fmp_kernel_parts.specs.Rings.{IsChain, walk, lists_along, IsSound, item_at}
 use Rattle.fmp_kernel_parts.proofs.Having.{has_here, has_there, has_inserted, has_without, lacks_from, distinct-inserted, distinct-without, without_lacking, few}
-use Rattle.fmp_kernel_parts.proofs.Chaining.{Linked, Unlinked, frame, prev_there, next_there, chain_insert, chain_without, walk_is, chain_first, chain_next}
+use Rattle.fmp_kernel_parts.proofs.Chaining.{Linked, Unlinked, frame, prev_there, next_there, prev_other, chain_same, chain_insert, chain_without, walk_is, chain_first, chain_next}
 
 pub place_is : {items : ℕ} {n p w : List ℕ} {q : List (List ℕ)} → IsSound items n p w q → (i t : ℕ) → has t (list_at q i) ≡ true → slice_index w t ≡ suc i
 place_is {w = w} s i t h = eqb-true (slice_index w t) (suc i) (sym (s.stands i t) ∙ h)
@@ -73,6 +73,12 @@ lists_are {items} {n} {p} {w} {q} s =
 pub nowhere : {items : ℕ} {n p w : List ℕ} {q : List (List ℕ)} → IsSound items n p w q → (t : ℕ) → slice_index w t ≡ 0 → (i : ℕ) → has t (list_at q i) ≡ false
 nowhere {w = w} s t e i = s.stands i t ∙ ne_eqb (slice_index w t) (suc i) (λ (f : slice_index w t ≡ suc i). omega (arith, e, f))
 
+-- an item without a place is in no ring
+loose_apart : {items : ℕ} {n p w : List ℕ} {q : List (List ℕ)} → IsSound items n p w q → (i t : ℕ) → t < items → slice_index w t ≡ 0 →
+    has t ((items + i) ∷ list_at q i) ≡ true → ⊥
+loose_apart {items} {q = q} s i t low e h =
+    ⊎_elim (λ (a : t ≡ items + i). omega (arith, a, low)) (λ (a : has t (list_at q i) ≡ true). let v = place_is s i t a in omega (arith, v, e)) (in_ring t (items + i) (list_at q i) h)
+
 pub place_none : {items : ℕ} {n p w : List ℕ} {q : List (List ℕ)} → IsSound items n p w q → (t : ℕ) → ((i : ℕ) → has t (list_at q i) ≡ false) → slice_index w t ≡ 0
 place_none {w = w} {q = q} s t e =
     let v = slice_index w t in
@@ -116,6 +122,10 @@ sound_insert items n p w q i b t s within low free there = record {
       (λ (f : u ≡ t → ⊥). s.stands j u ∙ ap (λ (v : ℕ). nat_eq v (suc j)) (sym (get_or-set_other w t u (suc i) 0 f)))
       (cases_eq u t))
       (cases_eq j i);
+  loose = λ u h e.
+      let other : u ≡ t → ⊥ = λ (f : u ≡ t). let v = ap (slice_index (set w t (suc i))) f ∙ put in omega (arith, v, e) in
+      let none : slice_index w u ≡ 0 = sym (get_or-set_other w t u (suc i) 0 other) ∙ e in
+      linked.next_rest u (λ (f : u ≡ l). loose_apart s i u h none (subst (λ (y : ℕ). has y ((items + i) ∷ list_at q i) ≡ true) (sym f) from)) other ∙ s.loose u h none;
   next_count = length-set (set n l t) t b ∙ length-set n l t ∙ s.next_count ∙ ap (λ (k : ℕ). items + k) (sym (length-set q i new));
   prev_count = length-set (set p t l) b t ∙ length-set p t l ∙ s.prev_count ∙ ap (λ (k : ℕ). items + k) (sym (length-set q i new));
   place_count = length-set w t (suc i) ∙ s.place_count;
@@ -183,9 +193,10 @@ list_at-take_out [] t i = refl
 list_at-take_out (x ∷ q) t zero = refl
 list_at-take_out (x ∷ q) t (suc i) = list_at-take_out q t i
 
-pub sound_remove : (items : ℕ) (n p w : List ℕ) (q : List (List ℕ)) (i t : ℕ) → IsSound items n p w q → slice_index w t ≡ suc i →
-    IsSound items (set n (slice_index p t) (slice_index n t)) (set p (slice_index n t) (slice_index p t)) (set w t 0) (take_out q t)
-sound_remove items n p w q i t s at = record {
+-- an item is taken out, and leads to itself
+pub sound_out : (items : ℕ) (n p w : List ℕ) (q : List (List ℕ)) (i t : ℕ) → IsSound items n p w q → slice_index w t ≡ suc i →
+    IsSound items (set (set n (slice_index p t) (slice_index n t)) t t) (set p (slice_index n t) (slice_index p t)) (set w t 0) (take_out q t)
+sound_out items n p w q i t s at = record {
   chained = λ j h.
       let inside : j < length q = subst (λ (k : ℕ). j < k) (length-map q (without t)) h in
       subst (λ (xs : List ℕ). IsChain (slice_index m) (slice_index r) (items + j) xs (items + j)) (sym (list_at-take_out q t j))
@@ -193,7 +204,8 @@ sound_remove items n p w q i t s at = record {
       (λ (e : j ≡ i → ⊥).
       subst (λ (xs : List ℕ). IsChain (slice_index m) (slice_index r) (items + j) xs (items + j)) (sym (without_lacking t (list_at q j) (absent j e)))
       (frame (slice_index n) (slice_index p) (slice_index m) (slice_index r) (items + j) (list_at q j) (items + j)
-      (λ k g. unlinked.next_rest k (λ (f : k ≡ slice_index p t). rings_apart s j i k e g (subst (λ (y : ℕ). has y ((items + i) ∷ list_at q i) ≡ true) (sym f) from)))
+      (λ k g. unlinked.next_rest k (λ (f : k ≡ slice_index p t). rings_apart s j i k e g (subst (λ (y : ℕ). has y ((items + i) ∷ list_at q i) ≡ true) (sym f) from))
+      (λ (f : k ≡ t). rings_apart s j i k e g (subst (λ (y : ℕ). has y ((items + i) ∷ list_at q i) ≡ true) (sym f) in_it)))
       (λ k g. unlinked.prev_rest k (λ (f : k ≡ slice_index n t). rings_apart s j i k e g (subst (λ (y : ℕ). has y ((items + i) ∷ list_at q i) ≡ true) (sym f) to)))
       (s.chained j inside)))
       (cases_eq j i));
@@ -204,13 +216,20 @@ sound_remove items n p w q i t s at = record {
       (λ (f : u ≡ t → ⊥). ap (λ (c : Bool). has u (list_at q j) && not c) (ne_eqb u t f) ∙ and_true (has u (list_at q j)) ∙ s.stands j u ∙
       ap (λ (v : ℕ). nat_eq v (suc j)) (sym (get_or-set_other w t u 0 0 f)))
       (cases_eq u t);
-  next_count = length-set n (slice_index p t) (slice_index n t) ∙ s.next_count ∙ ap (λ (k : ℕ). items + k) (sym (length-map q (without t)));
+  loose = λ u h e.
+      ⊎_elim (λ (f : u ≡ t). subst (λ (k : ℕ). slice_index m k ≡ k) (sym f) own)
+      (λ (f : u ≡ t → ⊥).
+      let none : slice_index w u ≡ 0 = sym (get_or-set_other w t u 0 0 f) ∙ e in
+      unlinked.next_rest u (λ (g : u ≡ slice_index p t). loose_apart s i u h none (subst (λ (y : ℕ). has y ((items + i) ∷ list_at q i) ≡ true) (sym g) from)) f
+      ∙ s.loose u h none)
+      (cases_eq u t);
+  next_count = length-set (set n (slice_index p t) (slice_index n t)) t t ∙ length-set n (slice_index p t) (slice_index n t) ∙ s.next_count ∙ ap (λ (k : ℕ). items + k) (sym (length-map q (without t)));
   prev_count = length-set p (slice_index n t) (slice_index p t) ∙ s.prev_count ∙ ap (λ (k : ℕ). items + k) (sym (length-map q (without t)));
   place_count = length-set w t 0 ∙ s.place_count;
 }
   where
     m : List ℕ
-    m = set n (slice_index p t) (slice_index n t)
+    m = set (set n (slice_index p t) (slice_index n t)) t t
 
     r : List ℕ
     r = set p (slice_index n t) (slice_index p t)
@@ -247,45 +266,27 @@ sound_remove items n p w q i t s at = record {
     put : slice_index (set w t 0) t ≡ 0
     put = get_or-set_same w t 0 0 (omega (arith, low, s.place_count))
 
-    unlinked : Unlinked (slice_index n) (slice_index p) (slice_index (set n (slice_index p t) (slice_index n t))) (slice_index (set p (slice_index n t) (slice_index p t))) t
+    own : slice_index (set (set n (slice_index p t) (slice_index n t)) t t) t ≡ t
+    own = get_or-set_same (set n (slice_index p t) (slice_index n t)) t t 0 (omega (arith, low, s.next_count, length-set n (slice_index p t) (slice_index n t)))
+
+    before : slice_index p t ≡ t → ⊥
+    before = prev_other (slice_index n) (slice_index p) (items + i) (list_at q i) (items + i) t (s.chained i within) (head_out s i, s.apart i) there
+
+    unlinked : Unlinked (slice_index n) (slice_index p) (slice_index (set (set n (slice_index p t) (slice_index n t)) t t)) (slice_index (set p (slice_index n t) (slice_index p t))) t
     unlinked = record {
-      over = get_or-set_same n (slice_index p t) (slice_index n t) 0 (let x = ring_in s i (slice_index p t) within from in omega (arith, x, s.next_count));
+      over = get_or-set_other (set n (slice_index p t) (slice_index n t)) t (slice_index p t) t 0 before ∙ get_or-set_same n (slice_index p t) (slice_index n t) 0 (let x = ring_in s i (slice_index p t) within from in omega (arith, x, s.next_count));
       back = get_or-set_same p (slice_index n t) (slice_index p t) 0 (let x = ring_in s i (slice_index n t) within to in omega (arith, x, s.prev_count));
-      next_rest = λ k e. get_or-set_other n (slice_index p t) k (slice_index n t) 0 e;
+      next_rest = λ k e f. get_or-set_other (set n (slice_index p t) (slice_index n t)) t k t 0 f ∙ get_or-set_other n (slice_index p t) k (slice_index n t) 0 e;
       prev_rest = λ k e. get_or-set_other p (slice_index n t) k (slice_index p t) 0 e;
     }
 
-    changed : IsChain (slice_index (set n (slice_index p t) (slice_index n t))) (slice_index (set p (slice_index n t) (slice_index p t))) (items + i) (without t (list_at q i)) (items + i)
+    changed : IsChain (slice_index (set (set n (slice_index p t) (slice_index n t)) t t)) (slice_index (set p (slice_index n t) (slice_index p t))) (items + i) (without t (list_at q i)) (items + i)
     changed = chain_without (slice_index n) (slice_index p) _ _ t (items + i) (list_at q i) (items + i) unlinked (s.chained i within) there (head_out s i, s.apart i) (head_out s i)
 
 list_at-replicate : (count i : ℕ) → list_at (replicate count []) i ≡ []
 list_at-replicate zero i = refl
 list_at-replicate (suc count) zero = refl
 list_at-replicate (suc count) (suc i) = list_at-replicate count i
-
--- the link of an item that stands nowhere is free
-pub sound_free : {items : ℕ} {n p w : List ℕ} {q : List (List ℕ)} → IsSound items n p w q → (t v : ℕ) → t < items → slice_index w t ≡ 0 → IsSound items (set n t v) p w q
-sound_free {items} {n} {p} {w} {q} s t v low free = record {
-  chained = λ j h. frame (slice_index n) (slice_index p) (slice_index (set n t v)) (slice_index p) (items + j) (list_at q j) (items + j)
-      (λ k g. get_or-set_other n t k v 0 (apart j k g)) (λ k g. refl) (s.chained j h);
-  apart = s.apart;
-  stands = s.stands;
-  next_count = length-set n t v ∙ s.next_count;
-  prev_count = s.prev_count;
-  place_count = s.place_count;
-}
-  where
-    apart : (j k : ℕ) → has k ((items + j) ∷ list_at q j) ≡ true → k ≡ t → ⊥
-    apart j k g f =
-        ⊎_elim (λ (a : k ≡ items + j). omega (arith, a, f, low))
-        (λ (a : has k (list_at q j) ≡ true). let x = nowhere s t free j in let y : has t (list_at q j) ≡ true = subst (λ (z : ℕ). has z (list_at q j) ≡ true) f a in cc)
-        (in_ring k (items + j) (list_at q j) g)
-
--- an item is taken out, and its link is its own
-pub sound_out : (items : ℕ) (n p w : List ℕ) (q : List (List ℕ)) (i t : ℕ) → IsSound items n p w q → slice_index w t ≡ suc i → t < items →
-    IsSound items (set (set n (slice_index p t) (slice_index n t)) t t) (set p (slice_index n t) (slice_index p t)) (set w t 0) (take_out q t)
-sound_out items n p w q i t s at low =
-    sound_free (sound_remove items n p w q i t s at) t t low (get_or-set_same w t 0 0 (omega (arith, low, s.place_count)))
 
 -- each head links to itself
 pub sound_new : (items count : ℕ) (n p w : List ℕ) → length n ≡ items + count → length p ≡ items + count → length w ≡ items →
@@ -297,6 +298,7 @@ sound_new items count n p w ln lp lw fn fp fw = record {
       subst (λ (xs : List ℕ). IsChain (slice_index n) (slice_index p) (items + i) xs (items + i)) (sym (list_at-replicate count i)) (fn (items + i) low, fp (items + i) low);
   apart = λ i. subst AreDistinct (sym (list_at-replicate count i)) tt;
   stands = λ i t. ap (has t) (list_at-replicate count i) ∙ sym (ne_eqb (slice_index w t) (suc i) (λ (e : slice_index w t ≡ suc i). omega (arith, e, fw t)));
+  loose = λ t h e. fn t (omega (arith, h));
   next_count = ln ∙ ap (λ (k : ℕ). items + k) (sym (length-replicate count []));
   prev_count = lp ∙ ap (λ (k : ℕ). items + k) (sym (length-replicate count []));
   place_count = lw;
@@ -383,3 +385,26 @@ disjoint_from s = record {
   one = λ i j t e f. omega (arith, place_is s i t e, place_is s j t f);
   small = λ i t e. item_in s i t e;
 }
+
+-- the links ahead are those of the lists
+pub next_same : {items : ℕ} {n p w m r v : List ℕ} {q : List (List ℕ)} → IsSound items n p w q → IsSound items m r v q → n ≡ m
+next_same {items} {n} {p} {w} {m} {r} {v} {q} s u =
+    ext_get_or 0 n m (s.next_count ∙ sym u.next_count) (λ k h. by k (omega (arith, h, s.next_count)))
+  where
+    ring : (i k : ℕ) → i < length q → has k ((items + i) ∷ list_at q i) ≡ true → slice_index n k ≡ slice_index m k
+    ring i k within e = chain_same (slice_index n) (slice_index p) (slice_index m) (slice_index r) (items + i) (list_at q i) (items + i) k (s.chained i within) (u.chained i within) e
+
+    item : (k c : ℕ) → k < items → slice_index w k ≡ c → slice_index n k ≡ slice_index m k
+    item k zero low e = s.loose k low e ∙ sym (u.loose k low (place_none u k (nowhere s k e)))
+    item k (suc i) low e =
+        let there : has k (list_at q i) ≡ true = s.stands i k ∙ eq-eqb (slice_index w k) (suc i) e in
+        ring i k (list_in q i k there) (has_there k (items + i) (list_at q i) there)
+
+    by : (k : ℕ) → k < items + length q → slice_index n k ≡ slice_index m k
+    by k h =
+        ⊎_elim (λ (low : k < items). item k (slice_index w k) low refl)
+        (λ (high : items ≤ k).
+        let head : k ≡ items + (k - items) = omega (arith, high) in
+        ring (k - items) k (omega (arith, h, high)) (subst (λ (y : ℕ). has y ((items + (k - items)) ∷ list_at q (k - items)) ≡ true) (sym head)
+        (has_here (items + (k - items)) (list_at q (k - items)))))
+        (cases_lt k items)

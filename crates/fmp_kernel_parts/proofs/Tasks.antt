@@ -51,6 +51,24 @@ without_lacking t (u ∷ us) h =
     let out : u.number ≡ t.number → ⊥ = λ f. let yes : nat_eq t.number u.number ≡ true = eq-eqb t.number u.number (sym f) in let bad = or_left (nat_eq t.number u.number) (has_task t us) h in cc in
     rw (ne_eqb u.number t.number out) (ap (λ (r : List Task). u ∷ r) (without_lacking t us (or_right (nat_eq t.number u.number) (has_task t us) h)))
 
+-- the items of tasks
+pub items_are : (xs : List ℕ) → ((u : ℕ) → has u xs ≡ true → u < 64) → map (λ (t : Task). t.number - 1) (map task_at xs) ≡ xs
+items_are [] h = refl
+items_are (x ∷ xs) h =
+    let at : (task_at x).number - 1 ≡ x = omega (arith, number_at x (h x (has_here x xs))) in
+    ap (λ (y : ℕ). y ∷ map (λ (t : Task). t.number - 1) (map task_at xs)) at ∙ ap (λ (ys : List ℕ). x ∷ ys) (items_are xs (λ u g. h u (has_there u x xs g)))
+
+-- equal tasks are of equal items
+pub items_same : (xs ys : List ℕ) → ((u : ℕ) → has u xs ≡ true → u < 64) → ((u : ℕ) → has u ys ≡ true → u < 64) → map task_at xs ≡ map task_at ys → xs ≡ ys
+items_same [] [] h i e = refl
+items_same [] (y ∷ ys) h i e = cc
+items_same (x ∷ xs) [] h i e = cc
+items_same (x ∷ xs) (y ∷ ys) h i e =
+    let first : task_at x ≡ task_at y = cc in
+    let rest : map task_at xs ≡ map task_at ys = cc in
+    let same : x ≡ y = omega (arith, ap (λ (t : Task). t.number) first, number_at x (h x (has_here x xs)), number_at y (i y (has_here y ys))) in
+    ap (λ (z : ℕ). z ∷ xs) same ∙ ap (λ (zs : List ℕ). y ∷ zs) (items_same xs ys (λ u g. h u (has_there u x xs g)) (λ u g. i u (has_there u y ys g)) rest)
+
 pub distinct-map : (xs : List ℕ) → ((u : ℕ) → has u xs ≡ true → u < 64) → links.AreDistinct xs → AreDistinct (map task_at xs)
 distinct-map [] h d = tt
 distinct-map (x ∷ xs) h d =

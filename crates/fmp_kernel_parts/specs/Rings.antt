@@ -17,11 +17,13 @@ walk next items (suc fuel) k = if nat_lt k items then k ∷ walk next items fuel
 abbrev pub lists_along : ℕ → List ℕ → List (List ℕ)
 lists_along items next = map (walk (slice_index next) items items) (drop items next)
 
--- the links and the places are those of the lists. A place is one more than the number of the list in which an item stands, or 0
+-- the links and the places are those of the lists. A place is one more than the number of the list in which an item stands, or 0; an item that stands in
+-- none leads to itself
 pub record IsSound (items : ℕ) (next prev place : List ℕ) (q : List (List ℕ)) : Type 0 where
   pub chained : (i : ℕ) → i < length q → IsChain (slice_index next) (slice_index prev) (items + i) (list_at q i) (items + i)
   pub apart : (i : ℕ) → AreDistinct (list_at q i)
   pub stands : (i t : ℕ) → has t (list_at q i) ≡ nat_eq (slice_index place t) (suc i)
+  pub loose : (t : ℕ) → t < items → slice_index place t ≡ 0 → slice_index next t ≡ t
   pub next_count : length next ≡ items + length q
   pub prev_count : length prev ≡ items + length q
   pub place_count : length place ≡ items

@@ -1,26 +1,45 @@
 //! A number that tells values apart.
+ghost use Rattle.std.specs.Prelude.{◌≡◌};
+ghost use Rattle.fmp_kernel_parts.specs.Digests.{seed, added, told};
 
-/// A number made of others, in their order. Different numbers may give the same, so no answer may depend on it.
-#[derive(Clone, Copy)]
+use std::marker::Model;
+
+/// A number made of others, in their order. Different numbers may give the same, so no answer may depend on it. Contracts see
+/// it as a number.
+#[derive(Drop)]
 pub struct Digest {
     sum: u64,
 }
 
+impl Model for Digest {
+    ghost use Rattle.std.specs.Prelude.{ℕ};
+
+    ghost Value = { ℕ };
+
+    ghost view = { λ a. a.sum };
+}
+
 impl Digest {
     /// That of no number.
-    pub fn new() -> Self {
+    pub fn new() -> Self
+        ensures { result ≡ seed }
+    {
         Digest {
             sum: 0x9e37_79b9_7f4a_7c15,
         }
     }
 
     /// Adds a number.
-    pub fn add(&mut self, number: u64) {
+    pub fn add(&mut self, number: u64)
+        ensures { self.new ≡ added self.old number }
+    {
         self.sum = (self.sum.rotate_left(5) ^ number).wrapping_mul(0x517c_c1b7_2722_0a95);
     }
 
     /// The number made of all that were added. Its high bits depend on them all as its low ones do.
-    pub fn value(&self) -> u64 {
+    pub fn value(&self) -> u64
+        ensures { result ≡ told self.now }
+    {
         self.sum ^ (self.sum >> 32)
     }
 }

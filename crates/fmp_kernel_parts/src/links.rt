@@ -1,8 +1,10 @@
 //! Links in arrays.
-ghost use Rattle.std.specs.Prelude.{◌≡◌, ℕ, ◌+◌, ◌-◌, ◌^◌, ◌<◌, ◌≤◌, false, true, nat_eq, slice_set, length, replicate, [], ◌∷◌, List, ◌++◌, Some, IfSome, IsTrue};
+ghost use Rattle.std.specs.Prelude.{◌≡◌, ◌↔◌, ℕ, ◌+◌, ◌-◌, ◌^◌, ◌<◌, ◌≤◌, ◌∷◌, ◌++◌, false, true, [], List, Some, IfSome, IsTrue};
+ghost use Rattle.std.specs.Prelude.{nat_eq, slice_set, length, replicate};
 ghost use Rattle.std.specs.Option.{option_eq};
 ghost use Rattle.fmp_kernel_parts.specs.Lists.{has, list_at, first_of, push_last, insert_before, take_out, rotated, AreDisjoint};
 ghost use Rattle.fmp_kernel_parts.specs.Rings.{item_at};
+ghost use Rattle.fmp_kernel_parts.specs.Digests.{added_items};
 
 use crate::{Digest, Part};
 use std::marker::Model;
@@ -32,7 +34,7 @@ impl<const NODES: usize, const ITEMS: usize> Model for Links<NODES, ITEMS> {
 /// Whether the links of two arrays are the same. All of them are looked at: a loop that does not stop at the first difference is compiled to
 /// one over many links at a time.
 fn are_equal<const NODES: usize>(one: &[u16; NODES], other: &[u16; NODES]) -> bool
-    ensures { IsTrue result → one.now ≡ other.now }
+    ensures { IsTrue result ↔ (one.now ≡ other.now) }
 {
     let mut same = true;
     for at in 0..NODES {
@@ -180,6 +182,8 @@ impl<const NODES: usize, const ITEMS: usize> Links<NODES, ITEMS> {
 
 impl<const NODES: usize, const ITEMS: usize> Part for Links<NODES, ITEMS> {
     ghost fits = { λ a b. Unit {0} };
+
+    ghost digested = { λ q sum. added_items ITEMS q ITEMS sum };
 
     fn is_same(&self, other: &Self) -> bool {
         are_equal(&self.next, &other.next)

@@ -1,5 +1,6 @@
 //! Parts, and lists of them.
-ghost use Rattle.std.specs.Prelude.{◌≡◌, ℕ, ◌<◌, length, slice_index_or, IsTrue};
+ghost use Rattle.std.specs.Prelude.{◌≡◌, ◌↔◌, ℕ, ◌<◌, length, slice_index_or, IsTrue};
+ghost use Rattle.fmp_kernel_parts.specs.Digests.{added_all};
 
 use crate::digest::Digest;
 
@@ -8,9 +9,12 @@ pub trait Part {
     // It has the memory that it needs to become as another part is.
     ghost fits: { Self → Self → Type 0 };
 
-    /// Whether it is the same as another part. Where it says no, contracts may see the same all the same.
+    // What a digest is after it was added.
+    ghost digested: { Self → ℕ → ℕ };
+
+    /// Whether it is the same as another part.
     fn is_same(&self, other: &Self) -> bool
-        ensures { IsTrue result → self.now ≡ other.now };
+        ensures { IsTrue result ↔ (self.now ≡ other.now) };
 
     /// Becomes as another part is. Takes no memory.
     fn copy_from(&mut self, other: &Self)
@@ -18,12 +22,13 @@ pub trait Part {
         ensures { self.new ≡ other.now };
 
     /// Adds what it is to a digest. Parts that are the same add the same; no answer may depend on it.
-    fn add_to(&self, digest: &mut Digest);
+    fn add_to(&self, digest: &mut Digest)
+        ensures { digest.new ≡ digested self.now digest.old };
 }
 
 /// Whether the parts of two lists are the same.
 pub fn are_same<T: Part>(parts: &[T], others: &[T]) -> bool
-    ensures { IsTrue result → parts.now ≡ others.now }
+    ensures { IsTrue result ↔ (parts.now ≡ others.now) }
 {
     if parts.len() != others.len() {
         return false;
@@ -48,7 +53,9 @@ pub fn copy_all<T: Part>(parts: &mut [T], others: &[T])
 }
 
 /// Adds the parts of a list to a digest.
-pub fn add_all<T: Part>(parts: &[T], digest: &mut Digest) {
+pub fn add_all<T: Part>(parts: &[T], digest: &mut Digest)
+    ensures { digest.new ≡ added_all T.digested parts.now digest.old }
+{
     for part in parts {
         part.add_to(digest);
     }

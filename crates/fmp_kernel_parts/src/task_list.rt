@@ -1,6 +1,7 @@
 //! One list of tasks.
 ghost use Rattle.std.specs.Prelude.{◌≡◌, ◌≤◌, ◌&&◌, false, true, is_none, length, List, [], ◌∷◌, ◌++◌};
 ghost use Rattle.fmp_codes.specs.declared.numbers.Task.{Task as AnyTask};
+ghost use Rattle.fmp_kernel_parts.specs.Digests.{added_all, added_task};
 ghost use Rattle.fmp_kernel_parts.specs.Lists.{first_of};
 ghost use Rattle.fmp_kernel_parts.specs.Tasks.{has_task, without, inserted, AreDistinct};
 
@@ -120,6 +121,8 @@ impl TaskList {
 
 impl Part for TaskList {
     ghost fits = { λ a b. Unit {0} };
+
+    ghost digested = { λ ts sum. added_all added_task ts sum };
 
     fn is_same(&self, other: &Self) -> bool {
         self.are_empty(other) || self.links.is_same(&other.links)

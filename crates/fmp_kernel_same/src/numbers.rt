@@ -1,11 +1,15 @@
 //! Numbers of the machine.
 ghost use Rattle.std.specs.Prelude.{◌≡◌, IsTrue};
+ghost use Rattle.fmp_kernel_parts.specs.Digests.{added};
+ghost use Rattle.fmp_kernel_same.specs.Digests.{added_runner};
 
 use crate::same::Same;
 use fmp_codes::{Object, Pri, Proc, Runner, Task};
 use fmp_kernel_parts::Digest;
 
 impl Same for Proc {
+    ghost digested = { λ value sum. added sum value.number };
+
     #[tactic(auto, using(fmp_codes::proofs::Same::processors_same))]
     fn is_same(&self, other: &Self) -> bool {
         self.number == other.number
@@ -17,6 +21,8 @@ impl Same for Proc {
 }
 
 impl Same for Task {
+    ghost digested = { λ value sum. added sum value.number };
+
     #[tactic(auto, using(fmp_codes::proofs::Same::tasks_same))]
     fn is_same(&self, other: &Self) -> bool {
         self.number == other.number
@@ -28,6 +34,8 @@ impl Same for Task {
 }
 
 impl Same for Object {
+    ghost digested = { λ value sum. added sum value.number };
+
     #[tactic(auto, using(fmp_codes::proofs::Same::objects_same))]
     fn is_same(&self, other: &Self) -> bool {
         self.number == other.number
@@ -39,6 +47,8 @@ impl Same for Object {
 }
 
 impl Same for Pri {
+    ghost digested = { λ value sum. added sum value.number };
+
     #[tactic(auto, using(fmp_codes::proofs::Same::priorities_same))]
     fn is_same(&self, other: &Self) -> bool {
         self.number == other.number
@@ -50,6 +60,8 @@ impl Same for Pri {
 }
 
 impl Same for Runner {
+    ghost digested = { λ value sum. added_runner value sum };
+
     fn is_same(&self, other: &Self) -> bool {
         match (*self, *other) {
             (Runner::Task(one), Runner::Task(other)) => one.is_same(&other),

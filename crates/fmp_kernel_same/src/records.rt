@@ -1,11 +1,15 @@
 //! Records of the machine.
 ghost use Rattle.std.specs.Prelude.{◌≡◌, IsTrue};
+ghost use Rattle.fmp_kernel_parts.specs.Digests.{added};
+ghost use Rattle.fmp_kernel_same.specs.Digests.{added_wait, added_record, added_processor};
 
 use crate::same::Same;
 use fmp_kernel_parts::Digest;
 use fmp_rules::{Alarm, Cyclic, Processor, TaskRecord, Wait};
 
 impl Same for Wait {
+    ghost digested = { λ value sum. added_wait value sum };
+
     fn is_same(&self, other: &Self) -> bool {
         match (*self, *other) {
             (Wait::Sleep, Wait::Sleep) => true,
@@ -39,6 +43,8 @@ impl Same for Wait {
 }
 
 impl Same for TaskRecord {
+    ghost digested = { λ value sum. added_record value sum };
+
     fn is_same(&self, other: &Self) -> bool {
         self.assigned.is_same(&other.assigned)
             && self.priority.is_same(&other.priority)
@@ -51,6 +57,7 @@ impl Same for TaskRecord {
             && self.setup.is_same(&other.setup)
     }
 
+    #[tactic(auto, unfolding(crate::specs::Digests::numbers_of))]
     fn add_to(&self, digest: &mut Digest) {
         digest.add(
             u64::from(self.assigned.number)
@@ -66,6 +73,8 @@ impl Same for TaskRecord {
 }
 
 impl Same for Processor {
+    ghost digested = { λ value sum. added_processor value sum };
+
     fn is_same(&self, other: &Self) -> bool {
         self.running.is_same(&other.running)
             && self.locked == other.locked
@@ -73,6 +82,7 @@ impl Same for Processor {
             && self.latch == other.latch
     }
 
+    #[tactic(auto, unfolding(crate::specs::Digests::flags_of))]
     fn add_to(&self, digest: &mut Digest) {
         self.running.add_to(digest);
         digest.add(
@@ -82,6 +92,8 @@ impl Same for Processor {
 }
 
 impl Same for Cyclic {
+    ghost digested = { λ value sum. added sum value.assigned.number };
+
     fn is_same(&self, other: &Self) -> bool {
         self.assigned.is_same(&other.assigned) && self.setup.is_same(&other.setup)
     }
@@ -92,6 +104,8 @@ impl Same for Cyclic {
 }
 
 impl Same for Alarm {
+    ghost digested = { λ value sum. added sum value.assigned.number };
+
     fn is_same(&self, other: &Self) -> bool {
         self.assigned.is_same(&other.assigned) && self.setup.is_same(&other.setup)
     }

@@ -9,6 +9,8 @@ use fmp_rules::{
 };
 
 impl Same for Timer {
+    ghost digested = { λ value sum. sum };
+
     fn is_same(&self, other: &Self) -> bool {
         match (*self, *other) {
             (Timer::Local, Timer::Local) => true,
@@ -21,6 +23,8 @@ impl Same for Timer {
 }
 
 impl Same for TaskSetup {
+    ghost digested = { λ value sum. sum };
+
     #[tactic(auto, using(fmp_setup::proofs::Same::tasks_decide))]
     fn is_same(&self, other: &Self) -> bool {
         *self == *other
@@ -30,6 +34,8 @@ impl Same for TaskSetup {
 }
 
 impl Same for SemaphoreSetup {
+    ghost digested = { λ value sum. sum };
+
     fn is_same(&self, other: &Self) -> bool {
         *self == *other
     }
@@ -38,6 +44,8 @@ impl Same for SemaphoreSetup {
 }
 
 impl Same for EventflagSetup {
+    ghost digested = { λ value sum. sum };
+
     fn is_same(&self, other: &Self) -> bool {
         *self == *other
     }
@@ -46,6 +54,8 @@ impl Same for EventflagSetup {
 }
 
 impl Same for DataQueueSetup {
+    ghost digested = { λ value sum. sum };
+
     fn is_same(&self, other: &Self) -> bool {
         *self == *other
     }
@@ -54,6 +64,8 @@ impl Same for DataQueueSetup {
 }
 
 impl Same for PoolSetup {
+    ghost digested = { λ value sum. sum };
+
     fn is_same(&self, other: &Self) -> bool {
         *self == *other
     }
@@ -62,6 +74,8 @@ impl Same for PoolSetup {
 }
 
 impl Same for CyclicSetup {
+    ghost digested = { λ value sum. sum };
+
     #[tactic(auto, using(fmp_setup::proofs::Same::cyclics_decide))]
     fn is_same(&self, other: &Self) -> bool {
         *self == *other
@@ -71,6 +85,8 @@ impl Same for CyclicSetup {
 }
 
 impl Same for AlarmSetup {
+    ghost digested = { λ value sum. sum };
+
     #[tactic(auto, using(fmp_setup::proofs::Same::alarms_decide))]
     fn is_same(&self, other: &Self) -> bool {
         *self == *other

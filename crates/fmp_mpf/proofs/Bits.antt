@@ -1,16 +1,17 @@
 -- The marks as a list against the bits of the word.
-use Rattle.std.proofs.Common.{◌≡◌, ℕ, ◌+◌, ◌-◌, ◌*◌, ◌%◌, ◌^◌, ◌<◌, ◌≤◌, Bool, true, false, not, Some, None, length, take, set, get_or, nat_eq, refl, sym, ap, ◌∙◌, arith, ⊎_elim, w64, bit_and, bit_or}
+use Rattle.std.proofs.Common.{◌≡◌, ℕ, zero, suc, ◌+◌, ◌/◌, ◌-◌, ◌*◌, ◌%◌, ◌^◌, ◌<◌, ◌≤◌, Bool, true, false, not, Some, None, List, [], ◌∷◌, cond, subst, length, take, set, get_or, nat_eq, refl, sym, ap, ◌∙◌, arith, ⊎_elim, w64, bit_and, bit_or}
 use Rattle.std.specs.Prelude.{min, replicate}
 use Rattle.std.specs.Int.{bit_at, trailing_ones, bit_not}
 use Rattle.std.specs.Int.Count.{trailing_of_zero, count_trailing_zeros}
 use Rattle.std.specs.List.{position, position_or_len}
-use Rattle.std.proofs.lemmas.Bool.{cases_eq, cases_lt, lt-ltb, le-ltb}
+use Rattle.std.proofs.lemmas.Bool.{cases_eq, cases_lt, eq-eqb, ne_eqb, eqb-true, lt-ltb, le-ltb}
 use Rattle.std.proofs.lemmas.Nat.{trailing_le}
-use Rattle.std.proofs.lemmas.Nat.Bits.{bit_at_ones, bit_at-trailing_ones, bit_at-zero, bit_at_set_same, bit_at_set_other, bit_at_clear_same, bit_at_clear_other}
+use Rattle.std.proofs.lemmas.Nat.Bits.{bit_at_ones, bit_at-trailing_ones, bit_at-zero, bit_at_set_same, bit_at_set_other, bit_at_clear_same, bit_at_clear_other, bit_at-lt, bit_at-suc, bit_at_lowest, same_from_bits_below}
 use Rattle.std.proofs.lemmas.List.{get_or-set_same, get_or-set_other, get_or_past, set_past, get_or-take, get_or-replicate, length-set, length-take, length-replicate, ext_get_or}
 use Rattle.std.proofs.lemmas.List.FromFn.{get_or-map-range_with_len, length-map-range_with_len}
 use Rattle.std.proofs.lemmas.List.Sums.{position_or_len_is}
-use Rattle.fmp_mpf.specs.Marks.{is_set, marks}
+use Rattle.std.proofs.Math.Nat.{pow-succ'}
+use Rattle.fmp_mpf.specs.Marks.{is_set, word_of, marks}
 
 pub length-marks : (n : ℕ) → length (marks n) ≡ 64
 unfolding marks
@@ -98,3 +99,40 @@ mark_cleared n b h =
 -- a change past the marks is none
 pub marks_past : (n b : ℕ) (v : Bool) → 64 ≤ b → marks n ≡ set (marks n) b v
 marks_past n b v h = let l = length-marks n in sym (set_past (marks n) b v (omega (arith, l, h)))
+
+-- words with the same marks are the same
+pub marks_same : (n m : ℕ) → n < 2 ^ 64 → m < 2 ^ 64 → marks n ≡ marks m → n ≡ m
+marks_same n m h l e =
+    same_from_bits_below 64 n m h l (λ i low.
+    bit (bit_at n i) (bit_at m i) (bit_at-lt n i) (bit_at-lt m i) (sym (mark_at n i false low) ∙ ap (λ (marks : List Bool). get_or marks i false) e ∙ mark_at m i false low))
+  where
+    bit : (b c : ℕ) → b < 2 → c < 2 → nat_eq b 1 ≡ nat_eq c 1 → b ≡ c
+    bit b c h l e =
+        ⊎_elim (λ (f : b ≡ 1). f ∙ sym (eqb-true c 1 (sym e ∙ eq-eqb b 1 f)))
+        (λ (f : b ≡ 1 → ⊥). let other : c ≡ 1 → ⊥ = λ g. f (eqb-true b 1 (e ∙ eq-eqb c 1 g)) in omega (arith, h, l, f, other)) (cases_eq b 1)
+
+-- the word of some marks
+word_bits : (bs : List Bool) (i : ℕ) → bit_at (word_of bs) i ≡ cond (get_or bs i false) 1 0
+word_bits [] i = bit_at-zero i
+word_bits (b ∷ bs) zero = bit_at_lowest (word_of (b ∷ bs)) ∙ elim b as (λ (c : Bool). (cond c 1 0 + 2 * word_of bs) % 2 ≡ cond c 1 0) [ true ↦ omega arith | false ↦ omega arith ]
+word_bits (b ∷ bs) (suc i) =
+    bit_at-suc (word_of (b ∷ bs)) i
+    ∙ ap (λ (n : ℕ). bit_at n i) (elim b as (λ (c : Bool). (cond c 1 0 + 2 * word_of bs) / 2 ≡ word_of bs) [ true ↦ omega arith | false ↦ omega arith ])
+    ∙ word_bits bs i
+
+word_fits : (bs : List Bool) → word_of bs < 2 ^ length bs
+word_fits [] = omega arith
+word_fits (b ∷ bs) =
+    let rest = word_fits bs in
+    let double : 2 ^ suc (length bs) ≡ 2 * 2 ^ length bs = pow-succ' 2 (length bs) in
+    elim b as (λ (c : Bool). cond c 1 0 + 2 * word_of bs < 2 ^ suc (length bs)) [ true ↦ omega (arith, rest, double) | false ↦ omega (arith, rest, double) ]
+
+-- the marks of a word tell it
+pub word_told : (n : ℕ) → n < 2 ^ 64 → word_of (marks n) ≡ n
+word_told n h =
+    let l = length-marks n in
+    same_from_bits_below 64 (word_of (marks n)) n (subst (λ (k : ℕ). word_of (marks n) < 2 ^ k) l (word_fits (marks n))) h (λ i low.
+    word_bits (marks n) i ∙ ap (λ (b : Bool). cond b 1 0) (mark_at n i false low) ∙ bit (bit_at n i) (bit_at-lt n i))
+  where
+    bit : (b : ℕ) → b < 2 → cond (nat_eq b 1) 1 0 ≡ b
+    bit b h = ⊎_elim (λ (f : b ≡ 1). rw (eq-eqb b 1 f) (sym f)) (λ (f : b ≡ 1 → ⊥). rw (ne_eqb b 1 f) (omega (arith, h, f))) (cases_eq b 1)

@@ -9,7 +9,7 @@
 ghost use Rattle.std.specs.Prelude.{◌≡◌, ◌≤◌, ◌≤ℤ◌, IfSome, pos, IsTrue, false, [], map, replicate, slice_set};
 ghost use Rattle.fmp_kernel_parts.specs.Tasks.{AreDistinct};
 ghost use Rattle.fmp_waitq.specs.Queue.{task_of, has_waiter, left_by, joined_by, waiter_of};
-ghost use Rattle.fmp_mpf.specs.MemoryPool.{free_block, is_handed, waiter};
+ghost use Rattle.fmp_mpf.specs.MemoryPool.{added_pool, free_block, is_handed, waiter};
 ghost use Rattle.fmp_mpf.specs.Operations.{IsServed};
 
 mod marks;
@@ -136,6 +136,9 @@ impl Mpf {
 impl Part for Mpf {
     ghost fits = { λ a b. Unit {0} };
 
+    ghost digested = { λ m sum. added_pool m sum };
+
+    #[tactic(auto, using(crate::proofs::Bits::marks_same))]
     fn is_same(&self, other: &Self) -> bool {
         self.handed == other.handed
             && self.queue.is_same(&other.queue)
@@ -148,6 +151,7 @@ impl Part for Mpf {
         self.queue.copy_from(&other.queue);
     }
 
+    #[tactic(auto, using(crate::proofs::Bits::word_told), unfolding(crate::specs::MemoryPool::added_pool))]
     fn add_to(&self, digest: &mut Digest) {
         digest.add(self.handed);
         self.queue.add_to(digest);

@@ -6,14 +6,30 @@ use Rattle.fmp_codes.specs.declared.numbers.Task.{Task}
 use Rattle.fmp_kernel_parts.specs.Lists as links
 use Rattle.fmp_kernel_parts.specs.Lists.{has}
 use Rattle.fmp_kernel_parts.specs.Tasks.{AreDistinct, has_task, task_at, without}
-use Rattle.fmp_kernel_parts.proofs.Tasks.{distinct-map, first_of-map, gone_from, has_task-map, without-map, without_lacking}
-use Rattle.fmp_ready.specs.Queues.{PriorityLists, queue_at, push_last, take_out, rotated, first_of, top_at, bit_of, AreDisjoint}
+use Rattle.fmp_kernel_parts.proofs.Tasks.{items_are, items_same, distinct-map, first_of-map, gone_from, has_task-map, without-map, without_lacking}
+use Rattle.fmp_ready.specs.Queues.{PriorityLists, queue_at, push_last, take_out, rotated, first_of, top_at, bit_of, items_in, AreDisjoint}
 use Rattle.fmp_ready.specs.Kept.{tasks_of}
 
 pub list_at-tasks_of : (q : List (List ℕ)) (i : ℕ) → queue_at (tasks_of q) i ≡ map task_at (links.list_at q i)
 list_at-tasks_of [] i = refl
 list_at-tasks_of (x ∷ q) zero = refl
 list_at-tasks_of (x ∷ q) (suc i) = list_at-tasks_of q i
+
+-- equal lists of tasks are of equal lists of items
+pub lists_same : (q r : List (List ℕ)) → ((i u : ℕ) → has u (links.list_at q i) ≡ true → u < 64) → ((i u : ℕ) → has u (links.list_at r i) ≡ true → u < 64) →
+    tasks_of q ≡ tasks_of r → q ≡ r
+lists_same [] [] h i e = refl
+lists_same [] (y ∷ r) h i e = cc
+lists_same (x ∷ q) [] h i e = cc
+lists_same (x ∷ q) (y ∷ r) h i e =
+    let first : map task_at x ≡ map task_at y = cc in
+    let rest : tasks_of q ≡ tasks_of r = cc in
+    ap (λ (z : List ℕ). z ∷ q) (items_same x y (h 0) (i 0) first) ∙ ap (λ (z : List (List ℕ)). y ∷ z) (lists_same q r (λ j. h (suc j)) (λ j. i (suc j)) rest)
+
+-- the items are those of the tasks
+pub items_told : (q : List (List ℕ)) → ((i u : ℕ) → has u (links.list_at q i) ≡ true → u < 64) → items_in (tasks_of q) ≡ q
+items_told [] h = refl
+items_told (x ∷ q) h = ap (λ (z : List ℕ). z ∷ items_in (tasks_of q)) (items_are x (h 0)) ∙ ap (λ (z : List (List ℕ)). x ∷ z) (items_told q (λ j. h (suc j)))
 
 pub first_in : (q : List (List ℕ)) (i : ℕ) → links.first_of (queue_at (tasks_of q) i) ≡ option_map task_at (links.first_of (links.list_at q i))
 first_in q i = ap links.first_of (list_at-tasks_of q i) ∙ first_of-map (links.list_at q i)

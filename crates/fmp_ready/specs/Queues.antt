@@ -4,6 +4,7 @@ use Rattle.std.specs.Prelude.{◌≡◌, ℕ, ◌+◌, ◌-◌, ◌*◌, true, O
 use Rattle.fmp_codes.specs.declared.numbers.Proc.{Proc}
 use Rattle.fmp_codes.specs.declared.numbers.Pri.{Pri}
 use Rattle.fmp_codes.specs.declared.numbers.Task.{Task}
+use Rattle.fmp_kernel_parts.specs.Digests.{added_items}
 use Rattle.fmp_kernel_parts.specs.Tasks.{has_task, without, AreDistinct}
 
 pub record PriorityLists : Type 0 where
@@ -46,6 +47,14 @@ top_of q p = top_at q (p.number - 1)
 abbrev pub bit_of : {X : Type 0} → List X → ℕ
 bit_of [] = 0
 bit_of (x ∷ xs) = 1
+
+-- the places of the tasks
+abbrev pub items_in : List (List Task) → List (List ℕ)
+items_in q = map (map (λ t. t.number - 1)) q
+
+-- what a digest is after these lists were added
+unfoldable pub added_lists : List (List Task) → ℕ → ℕ
+added_lists q sum = added_items 64 (items_in q) 64 sum
 
 -- no list has a task twice, and no two lists have one
 pub record AreDisjoint (q : List (List Task)) : Type 0 where

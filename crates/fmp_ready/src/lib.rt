@@ -16,7 +16,7 @@ ghost use Rattle.fmp_codes.specs.declared.numbers.Pri.{Pri as AnyPri};
 ghost use Rattle.fmp_codes.specs.declared.numbers.Task.{Task as AnyTask};
 ghost use Rattle.fmp_kernel_parts.specs.Lists.{first_of};
 ghost use Rattle.fmp_kernel_parts.specs.Tasks.{has_task};
-ghost use Rattle.fmp_ready.specs.Queues.{list_number, queue_at, push_last, take_out, rotated, top_of, top_at, bit_of, AreDisjoint};
+ghost use Rattle.fmp_ready.specs.Queues.{list_number, queue_at, push_last, take_out, rotated, top_of, top_at, bit_of, added_lists, AreDisjoint};
 ghost use Rattle.fmp_ready.specs.Kept.{tasks_of, IsKept};
 
 use arrayvec::ArrayVec;
@@ -150,6 +150,8 @@ impl ReadyQueues {
 
 impl Part for ReadyQueues {
     ghost fits = { λ a b. Unit {0} };
+
+    ghost digested = { λ q sum. added_lists q.lists sum };
 
     fn is_same(&self, other: &Self) -> bool {
         self.links.is_same(&other.links)

@@ -5,8 +5,8 @@
 //! before its log (`specs/Endings`).
 //!
 //! [`run_partial`] does so from bytes to bytes: it reads a configuration and a trace whose lines may leave out parts, and writes the
-//! verdict: `yes`, `yes to` the line of the log at which the trace ends, or `no` and the number of the first line that is not what the machine answers. What it reads and writes is stated
-//! in `specs/Partials`.
+//! verdict: `yes`, `yes to` the line of the log at which the trace ends, or `no` and the number of the first line that is not what the
+//! machine answers. What it reads and writes is stated in `specs/Partials`.
 #![tactic(auto)]
 
 mod differing;

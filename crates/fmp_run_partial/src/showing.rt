@@ -32,8 +32,8 @@ pub enum PartialShown {
     Order,
     /// Each line that is not what the machine answers, as a unified diff. Where lines come in another order, it is the line with which there is none.
     Each,
-    /// As for `Order`; and where the verdict is `no` the machine's own lines up to that line, and this as a whole line: what it says, and the rest as the machine
-    /// answers.
+    /// As for `Order`; and where the verdict is `no` the machine's own lines up to that line, and this as a whole line: what it says, and the rest as the
+    /// machine answers.
     Filled,
 }
 
@@ -129,7 +129,8 @@ fn put_below(
 )
     requires { IsWithin text.now told.now }
     ensures { Adds (spec.below_no asked found.now.state.items found.now.pair.items
-        (diff_head ++ lines_told config.now text.now (option_map (λ v. v.items) order.now) told.now) (up_to_told config.now text.now told.now)) out.old out.new }
+        (diff_head ++ lines_told config.now text.now (option_map (λ v. v.items) order.now) told.now)
+        (up_to_told config.now text.now told.now)) out.old out.new }
 {
     match asked {
         PartialShown::Verdict | PartialShown::Order => {}
@@ -177,7 +178,8 @@ fn show_order(
 ) -> Result<Shown, AllocError>
     requires { Judged body.now (option_map (λ v. v.items) order.now) }
     ensures { IfOk result (λ s. (said : List AnySaid) → said_in config.now.names body.now ≡ Ok said
-        → spec.IsShown PartialShown.Order config.now body.now (lines_of body.now) (spec.events_of said) (option_map (λ v. v.items) order.now) Found.Yes verdict s) }
+        → spec.IsShown PartialShown.Order config.now body.now (lines_of body.now) (spec.events_of said)
+        (option_map (λ v. v.items) order.now) Found.Yes verdict s) }
 {
     let names = config.names();
     let alloc = config.allocator();

@@ -1,15 +1,20 @@
 -- A semaphore with the tasks that wait for it.
-use Rattle.std.specs.Prelude.{◌≡◌, ◌+◌, ◌-◌, ◌&&◌, Bool, true, Option, None, Some, List, nat_le, if◌then◌else◌, is_none, map}
+use Rattle.std.specs.Prelude.{◌≡◌, ℕ, ◌+◌, ◌-◌, ◌&&◌, Bool, true, Option, None, Some, List, nat_le, if◌then◌else◌, is_none, map}
 use Rattle.fmp_codes.specs.declared.numbers.Task.{Task}
 use Rattle.fmp_rules.specs.declared.machine.Semaphore.{Semaphore}
+use Rattle.fmp_kernel_parts.specs.Digests.{added}
 use Rattle.fmp_rules.specs.World.{first}
-use Rattle.fmp_waitq.specs.Queue.{Waiter, task_of, has_waiter, left_by}
+use Rattle.fmp_waitq.specs.Queue.{Waiter, task_of, added_waiters, has_waiter, left_by}
 use Rattle.fmp_sem.specs.declared.operations.Signal.{Signal}
 use Rattle.fmp_sem.specs.declared.operations.Signal.TheVariants as signal
 
 pub record SemaphoreState : Type 0 where
   pub semaphore : Semaphore
   pub waiters : List Waiter
+
+-- what a digest is after it was added, with nothing of what the configuration says of it
+abbrev pub added_semaphore : SemaphoreState → ℕ → ℕ
+added_semaphore s sum = added_waiters s.waiters (added sum s.semaphore.count)
 
 -- the first task that waits
 abbrev pub waiter : SemaphoreState → Option Task

@@ -9,7 +9,7 @@
 ghost use Rattle.std.specs.Prelude.{◌≡◌, map, []};
 ghost use Rattle.fmp_kernel_parts.specs.Tasks.{AreDistinct};
 ghost use Rattle.fmp_waitq.specs.Queue.{task_of, has_waiter, left_by, joined_by, waiter_of};
-ghost use Rattle.fmp_sem.specs.Semaphores.{waiter, WaitsAtZero};
+ghost use Rattle.fmp_sem.specs.Semaphores.{added_semaphore, waiter, WaitsAtZero};
 
 mod operations;
 
@@ -105,6 +105,8 @@ impl Sem {
 
 impl Part for Sem {
     ghost fits = { λ a b. Unit {0} };
+
+    ghost digested = { λ s sum. added_semaphore s sum };
 
     fn is_same(&self, other: &Self) -> bool {
         self.count == other.count

@@ -1,6 +1,8 @@
 //! All spin locks.
 ghost use Rattle.std.specs.Prelude.{◌≡◌, ◌≤◌, Some, None, length, map, replicate};
 ghost use Rattle.std.specs.List.{list_any};
+ghost use Rattle.fmp_kernel_parts.specs.Digests.{added_all};
+ghost use Rattle.fmp_kernel_same.specs.Digests.{added_option, added_proc};
 ghost use Rattle.fmp_rules.specs.World.{item, with_item};
 ghost use Rattle.fmp_rules.specs.Processors.{is_at};
 ghost use Rattle.fmp_spin.specs.Locks.{freed};
@@ -82,6 +84,8 @@ impl Spins {
 
 impl Part for Spins {
     ghost fits = { λ a b. Unit {0} };
+
+    ghost digested = { λ holders sum. added_all (added_option added_proc) holders sum };
 
     fn is_same(&self, other: &Self) -> bool {
         are_equal(self.holders.as_slice(), other.holders.as_slice())

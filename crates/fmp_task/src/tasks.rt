@@ -1,5 +1,7 @@
 //! The records of all tasks.
 ghost use Rattle.std.specs.Prelude.{◌≡◌, ◌≤◌, length, map};
+ghost use Rattle.fmp_kernel_parts.specs.Digests.{added_all};
+ghost use Rattle.fmp_kernel_same.specs.Digests.{added_record};
 ghost use Rattle.fmp_rules.specs.World.{item, with_item, no_task, resting};
 
 use crate::resting::all_resting;
@@ -69,6 +71,8 @@ impl Tasks {
 
 impl Part for Tasks {
     ghost fits = { λ a b. Unit {0} };
+
+    ghost digested = { λ records sum. added_all added_record records sum };
 
     fn is_same(&self, other: &Self) -> bool {
         are_equal(self.records.as_slice(), other.records.as_slice())

@@ -1,8 +1,6 @@
 -- What was taken out is nowhere, and taking out what is nowhere changes nothing.
 use Rattle.std.proofs.Common.{◌≡◌, ℕ, zero, suc, ◌+◌, ◌≤◌, Bool, true, false, cond, Some, List, [], ◌∷◌, nat_eq, refl, sym, ap, ◌∙◌, arith, ⊎_elim}
 use Rattle.std.proofs.lemmas.Bool.{cases_eq, eq-eqb, ne_eqb}
-use Rattle.fmp_kernel_parts.specs.Lists as links
-use Rattle.fmp_kernel_parts.proofs.Having as having
 use Rattle.fmp_kernel_parts.proofs.Having.{or_left, or_right}
 use Rattle.fmp_time.specs.Differences.{Entry, entries_at, has_entry, without, take_out, ticks_in, entries_from, sum_of}
 

@@ -56,7 +56,7 @@ ticks_sorted k n (e ∷ es) u h =
       | false ↦ ⊎_elim (λ (g : e.0 ≡ u). rw (eq-eqb e.0 u g, ne_eqb u k (λ h. other (g ∙ h))) refl) (λ (g : e.0 ≡ u → ⊥). rw (ne_eqb e.0 u g) ih) (cases_eq e.0 u)
     ]
 
-has_items : (k : ℕ) (es : List Entry) → has k (items_of es) ≡ has_entry k es
+pub has_items : (k : ℕ) (es : List Entry) → has k (items_of es) ≡ has_entry k es
 has_items k [] = refl
 has_items k (e ∷ es) = rw (has_items k es) refl
 

@@ -1,10 +1,12 @@
 //! Difference lists, one for each processor: items in ascending ticks left, of which each stores what it adds to the sum of
 //! those before it. So a tick lowers one number, and an item that goes hands on what it added to the one after it.
-ghost use Rattle.std.specs.Prelude.{◌≡◌, ℕ, ◌^◌, ◌<◌, ◌≤◌, ◌||◌, false, true, is_some, Some, [], length, replicate, slice_index, slice_index_or, slice_set, IsTrue};
+ghost use Rattle.std.specs.Prelude.{◌≡◌, ◌↔◌, ℕ, ◌+◌, ◌%◌, ◌^◌, ◌<◌, ◌≤◌, ◌||◌, false, true, Some, [], IfSome, IsTrue};
+ghost use Rattle.std.specs.Prelude.{is_some, length, replicate, slice_index, slice_index_or, slice_set};
 ghost use Rattle.std.specs.Option.{option_map};
 ghost use Rattle.fmp_kernel_parts.specs.Lists as lists;
 ghost use Rattle.fmp_time.specs.Differences.{entries_at, has_entry, sorted_in, take_out, ticks_in, least_of, lowered, due, not_due, entries_from, sum_of, spot_in};
 ghost use Rattle.fmp_time.specs.Differences.{rest_in, first_adding, zeros_of, rest_of, items_of, items_given, IsLeastIn};
+ghost use Rattle.fmp_time.specs.Mixed.{mix, mixed_in, added_below, list_mixed};
 ghost use Rattle.fmp_time.specs.Left.{left_in, left_by, ticks_of, is_over, AreDisjoint};
 
 use arrayvec::ArrayVec;
@@ -113,7 +115,8 @@ impl Differences {
     /// The list in which an item stands, and its ticks left.
     fn at(&self, item: usize) -> Option<(usize, u64)>
         requires { item < 128 }
-        ensures { left_in self.now item ≡ option_map left_by result }
+        ensures left { left_in self.now item ≡ option_map left_by result }
+        ensures list_in { IfSome result (λ at. at.0 < 8) }
     {
         let list = self.links.place(item)?;
         Some((list, ticks_at(&self.links, &self.more, list, item)))
@@ -122,7 +125,7 @@ impl Differences {
     /// Whether an item stands in the same list of both, with the same ticks left, or in none.
     fn has_same_left(&self, other: &Differences, item: usize) -> bool
         requires { item < 128 }
-        ensures { IsTrue result → left_in self.now item ≡ left_in other.now item }
+        ensures { IsTrue result ↔ (left_in self.now item ≡ left_in other.now item) }
     {
         if !self.stands(item) && !other.stands(item) {
             return true;
@@ -163,14 +166,14 @@ impl Differences {
     /// Whether each item stands in the same list of both, with the same ticks left, or in none. Which of those with equal ticks
     /// left comes first does not matter: it shows nowhere.
     pub fn has_same_lefts(&self, other: &Differences) -> bool
-        ensures { IsTrue result → (k : ℕ) → k < 128 → left_in self.now k ≡ left_in other.now k }
+        ensures { IsTrue result ↔ ((k : ℕ) → k < 128 → left_in self.now k ≡ left_in other.now k) }
     {
         self.are_empty(other) || self.is_identical(other) || self.has_each_left(other)
     }
 
     /// Whether each item stands so, by a look at each.
     fn has_each_left(&self, other: &Differences) -> bool
-        ensures { IsTrue result → (k : ℕ) → k < 128 → left_in self.now k ≡ left_in other.now k }
+        ensures { IsTrue result ↔ ((k : ℕ) → k < 128 → left_in self.now k ≡ left_in other.now k) }
     {
         for item in 0..128usize {
             if !self.has_same_left(other, item) {
@@ -191,10 +194,10 @@ impl Differences {
     }
 
     /// Adds to a digest the ticks left of all items that stand in a list, whatever the order of those with equal ticks left.
-    pub fn add_to(&self, digest: &mut Digest) {
-        if self.is_empty() {
-            return;
-        }
+    pub fn add_to(&self, digest: &mut Digest)
+        ensures sum { digest.new ≡ added_below (list_mixed self.now) 8 digest.old }
+        ensures disjoint { AreDisjoint self.now }
+    {
         for list in 0..8usize {
             digest.add(mixed(&self.links, &self.more, list));
         }
@@ -272,25 +275,34 @@ impl Differences {
     }
 }
 
+/// The number of an item with so many ticks left.
+fn mix(item: usize, ticks: u64) -> u64
+    ensures { result ≡ mix item ticks }
+{
+    let mut digest = Digest::new();
+    digest.add(ticks << 7 ^ item as u64);
+    digest.value()
+}
+
 /// A number made of the ticks left of all items of a list, whatever the order of those with equal ticks left.
 fn mixed(links: &Links<136, 128>, more: &[u64; 128], list: usize) -> u64
-    requires { list < 8 }
+    requires list_in { list < 8 }
+    requires bound { sum_of (slice_index more.now) (lists.list_at links.now list) < 2 ^ 64 }
+    ensures sum { result ≡ (list + mixed_in (entries_from (slice_index more.now) 0 (lists.list_at links.now list))) % 2 ^ 64 }
+    ensures disjoint { lists.AreDisjoint 128 links.now }
 {
-    let mut mixed = 0u64;
-    let mut ticks = 0u64;
     let mut here = links.first(list);
+    let mut ticks = 0;
+    let mut mixed = list as u64;
     for _ in 0..128usize {
-        let Some(item) = here else {
-            return mixed;
-        };
-        if item >= 128 {
-            return mixed;
+        match here {
+            Some(item) => {
+                ticks += more[item];
+                mixed = mixed.wrapping_add(mix(item, ticks));
+                here = links.next(item);
+            }
+            None => return mixed,
         }
-        ticks = ticks.wrapping_add(more[item]);
-        let mut digest = Digest::new();
-        digest.add(ticks << 7 ^ item as u64);
-        mixed = mixed.wrapping_add(digest.value());
-        here = links.next(item);
     }
     mixed
 }

@@ -3,6 +3,7 @@
 ghost use Rattle.std.specs.Prelude.{◌≡◌, None, [], false, true, filter, is_some};
 ghost use Rattle.std.specs.Option.{option_map};
 ghost use Rattle.fmp_time.specs.declared.item.Item.{Item as AnyItem};
+ghost use Rattle.fmp_time.specs.Mixed.{added_times};
 ghost use Rattle.fmp_time.specs.Left.{is_over, ticks_of};
 ghost use Rattle.fmp_time.specs.Times.{wait_of, alarm_of, cyclic_of, all_objects, left_of, armed, cancelled, moved_to, renewed, lowered, ticked, served, began, ended};
 ghost use Rattle.fmp_time.specs.Times.{IsLeastOn, AreWaits, no_times};
@@ -105,6 +106,13 @@ impl Timers {
         self.differences.next(processor.index())
     }
 
+    /// The waits are those that have ticks left, as they always are. Does nothing.
+    pub fn know_waits(&self)
+        ensures { AreWaits self.now }
+    {
+        let _waits = &self.waits;
+    }
+
     /// All that counts on a processor has one tick less, or stays at 0. It counts on.
     pub fn lower(&mut self, processor: Proc)
         ensures { self.new ≡ lowered self.old processor }
@@ -174,6 +182,8 @@ impl Timers {
 
 impl Part for Timers {
     ghost fits = { λ a b. Unit {0} };
+
+    ghost digested = { λ m sum. added_times m sum };
 
     fn is_same(&self, other: &Self) -> bool {
         self.waits.is_same(&other.waits) && self.differences.has_same_lefts(&other.differences)

@@ -1,10 +1,11 @@
 -- believed: see docs/PROOF.md, "What has to be believed"
 -- A wait queue: its order, and its waiters with their ranks.
-use Rattle.std.specs.Prelude.{ℕ, ◌==◌, Bool, not, nat_lt, List, [], ◌∷◌, filter, if◌then◌else◌}
+use Rattle.std.specs.Prelude.{ℕ, ◌==◌, Bool, not, nat_lt, List, [], ◌∷◌, filter, map, if◌then◌else◌}
 use Rattle.std.specs.List.{list_any}
 use Rattle.fmp_codes.specs.declared.numbers.Task.{Task}
 use Rattle.fmp_codes.specs.declared.numbers.Pri.{Pri}
 use Rattle.fmp_setup.specs.declared.setup.Order.{Order}
+use Rattle.fmp_kernel_parts.specs.Digests.{added_all, added_task}
 use Rattle.fmp_setup.specs.declared.setup.Order.TheVariants as order
 
 pub record Waiter : Type 0 where
@@ -25,6 +26,10 @@ rank_of order.Priority n = n.number
 
 abbrev pub waiter_of : Order → Task → Pri → Waiter
 waiter_of o t n = record { task = t; rank = rank_of o n }
+
+-- what a digest is after these waiters were added: their tasks tell their ranks
+abbrev pub added_waiters : List Waiter → ℕ → ℕ
+added_waiters es sum = added_all added_task (map task_of es) sum
 
 abbrev pub has_waiter : Task → List Waiter → Bool
 has_waiter t es = list_any (λ e. t.number == e.task.number) es

@@ -12,7 +12,7 @@
 ghost use Rattle.std.specs.Prelude.{◌≡◌, ℕ, ◌-◌, false, true, Some, [], map, slice_index};
 ghost use Rattle.fmp_rules.specs.World.{first};
 ghost use Rattle.fmp_kernel_parts.specs.Tasks.{AreDistinct};
-ghost use Rattle.fmp_waitq.specs.Queue.{task_of, has_waiter, left_by, put_ranked, joined_by, rank_of, waiter_of};
+ghost use Rattle.fmp_waitq.specs.Queue.{task_of, added_waiters, has_waiter, left_by, put_ranked, joined_by, rank_of, waiter_of};
 ghost use Rattle.fmp_waitq.specs.Kept.{spot_in, rank_in};
 
 use arrayvec::ArrayVec;
@@ -33,13 +33,13 @@ pub struct WaitQueue {
 impl Model for WaitQueue {
     ghost use Rattle.std.specs.Prelude.{map};
     ghost use Rattle.fmp_waitq.specs.Queue.{Queue};
-    ghost use Rattle.fmp_waitq.specs.Kept.{waiter_in, IsFlat};
+    ghost use Rattle.fmp_waitq.specs.Kept.{waiter_in, AreRanks};
 
     ghost Value = { Queue };
 
     ghost view = { λ a. record { order = a.order; waiters = map (waiter_in a.ranks) a.tasks } };
 
-    ghost invariant = { λ a. IsFlat a.order a.ranks a.tasks };
+    ghost invariant = { λ a. AreRanks a.order a.ranks a.tasks };
 }
 
 impl WaitQueue {
@@ -82,25 +82,8 @@ impl WaitQueue {
         ensures waiters { self.new ≡ record self.old { waiters = left_by task self.old.waiters } }
         ensures there { result ≡ has_waiter task self.old.waiters }
     {
-        let there = self.take_out(task);
-        self.forget(task);
-        there
-    }
-
-    /// A task goes, and its rank stays.
-    fn take_out(&mut self, task: Task) -> bool
-        ensures waiters { self.new ≡ record self.old { waiters = left_by task self.old.waiters } }
-        ensures there { result ≡ has_waiter task self.old.waiters }
-    {
-        self.tasks.remove(task)
-    }
-
-    /// The rank of a task that does not wait becomes 0.
-    fn forget(&mut self, task: Task)
-        requires { has_waiter task self.old.waiters ≡ false }
-        ensures { self.new ≡ self.old }
-    {
         self.ranks[task.index()] = 0;
+        self.tasks.remove(task)
     }
 
     /// A task that is there leaves its place and joins anew, with this priority.
@@ -137,6 +120,8 @@ impl WaitQueue {
 
 impl Part for WaitQueue {
     ghost fits = { λ a b. Unit {0} };
+
+    ghost digested = { λ q sum. added_waiters q.waiters sum };
 
     fn is_same(&self, other: &Self) -> bool {
         self.order == other.order

@@ -20,9 +20,9 @@ loop-line-preserved c =
     let names = c.args.config.now.names in
     let line = c.in-Some.line.now in
     let said = line_said names n line in
-    let text = subst (λ (ns : NameLists). Adds (difference ns n w line (line_said ns n line)) c.loop-line.out c.differ.new.out) c.names-names.ensures.value
-    c.differ.ensures.text in
-    let state = subst (λ (ns : NameLists). c.differ.new.out.wanting ≡ false → c.differ.new.self.plain.state ≡ beyond w (line_said ns n line)) c.names-names.ensures.value
+    let same = c.names-names.ensures.value in
+    let text = subst (λ (ns : NameLists). Adds (difference ns n w line (line_said ns n line)) c.loop-line.out c.differ.new.out) same c.differ.ensures.text in
+    let state = subst (λ (ns : NameLists). c.differ.new.out.wanting ≡ false → c.differ.new.self.plain.state ≡ beyond w (line_said ns n line)) same
     c.differ.ensures.state in
     let put = one_put (differences_from names n w (pieces_of 10 c.loop-line.rest.now)) (difference names n w line said)
     (differences_from names (n + 1) (beyond w said) (pieces_of 10 c.in-Some.after.now))
@@ -38,4 +38,5 @@ pub returns : goal.returns
 returns c =
     all_put (differences_from c.args.config.now.names c.loop-line.number c.loop-line.player.plain.state (pieces_of 10 c.loop-line.rest.now))
     (differences_from c.args.config.now.names 1 (booted c.args.config.now) (pieces_of 10 c.args.text.now)) c.args.out.now c.loop-line.out
-    (no_lines c.args.config.now.names c.loop-line.number c.loop-line.player.plain.state c.loop-line.rest.now c.in_default.ensures.none) c.loop-line.invariant.report
+    (no_lines c.args.config.now.names c.loop-line.number c.loop-line.player.plain.state c.loop-line.rest.now c.in_default.ensures.none)
+    c.loop-line.invariant.report

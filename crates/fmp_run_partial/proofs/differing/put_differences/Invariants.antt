@@ -7,7 +7,8 @@ use Rattle.fmp_run_partial.proofs.differing.put_differences.Given as goal
 
 abbrev pub invariant-loop-line : goal.invariant-loop-line
 invariant-loop-line l = record {
-  report : Owes (differences_from l.config.names l.number l.player.plain.state (pieces_of 10 l.rest)) (differences_from l.config.names 1 (booted l.config) (pieces_of 10 l.text)) l.fn.out l.out;
+  report : Owes (differences_from l.config.names l.number l.player.plain.state (pieces_of 10 l.rest))
+      (differences_from l.config.names 1 (booted l.config) (pieces_of 10 l.text)) l.fn.out l.out;
   steps : l.player.plain.steps + 1 ≤ l.number;
   left : l.number + length l.rest ≤ length l.text + 1;
 }

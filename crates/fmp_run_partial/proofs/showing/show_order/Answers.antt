@@ -10,5 +10,6 @@ put_answers-requires c =
     let few_events : length c.as_slice.result.now ≤ most_events = rw c.as_slice.ensures.value c.in_ok-lines.ensures.few in
     let steps : c.in_ok-plain.plain.steps ≡ 0 = ap (λ (m : Run). m.steps) c.in_ok-plain.ensures.state in
     let short : length c.as_slice-2.result.now ≤ most_events =
-    subst (λ (xs : List Event). length xs ≤ most_events) (sym (c.as_slice-2.ensures.value ∙ c.in_ok-events.ensures)) (few_played _ _ _ few_events c.requires.few) in
+    subst (λ (xs : List Event). length xs ≤ most_events) (sym (c.as_slice-2.ensures.value ∙ c.in_ok-events.ensures))
+    (few_played _ _ _ few_events c.requires.few) in
     omega (arith, steps, short)

@@ -30,7 +30,8 @@ loop-line-preserved-then-not-play c =
       report = rw c.play.ensures.state (one_put (hunks_from names w n (pieces_of 10 c.loop-line.rest.now)) (difference_text Each (difference_at names w n line))
           (hunks_from names (following w (event_of names line)) (n + 1) (pieces_of 10 c.in-Some.after.now))
           (hunks_from names c.args.player.now.plain.state (c.args.n + 1) (pieces_of 10 c.args.text.now)) c.args.out.now c.loop-line.out c.put_hunk.new.out
-          (hunk_of_other names w n c.loop-line.rest.now line c.in-Some.after.now c.in-Some.ensures.line c.in-Some.ensures.rest other) c.loop-line.invariant.report put);
+          (hunk_of_other names w n c.loop-line.rest.now line c.in-Some.after.now c.in-Some.ensures.line c.in-Some.ensures.rest other)
+          c.loop-line.invariant.report put);
       steps = omega (arith, c.loop-line.invariant.steps, c.play.ensures.steps);
       count = c.play.ensures.count;
       left = omega (arith, c.loop-line.invariant.left, shorter 10 c.loop-line.rest.now c.in-Some.after.now c.in-Some.ensures.rest);
@@ -44,7 +45,8 @@ loop-line-preserved c =
     let line = c.in-Some.line.now in
     let own : prints_answer names w n line (event_of names line) ≡ true = sym c.play.ensures.same ∙ c.if-not-play.false in
     record {
-      report = rw c.play.ensures.state (none_put (hunks_from names w n (pieces_of 10 c.loop-line.rest.now)) (hunks_from names (following w (event_of names line)) (n + 1) (pieces_of 10 c.in-Some.after.now))
+      report = rw c.play.ensures.state (none_put (hunks_from names w n (pieces_of 10 c.loop-line.rest.now))
+          (hunks_from names (following w (event_of names line)) (n + 1) (pieces_of 10 c.in-Some.after.now))
           (hunks_from names c.args.player.now.plain.state (c.args.n + 1) (pieces_of 10 c.args.text.now)) c.args.out.now c.loop-line.out
           (hunk_of_own names w n c.loop-line.rest.now line c.in-Some.after.now c.in-Some.ensures.line c.in-Some.ensures.rest own) c.loop-line.invariant.report);
       steps = omega (arith, c.loop-line.invariant.steps, c.play.ensures.steps);
@@ -56,4 +58,5 @@ pub returns : goal.returns
 returns c =
     all_put (hunks_from c.args.names.now c.loop-line.player.plain.state (c.loop-line.number + 1) (pieces_of 10 c.loop-line.rest.now))
     (hunks_from c.args.names.now c.args.player.now.plain.state (c.args.n + 1) (pieces_of 10 c.args.text.now)) c.args.out.now c.loop-line.out
-    (no_hunks c.args.names.now c.loop-line.player.plain.state (c.loop-line.number + 1) c.loop-line.rest.now c.in_default.ensures.none) c.loop-line.invariant.report
+    (no_hunks c.args.names.now c.loop-line.player.plain.state (c.loop-line.number + 1) c.loop-line.rest.now c.in_default.ensures.none)
+    c.loop-line.invariant.report

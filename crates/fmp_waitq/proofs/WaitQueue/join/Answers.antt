@@ -1,10 +1,12 @@
-use Rattle.std.proofs.Common.{ℕ, [], ◌∷◌, ◌++◌, map, sym, ap, ◌∙◌}
+use Rattle.std.proofs.Common.{◌≡◌, ℕ, List, [], ◌∷◌, ◌++◌, map, sym, ap, subst, ◌∙◌}
 use Rattle.std.specs.Prelude.{slice_set}
 use Rattle.fmp_setup.specs.declared.setup.Order.{Order}
+use Rattle.fmp_setup.specs.declared.setup.Order.TheVariants as order
+use Rattle.fmp_codes.specs.declared.numbers.Task.{Task}
 use Rattle.fmp_kernel_parts.specs.Tasks.{inserted}
 use Rattle.fmp_waitq.specs.Queue.{rank_of}
-use Rattle.fmp_waitq.specs.Kept.{rank_in, waiter_in}
-use Rattle.fmp_waitq.proofs.Waiters.{is_absent, joined_is, joined_last, joined_before, spot_flat, spot_there}
+use Rattle.fmp_waitq.specs.Kept.{rank_in, waiter_in, AreRanks}
+use Rattle.fmp_waitq.proofs.Waiters.{is_absent, joined_is, joined_last, joined_before, spot_flat, spot_there, joined_ranks, has_task-inserted}
 use Rattle.fmp_waitq.proofs.WaitQueue.join.Goals as goal
 
 pub push_last-requires : goal.push_last-requires
@@ -53,3 +55,14 @@ returns-in-None c =
     (ap (map (waiter_in (slice_set r c.index-in-Priority.result n))) c.push_last-in-None.ensures
     ∙ ap (λ (i : ℕ). map (waiter_in (slice_set r i n)) (ts ++ t ∷ [])) c.index-in-Priority.ensures.value
     ∙ joined_last r ts t n c.self.told out (sym c.spot-following.ensures ∙ c.in-None.is))
+
+pub invariant_of-self-in-Some : goal.invariant_of-self-in-Some
+invariant_of-self-in-Some c =
+    let t = c.args.task in
+    let n = c.args.priority.number in
+    let r = c.self.inside.ranks in
+    let us = inserted c.in-Some.following t c.self.inside.tasks in
+    subst (λ (ts : List Task). AreRanks c.self.inside.order (slice_set r c.index-in-Priority.result n) ts) (sym c.insert_before.ensures)
+    (subst (λ (i : ℕ). AreRanks c.self.inside.order (slice_set r i n) us) (sym c.index-in-Priority.ensures.value)
+    (joined_ranks c.self.inside.order r t n c.self.inside.tasks us c.self.invariant (λ (e : c.self.inside.order ≡ order.First). cc)
+    (λ u. has_task-inserted u c.in-Some.following t c.self.inside.tasks)))

@@ -8,7 +8,7 @@ use Rattle.fmp_rules.specs.World.{with_item}
 use Rattle.fmp_kernel_assigned.proofs.assigned.Assigned.end_wait.Goals as goal
 
 pub invariant_of-self : goal.invariant_of-self
-invariant_of-self c = subst (λ (m : Times). AreInStep c.self.inside.tasks c.self.inside.cyclics.items c.self.inside.alarms.items m.left) (sym c.cancel.ensures) (wait_step c.self.inside.timer c.self.inside.tasks c.self.inside.cyclics.items c.self.inside.alarms.items c.self.inside.timers c.self.invariant c.args.t None tt)
+invariant_of-self c = subst (λ (m : Times). AreInStep c.self.inside.tasks c.self.inside.cyclics.items c.self.inside.alarms.items m.left) (sym c.cancel.ensures) (wait_step c.self.inside.timer c.self.inside.tasks c.self.inside.cyclics.items c.self.inside.alarms.items c.self.inside.timers c.self.invariant c.args.t None tt (λ past. tt))
 
 pub returns : goal.returns
 returns c =

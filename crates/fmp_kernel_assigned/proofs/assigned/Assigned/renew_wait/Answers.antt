@@ -33,7 +33,7 @@ returns-then-counts c =
     ∙ ap (λ (v : Assignments). record v { timed = timed_by (item None v.waits_left c.args.t.number) c.args.t (without c.args.t v.timed) }) c.self.view_is
 
 pub invariant_of-self-else-index-len : goal.invariant_of-self-else-index-len
-invariant_of-self-else-index-len c = subst (λ (m : Times). AreInStep c.self.inside.tasks c.self.inside.cyclics.items c.self.inside.alarms.items m.left) (sym c.cancel.ensures) (wait_step c.self.inside.timer c.self.inside.tasks c.self.inside.cyclics.items c.self.inside.alarms.items c.self.inside.timers c.self.invariant c.args.t None tt)
+invariant_of-self-else-index-len c = subst (λ (m : Times). AreInStep c.self.inside.tasks c.self.inside.cyclics.items c.self.inside.alarms.items m.left) (sym c.cancel.ensures) (wait_step c.self.inside.timer c.self.inside.tasks c.self.inside.cyclics.items c.self.inside.alarms.items c.self.inside.timers c.self.invariant c.args.t None tt (λ past. tt))
 
 pub returns-else-index-len : goal.returns-else-index-len
 returns-else-index-len c =

@@ -33,7 +33,7 @@ invariant_of-self g c =
     let i = c.requires.somewhere.0 in (
       c.self.invariant.0,
       c.self.invariant.1,
-      settled (sound_out g.row.ITEMS n c.self.inside.prev c.self.inside.place c.args.self.now i c.args.item s (place_is s i c.args.item c.requires.somewhere.1) c.requires.item_in),
+      settled (sound_out g.row.ITEMS n c.self.inside.prev c.self.inside.place c.args.self.now i c.args.item s (place_is s i c.args.item c.requires.somewhere.1)),
     )
 
 pub returns : goal.returns
@@ -41,4 +41,4 @@ returns g c =
     let n = c.self.inside.next in
     let s : IsSound g.row.ITEMS n c.self.inside.prev c.self.inside.place c.args.self.now = subst (IsSound g.row.ITEMS n c.self.inside.prev c.self.inside.place) c.self.view_is c.self.invariant.2 in
     let i = c.requires.somewhere.0 in
-    lists_are (sound_out g.row.ITEMS n c.self.inside.prev c.self.inside.place c.args.self.now i c.args.item s (place_is s i c.args.item c.requires.somewhere.1) c.requires.item_in)
+    lists_are (sound_out g.row.ITEMS n c.self.inside.prev c.self.inside.place c.args.self.now i c.args.item s (place_is s i c.args.item c.requires.somewhere.1))

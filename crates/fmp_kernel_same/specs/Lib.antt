@@ -1,0 +1,1 @@
+pub mod Digests  -- What a digest is after a record of the machine was added.
