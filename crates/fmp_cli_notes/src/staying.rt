@@ -52,7 +52,7 @@ fn tell_longer<N: Notes>(notes: &mut N, alloc: Global) {
 }
 
 /// Tells that nothing stays in any order, and which calls of the scripts no order makes.
-fn tell_never<N: Notes + Progress>(
+fn tell_never<N: Notes>(
     notes: &mut N,
     about: About<'_>,
     stayed: &Stayed,
@@ -64,20 +64,13 @@ fn tell_never<N: Notes + Progress>(
         scripts: &stayed.asked.scripts,
         rules: stayed.rules,
     };
-    note_calls_unmade(notes, about, orders, stayed.extent, request.bounds);
+    note_calls_unmade(notes, about, orders, stayed.met.as_ref(), request.bounds);
 }
 
-/// Why a search that knows less than was asked for found no more places, of which so many lines were gone through.
-fn reach_of<N: Progress>(
-    notes: &mut N,
-    stayed: &Stayed,
-    lines: u32,
-    request: &ExploreRequest<'_>,
-) -> Reach {
-    if stayed.extent.places >= request.bounds.places.count as usize {
+/// Why a search that went through orders of so many lines, as far as was asked for or as there was room for places, found no more of them.
+fn reach_of(lines: u32, request: &ExploreRequest<'_>) -> Reach {
+    if lines < request.bounds.turns.count {
         Reach::Room
-    } else if lines < request.bounds.turns.count && !notes.is_over() {
-        Reach::Wanting
     } else {
         Reach::Part
     }
@@ -98,8 +91,11 @@ pub fn note_stayed<N: Notes + Progress>(
         }
         Staying::Never => tell_never(notes, about, stayed, request),
         Staying::NotWithin(lines) => {
-            let reach = reach_of(notes, stayed, lines, request);
-            tell_extent(notes, about, stayed.extent, reach, request);
+            tell_extent(notes, about, stayed.extent, reach_of(lines, request), request);
         }
+        Staying::Wanting(_) => {
+            tell_extent(notes, about, stayed.extent, Reach::Wanting, request);
+        }
+        Staying::Ended(_) => tell_extent(notes, about, stayed.extent, Reach::Part, request),
     }
 }

@@ -5,16 +5,13 @@ use fmp_cli_diagnostics::Notes;
 use fmp_cli_hints_config::{is_misplaced, put_misplaced};
 use fmp_codes::{Event, NameKind, Proc};
 use fmp_out::Text;
-use fmp_ranges::{Bounds, Turns};
-use fmp_run_explore::{Extent, Finding, Met, Orders, Outcome, Progress, is_made};
+use fmp_ranges::Bounds;
+use fmp_run_explore::{Met, Orders, Outcome, is_made};
 use fmp_trace::put_event;
 use std::alloc::{AllocError, Global};
 
 // How many calls are told.
 const MOST_CALLS: usize = 8;
-
-// By which part of the lines to the farthest place most calls are made.
-const SOON: u32 = 4;
 
 // How many positions of a script are looked at: a script has no more steps.
 const POSITIONS: u32 = 256;
@@ -137,87 +134,25 @@ fn tell_without<N: Notes>(
     }
 }
 
-/// Whether the search used up the room or the memory for places, and that for the calls would, too. A question of one step without `without` lets both go through the same places.
-fn has_no_room(outcome: &Outcome, bounds: Bounds) -> bool {
-    let is_full = match outcome.extent {
-        Some(extent) => extent.places >= bounds.places.count as usize,
-        None => false,
-    };
-    let is_one = match outcome.searched.question().steps() {
-        [step] => step.without.is_none(),
-        _ => false,
-    };
-    let is_ended =
-        matches!(outcome.finding, Finding::NotWithin(turns) if turns < bounds.turns.count);
-    let is_wanting = matches!(outcome.finding, Finding::Wanting(_));
-    is_wanting || is_ended && is_full && is_one
-}
-
-/// Which calls are made, where all of them are made by a part of the lines to the farthest place of a search. Few places are that near.
-fn all_met_soon<P: Progress>(
-    alloc: Global,
-    orders: Orders<'_>,
-    extent: Extent,
-    bounds: Bounds,
-    progress: &mut P,
-) -> Result<Option<Met>, AllocError> {
-    let lines = bounds.turns.count.min(extent.farthest / SOON);
-    let Some(turns) = Turns::new(lines.max(1)) else {
-        return Ok(None);
-    };
-    let places = bounds.places;
-    let Some(met) = orders.made(alloc, progress, Bounds { turns, places })? else {
-        return Ok(None);
-    };
-    let is_all = calls_without(alloc, orders, Some(&met))?.is_empty();
-    Ok(is_all.then_some(met))
-}
-
-/// Which calls are made, as far as that is known in time. The orders are not gone through to their ends where each call is made before.
-fn calls_met<P: Progress>(
-    alloc: Global,
-    orders: Orders<'_>,
-    extent: Extent,
-    bounds: Bounds,
-    progress: &mut P,
-) -> Result<Option<Met>, AllocError> {
-    match all_met_soon(alloc, orders, extent, bounds, progress)? {
-        Some(met) => Ok(Some(met)),
-        None => orders.made(alloc, progress, bounds),
-    }
-}
-
-/// Tells which calls of the scripts are always refused, and which no order makes, beside a question that no order shows. It says nothing that is not
-/// found in time.
-pub(crate) fn note_calls_unmade<N: Notes + Progress>(
+/// Tells which calls of the scripts are always refused, and which no order makes if that is known, beside a question that no order shows.
+pub(crate) fn note_calls_unmade<N: Notes>(
     notes: &mut N,
     about: About<'_>,
     orders: Orders<'_>,
-    extent: Extent,
+    met: Option<&Met>,
     bounds: Bounds,
 ) {
     let turns = bounds.turns.count;
     tell_without(notes, about, orders, None, turns);
-    if notes.is_over() {
-        return;
-    }
-    let found = calls_met(about.alloc, orders, extent, bounds, notes);
-    notes.end();
-    if let Ok(Some(met)) = found {
-        tell_without(notes, about, orders, Some(&met), turns);
+    if met.is_some() {
+        tell_without(notes, about, orders, met, turns);
     }
 }
 
-/// Likewise of what a search found, unless the room for places does not do.
-pub fn note_unmade<N: Notes + Progress>(
-    notes: &mut N,
-    about: About<'_>,
-    outcome: &Outcome,
-    bounds: Bounds,
-) {
-    if let Some(extent) = outcome.extent {
-        if !has_no_room(outcome, bounds) {
-            note_calls_unmade(notes, about, outcome.searched.orders(), extent, bounds);
-        }
+/// Likewise of what a search found.
+pub fn note_unmade<N: Notes>(notes: &mut N, about: About<'_>, outcome: &Outcome, bounds: Bounds) {
+    if outcome.extent.is_some() {
+        let orders = outcome.searched.orders();
+        note_calls_unmade(notes, about, orders, outcome.met.as_ref(), bounds);
     }
 }

@@ -308,6 +308,20 @@ fn replies_to<D: Desk>(
     Ok(replies)
 }
 
+/// That of the outcomes by which is told which calls no order makes: the first one that knows it, or else the first.
+fn telling(outcomes: &[Option<Outcome>]) -> Option<&Outcome> {
+    let mut first = None;
+    for outcome in outcomes {
+        if let Some(outcome) = outcome {
+            if outcome.met.is_some() {
+                return Some(outcome);
+            }
+            first = first.or(Some(outcome));
+        }
+    }
+    first
+}
+
 /// Reports which calls of the scripts no order makes, where some question is shown by none: that is the same beside each of them.
 fn report_unmade<D: Desk>(
     desk: &D,
@@ -319,11 +333,8 @@ fn report_unmade<D: Desk>(
         alloc: desk.alloc(),
         asked: "questions",
     };
-    for outcome in outcomes {
-        if let Some(outcome) = outcome {
-            note_unmade(progress, about, outcome, asking.request.bounds);
-            return;
-        }
+    if let Some(outcome) = telling(outcomes) {
+        note_unmade(progress, about, outcome, asking.request.bounds);
     }
 }
 

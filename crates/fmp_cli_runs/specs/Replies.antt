@@ -46,6 +46,8 @@ lasting_answer_of (staying.Shortest number lines) trace = answer.Shown (lines_in
 lasting_answer_of (staying.Found number lines) trace = answer.Shown (lines_in trace)
 lasting_answer_of staying.Never trace = answer.Never
 lasting_answer_of (staying.NotWithin n) trace = answer.NotWithin n
+lasting_answer_of (staying.Wanting n) trace = answer.NotWithin n
+lasting_answer_of (staying.Ended n) trace = answer.NotWithin n
 
 -- what was found is kept where no order shows the question
 abbrev pub kept_of : Finding → Outcome → Option Outcome
@@ -71,9 +73,9 @@ pub record RepliesSteps (config_text script_text question_text : List ℕ) (rule
   pub keeps : reply.outcome ≡ kept found
 
 -- The reply to a question of what stays for ever, likewise.
-pub record RepliesLasting (config_text script_text question_text : List ℕ) (rules : Rules) (turns : ℕ) (reply : Replied) : Type 0 where
+pub record RepliesLasting (config_text script_text question_text : List ℕ) (rules : Rules) (turns room : ℕ) (reply : Replied) : Type 0 where
   pub found : Stayed
-  pub explored : IsStayedExplored config_text script_text question_text rules turns [] reply.trace.items found.asked.question.items found.staying
+  pub explored : IsStayedExplored config_text script_text question_text rules turns room [] reply.trace.items found.asked.question.items found.staying
   pub answers : reply.answer ≡ lasting_answer_of found.staying reply.trace.items
   pub keeps : reply.outcome ≡ None
 

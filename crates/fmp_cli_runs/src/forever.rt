@@ -36,8 +36,8 @@ pub fn search_forever<R: Source, S: Source, W: Sink, P: Progress>(
 
     // What it writes: what is known of all orders by these rules.
     ensures writes { WritesOut (λ c s old new found. IsExplored c s request.now.question.now
-        (asked.rules_of request.now) request.now.bounds.turns.count old new found.asked.question.items found.staying)
-        (λ c s. IsBegun c s request.now.question.now (asked.rules_of request.now) request.now.bounds.turns.count) (ExploreFault.Run RunFault.Write)
+        (asked.rules_of request.now) request.now.bounds.turns.count (request.now.bounds.places.count - 1) old new found.asked.question.items found.staying)
+        (λ c s. IsBegun c s request.now.question.now (asked.rules_of request.now) request.now.bounds.turns.count (request.now.bounds.places.count - 1)) (ExploreFault.Run RunFault.Write)
         (source_ends R.left R.failures config.old config.new) (source_ends S.left S.failures scripts.old scripts.new)
         (sink_ends W.written W.buffered W.failures output.old output.new) result }
 {

@@ -53,7 +53,9 @@ fn lasting_answer_of(staying: Staying, trace: &[u8]) -> Answer
     match staying {
         Staying::Shortest(..) | Staying::Found(..) => Answer::Shown(lines_in(trace)),
         Staying::Never => Answer::Never,
-        Staying::NotWithin(lines) => Answer::NotWithin(lines),
+        Staying::NotWithin(lines) | Staying::Wanting(lines) | Staying::Ended(lines) => {
+            Answer::NotWithin(lines)
+        }
     }
 }
 
@@ -117,7 +119,8 @@ fn lasting_reply<P: Progress>(
     request: &ExploreRequest<'_>,
     progress: &mut P,
 ) -> Result<Replied, ExploreFault>
-    ensures replies { IfOk result (RepliesLasting config.now scripts.now request.now.question.now (asked.rules_of request.now) request.now.bounds.turns.count) }
+    ensures replies { IfOk result (RepliesLasting config.now scripts.now request.now.question.now (asked.rules_of request.now) request.now.bounds.turns.count
+        (request.now.bounds.places.count - 1)) }
     ensures faults { asks_of_what_stays request.now.question.now ≡ true → IfErr result (IsUnreplied config.now scripts.now request.now.question.now) }
 {
     let mut config = MemSource::new(config);
@@ -155,7 +158,8 @@ pub fn reply_to<P: Progress>(
 
     // To a question of what stays for ever: what `search_forever` finds and writes, and its answer.
     ensures lasting { asks_of_what_stays request.now.question.now ≡ true
-        → IfOk result (RepliesLasting config.now scripts.now request.now.question.now (asked.rules_of request.now) request.now.bounds.turns.count) }
+        → IfOk result (RepliesLasting config.now scripts.now request.now.question.now (asked.rules_of request.now) request.now.bounds.turns.count
+        (request.now.bounds.places.count - 1)) }
 
     // A fault of a text or of the question is its first one, and nothing was written but to memory.
     ensures faults { IfErr result (IsUnreplied config.now scripts.now request.now.question.now) }

@@ -8,7 +8,7 @@ use Rattle.fmp_trace.specs.Lines.{lines_from}
 use Rattle.fmp_trace_check.specs.Checking.{PrintsAnswers}
 use Rattle.fmp_run_devices.specs.Devices.{BeginsWith}
 use Rattle.fmp_smp_histories.specs.Histories.{events_of}
-use Rattle.fmp_search.specs.Answers.{UsedUp}
+use Rattle.fmp_search.specs.Answers.{StopsAt}
 use Rattle.fmp_search_pattern.specs.declared.question.Step.{Step}
 use Rattle.fmp_search_question.specs.Reading.{question_in}
 use Rattle.fmp_search_orders.specs.declared.rules.Rules.{Rules}
@@ -29,14 +29,14 @@ pub record IsShown (c : Setup) (scripts : List Steps) (rules : Rules) (question 
   pub prints : text ≡ lines_from c.names 1 records
   pub answers : PrintsAnswers c text (events_of records)
 
--- what is known of all orders, and the text that tells it. Where that is less than was asked for, the room for places was used up,
--- memory for them was wanting, or the search was ended
+-- what is known of all orders, and the text that tells it. Where that is not all, a place is as far as was asked for, the room for places was used up, memory
+-- for them was wanting, or the search was ended
 abbrev pub Finds : Setup → List Steps → Rules → List Step → ℕ → ℕ → List ℕ → Finding → Type 0
 Finds c scripts rules question turns room text finding.Shown = IsShown c scripts rules question turns text
 Finds c scripts rules question turns room text finding.Never = NoneShows c scripts rules question × (text ≡ codes "never\n")
 Finds c scripts rules question turns room text (finding.NotWithin n) =
-    (n ≤ turns) × NoneShowsWithin c scripts rules question n × (text ≡ codes "not within " ++ decimal n ++ codes "\n")
-    × (n < turns → UsedUp after (origin c scripts rules question) n room)
+    NoneShowsWithin c scripts rules question n × (text ≡ codes "not within " ++ decimal n ++ codes "\n")
+    × StopsAt after (origin c scripts rules question) turns room n
 Finds c scripts rules question turns room text (finding.Wanting n) =
     (n < turns) × NoneShowsWithin c scripts rules question n × (text ≡ codes "not within " ++ decimal n ++ codes "\n")
 Finds c scripts rules question turns room text (finding.Ended n) =

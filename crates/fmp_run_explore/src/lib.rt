@@ -3,7 +3,7 @@
 //! [`run_explore`] reads both texts and the question, goes through every order of calls, interrupts and ticks that the rules allow, and writes
 //! `never`, `not within` and a number, or the trace of a shortest order that shows the question. What each of them says of all orders is
 //! `Finds` in `specs/Explored`: begin there. How many steps come of a question that no order shows is `HasCome` in `specs/Came`, how far the search went
-//! is `IsGone` in `specs/Gone`, and which calls of the scripts are made `SaysMade` in `specs/Made`. Orders, and when one shows a question, are in
+//! is `IsGone` in `specs/Gone`, and which calls of the scripts are made `TellsCalls` in `specs/Made`. Orders, and when one shows a question, are in
 //! `fmp_search_orders`.
 //!
 //! A search for something else in the orders of scripts asks by an [`Asker`] of its own: [`asked_from`] reads both texts and what is asked, and what

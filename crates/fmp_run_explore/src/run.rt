@@ -7,6 +7,7 @@ ghost use Rattle.fmp_run_explore.specs.Faults.{OwesSearch};
 ghost use Rattle.fmp_run_explore.specs.Explored.{IsBegun, IsEndedBy, IsExplored};
 ghost use Rattle.fmp_run_explore.specs.Faults as faults;
 ghost use Rattle.fmp_run_explore.specs.Gone.{IsGone};
+ghost use Rattle.fmp_run_explore.specs.Made.{TellsCalls};
 ghost use Rattle.fmp_run_explore.specs.Searched.{IsOfTexts};
 
 use crate::asker::StepsAsker;
@@ -56,6 +57,9 @@ pub fn run_explore<R: Source, S: Source, W: Sink, P: Progress>(
 
     // It tells how far it went.
     ensures went { IfOk result (λ o. IsGone o.searched o.finding o.extent) }
+
+    // It tells which calls are made.
+    ensures tells { IfOk result (λ o. TellsCalls o.searched request.now.bounds.turns.count o.finding o.met) }
 
     // Less is known than was asked for, with room that is left, only where the search was ended.
     ensures ended { IfOk result (λ o. IsEndedBy (P.over progress.new) o.finding) }

@@ -14,7 +14,7 @@ use crate::searching::found;
 use fmp_names::Names;
 use fmp_ranges::Bounds;
 use fmp_rules::Config;
-use fmp_search::{Extent, Progress};
+use fmp_search::{Extent, Met, Progress};
 use fmp_search_kernel::is_so_at_boot;
 use fmp_search_orders::Rules;
 use fmp_search_pattern::{Question, Wanted};
@@ -99,12 +99,14 @@ impl Searched {
     }
 }
 
-/// What a search found of all orders, how far it went, and what it was asked.
+/// What a search found of all orders, how far it went, which calls of the scripts are made, and what it was asked.
 #[derive(Drop)]
 pub struct Outcome {
     pub finding: Finding,
     /// How far the search went. None where an order was found.
     pub extent: Option<Extent>,
+    /// Which calls are made: in all orders, or in those of at most as many lines as the bounds say. None where not all of these were gone through.
+    pub met: Option<Met>,
     pub searched: Searched,
     pub ghost none_shows: { (finding ≡ Never) → NoneShows searched.config searched.scripts searched.rules searched.question },
 }

@@ -4,6 +4,7 @@ ghost use Rattle.fmp_run_devices.specs.Devices.{IsKnown, bytes_of};
 ghost use Rattle.fmp_text_scripts.specs.Scripts.{AreInBits};
 ghost use Rattle.fmp_run_explore.specs.Explored.{IsEndedBy, IsPartWritten, IsWritten};
 ghost use Rattle.fmp_run_explore.specs.Gone.{IsGone};
+ghost use Rattle.fmp_run_explore.specs.Made.{TellsCalls};
 ghost use Rattle.fmp_run_explore.specs.Searched.{searched};
 ghost use Rattle.fmp_run_explore.specs.Faults as faults;
 
@@ -44,6 +45,7 @@ pub(crate) fn found_written<W: Sink, P: Progress>(
         (bytes_of (W.written output.new)) o.finding) }
     ensures searched { IfOk result (λ o. o.searched ≡ searched asked.config asked.scripts rules asked.question) }
     ensures went { IfOk result (λ o. IsGone o.searched o.finding o.extent) }
+    ensures tells { IfOk result (λ o. TellsCalls o.searched bounds.turns.count o.finding o.met) }
     ensures ended { IfOk result (λ o. IsEndedBy (P.over progress.new) o.finding) }
     ensures known { IsKnown (W.written output.old) → IsKnown (W.written output.new) }
     ensures passed { OnOk result (W.buffered output.new ≡ []) }
@@ -68,6 +70,7 @@ pub(crate) fn found_written<W: Sink, P: Progress>(
         Ok(()) => Ok(Outcome {
             finding: report.finding,
             extent: report.extent,
+            met: report.met,
             searched: Searched::of(asked, rules),
         }),
         Err(_) => Err(WriteFault::Write),

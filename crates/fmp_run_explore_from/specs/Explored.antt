@@ -8,7 +8,7 @@ use Rattle.fmp_trace.specs.Lines.{lines_from}
 use Rattle.fmp_trace_check.specs.Checking.{PrintsAnswers}
 use Rattle.fmp_run_devices.specs.Devices.{BeginsWith}
 use Rattle.fmp_smp_histories.specs.Histories.{events_of}
-use Rattle.fmp_search.specs.Answers.{UsedUp}
+use Rattle.fmp_search.specs.Answers.{StopsAt}
 use Rattle.fmp_search.specs.Guides.{guide, guided_after}
 use Rattle.fmp_search_pattern.specs.declared.question.Step.{Step}
 use Rattle.fmp_search_question.specs.Reading.{question_in}
@@ -29,14 +29,14 @@ pub record IsShownFrom (c : Setup) (scripts : List Steps) (rules : Rules) (quest
   pub prints : text ≡ lines_from c.names 1 records
   pub answers : PrintsAnswers c text (events_of records)
 
--- what is known of all orders that go on from one, and the text that tells it. Where that is less than was asked for, the room for places was
+-- what is known of all orders that go on from one, and the text that tells it. Where that is not all, a place is as far as was asked for, the room for places was
 -- used up, memory for them was wanting, or the search was ended
 abbrev pub FindsFrom : Setup → List Steps → Rules → List Step → List Record → ℕ → ℕ → List ℕ → Finding → Type 0
 FindsFrom c scripts rules question begun turns room text finding.Shown = IsShownFrom c scripts rules question begun turns text
 FindsFrom c scripts rules question begun turns room text finding.Never = NoneShowsFrom c scripts rules question begun × (text ≡ codes "never\n")
 FindsFrom c scripts rules question begun turns room text (finding.NotWithin n) =
-    (n ≤ turns) × NoneShowsWithinFrom c scripts rules question begun n × (text ≡ codes "not within " ++ decimal n ++ codes "\n")
-    × (n < turns → UsedUp (guided_after after) (guide (choices_of begun) (origin c scripts rules question)) n room)
+    NoneShowsWithinFrom c scripts rules question begun n × (text ≡ codes "not within " ++ decimal n ++ codes "\n")
+    × StopsAt (guided_after after) (guide (choices_of begun) (origin c scripts rules question)) turns room n
 FindsFrom c scripts rules question begun turns room text (finding.Wanting n) =
     (n < turns) × NoneShowsWithinFrom c scripts rules question begun n × (text ≡ codes "not within " ++ decimal n ++ codes "\n")
 FindsFrom c scripts rules question begun turns room text (finding.Ended n) =

@@ -21,18 +21,19 @@ use Rattle.fmp_run_forever.specs.Stayed.{IsStaying, IsLeast, Finds}
 module _ (c : Setup) (scripts : List Steps) (rules : Rules) (lasting : List Lasting) (number : ℕ) (steps : List ℕ) (is_one : number < length lasting)
     (ends : WatchedEnds c scripts rules lasting number steps) where
   -- what is told along them is the trace of an order that ends so
-  pub staying : (text : List ℕ) → IsValid c → AreValid c.names → AreInBits scripts → WatchedAnswer c scripts rules lasting → length steps ≤ 1000000
-      → text ≡ lines_from c.names 1 (records (origin c scripts rules []) steps) → IsStaying c scripts rules lasting number (length steps) text
-  staying text valid names_valid all law few is =
+  pub staying : (turns : ℕ) (text : List ℕ) → IsValid c → AreValid c.names → AreInBits scripts → WatchedAnswer c scripts rules lasting → length steps ≤ turns → turns ≤ 1000000
+      → text ≡ lines_from c.names 1 (records (origin c scripts rules []) steps) → IsStaying c scripts rules lasting turns number (length steps) text
+  staying turns text valid names_valid all law short few is =
       let got = law.found number steps is_one ends in
       let h = records (origin c scripts rules []) steps in
       let long = got.1 in
-      let many : length (events_of h) ≤ 1000000 = omega (arith, length-map h (λ (r : Record). r.event), long, few) in
+      let many : length (events_of h) ≤ 1000000 = omega (arith, length-map h (λ (r : Record). r.event), long, short, few) in
       record {
         is_one = is_one;
         records = h;
         ends = got.0;
         long = long;
+        within = short;
         prints = is;
         answers =
             own_trace c text (events_of h) valid names_valid got.0.order.run.on (order_fits c scripts rules all h got.0.order.in_order) many
@@ -40,11 +41,11 @@ module _ (c : Setup) (scripts : List Steps) (rules : Rules) (lasting : List Last
       }
 
   -- and as the shortest where no other is shorter
-  pub report : (turns : ℕ) (text : List ℕ) (shortest : Bool) (s : Staying) → IsStaying c scripts rules lasting number (length steps) text
+  pub report : (turns room : ℕ) (text : List ℕ) (shortest : Bool) (s : Staying) → IsStaying c scripts rules lasting turns number (length steps) text
       → (shortest ≡ true → IsLeast c scripts rules lasting (length steps)) → s ≡ cond shortest (Shortest number (length steps)) (Found number (length steps))
-      → Finds c scripts rules lasting turns text s
-  report turns text true s so least is = subst (λ (x : Staying). Finds c scripts rules lasting turns text x) (sym is) (so, least refl)
-  report turns text false s so least is = subst (λ (x : Staying). Finds c scripts rules lasting turns text x) (sym is) so
+      → Finds c scripts rules lasting turns room text s
+  report turns room text true s so least is = subst (λ (x : Staying). Finds c scripts rules lasting turns room text x) (sym is) (so, least refl)
+  report turns room text false s so least is = subst (λ (x : Staying). Finds c scripts rules lasting turns room text x) (sym is) so
 
 -- where no run over places is shorter, no order is
 pub least_of : (c : Setup) (scripts : List Steps) (rules : Rules) (lasting : List Lasting) (n : ℕ) → WatchedAnswer c scripts rules lasting

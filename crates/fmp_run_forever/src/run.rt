@@ -8,6 +8,7 @@ ghost use Rattle.fmp_run_explore.specs.Faults as faults;
 ghost use Rattle.fmp_run_forever.specs.Asked as asked;
 ghost use Rattle.fmp_run_forever.specs.Gone.{HasGone};
 ghost use Rattle.fmp_run_forever.specs.Stayed.{IsBegun, IsExplored};
+ghost use Rattle.fmp_run_forever.specs.Told.{TellsCalls};
 
 use crate::asking::LastingAsker;
 use crate::staying::Stayed;
@@ -40,15 +41,19 @@ pub fn run_forever<R: Source, S: Source, W: Sink, P: Progress>(
         (sink_ends W.written W.buffered W.failures output.old output.new) result }
 
     // What it writes: what is known of all orders.
-    ensures writes { WritesOut (λ c s old new found. IsExplored c s request.now.question.now request.now.rules request.now.bounds.turns.count old new found.asked.question.items found.staying)
-        (λ c s. IsBegun c s request.now.question.now request.now.rules request.now.bounds.turns.count) (ExploreFault.Run RunFault.Write)
+    ensures writes { WritesOut (λ c s old new found. IsExplored c s request.now.question.now request.now.rules request.now.bounds.turns.count (request.now.bounds.places.count - 1) old new
+        found.asked.question.items found.staying)
+        (λ c s. IsBegun c s request.now.question.now request.now.rules request.now.bounds.turns.count (request.now.bounds.places.count - 1)) (ExploreFault.Run RunFault.Write)
         (source_ends R.left R.failures config.old config.new) (source_ends S.left S.failures scripts.old scripts.new)
         (sink_ends W.written W.buffered W.failures output.old output.new) result }
 
     // It tells how far it went.
     ensures gone { IsKnown (R.left config.old) → IsKnown (S.left scripts.old)
         → IfOk result (λ s. HasGone (bytes_of (R.left config.old))
-        (bytes_of (S.left scripts.old)) request.now.question.now request.now.rules s.asked.question.items s.staying s.extent) }
+        (bytes_of (S.left scripts.old)) request.now.question.now request.now.rules s.asked.question.items (P.over progress.new) s.staying s.extent) }
+
+    // It tells which calls are made.
+    ensures tells { IfOk result (λ s. TellsCalls s.asked.config s.asked.scripts s.rules request.now.bounds.turns.count s.staying s.met) }
 {
     let asker = LastingAsker {
         text: request.question,
@@ -59,11 +64,12 @@ pub fn run_forever<R: Source, S: Source, W: Sink, P: Progress>(
     };
     let rules = request.rules;
     match found_written(alloc, &asked, rules, request.bounds, output, progress) {
-        Ok((staying, extent)) => Ok(Stayed {
+        Ok((staying, extent, met)) => Ok(Stayed {
             staying,
             asked,
             rules,
             extent,
+            met,
         }),
         Err(WriteFault::Memory) => Err(ExploreFault::Run(RunFault::Memory)),
         Err(WriteFault::Write) => Err(ExploreFault::Run(RunFault::Write)),

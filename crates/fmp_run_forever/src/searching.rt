@@ -1,10 +1,13 @@
 //! The search through all orders of one machine and its scripts for what stays.
-ghost use Rattle.std.specs.Prelude.{◌≡◌, ◌≤◌, ◌<◌, List, [], length, IfOk, IsTrue, if◌then◌else◌};
+ghost use Rattle.std.specs.Prelude.{◌≡◌, ◌≤◌, ◌<◌, ◌-◌, Bool, false, List, [], length, IfOk, IfSome, IsTrue, if◌then◌else◌};
 ghost use Rattle.fmp_search.specs.declared.nodes.Node.{Node};
 ghost use Rattle.fmp_run_forever.specs.Gone.{IsGone};
 ghost use Rattle.fmp_run_forever.specs.Stayed.{Finds, IsLeast};
+ghost use Rattle.fmp_run_forever.specs.Told.{TellsCalls};
+ghost use Rattle.fmp_run_explore.specs.Made.{SaysMade};
 ghost use Rattle.fmp_search.specs.Extents.{HasGone, WentForEver};
 ghost use Rattle.fmp_search.specs.Forever.{SaysForEver};
+ghost use Rattle.fmp_search.specs.Meeting.{IsMetBesideStay, Meets};
 ghost use Rattle.fmp_search_orders.specs.Places as places;
 ghost use Rattle.fmp_search_orders.specs.Watched as watched;
 ghost use Rattle.fmp_text_scripts.specs.Scripts.{AreInBits};
@@ -12,21 +15,19 @@ ghost use Rattle.fmp_text_scripts.specs.Scripts.{AreInBits};
 use crate::staying::Staying;
 use fmp_ranges::Bounds;
 use fmp_run_explore::{Orders, never, not_within, trace_along};
-use fmp_search::{Extent, Progress, Space, Stay, for_ever};
-use fmp_search_kernel::Watcher;
-use fmp_search_orders::watched_answer;
+use fmp_search::{Extent, Met, Progress, Space, Stay, for_ever};
+use fmp_search_kernel::{NUMBERS, Watcher};
+use fmp_search_orders::{made_answer, watched_answer};
 use fmp_search_pattern::{Moment, Question};
 use std::alloc::{AllocError, Global};
 
-// The greatest number of lines of a trace.
-const MOST_LINES: usize = 1_000_000;
-
-/// What is known of all orders, the text that tells it, and how far the search went.
+/// What is known of all orders, the text that tells it, how far the search went, and which calls are made.
 #[derive(Drop)]
 pub(crate) struct Report {
     pub(crate) staying: Staying,
     pub(crate) text: Vec<u8>,
     pub(crate) extent: Extent,
+    pub(crate) met: Option<Met>,
 }
 
 /// Two who watch, where all runs begin. The question has no steps.
@@ -56,11 +57,15 @@ fn stayed<W: Space + Drop, P: Progress>(
     progress: &mut P,
     bounds: Bounds,
     tests: u8,
-) -> Result<(Stay, Extent), AllocError>
+    count: usize,
+) -> Result<(Stay, Extent, Option<Met>), AllocError>
     requires origins { (W.origin walkers.1 ≡ W.origin walkers.0) × (W.origin others.0 ≡ W.origin walkers.0) × (W.origin others.1 ≡ W.origin walkers.0) }
     requires tests { tests ≤ 64 }
-    ensures says { IfOk result (λ r. SaysForEver W.after W.passes (W.origin walkers.0) tests bounds.turns.count r.0) }
+    ensures says { IfOk result (λ r. SaysForEver W.after W.passes W.wanted (W.origin walkers.0) tests bounds.turns.count (bounds.places.count - 1)
+        (P.over progress.new) r.0) }
     ensures went { IfOk result (λ r. WentForEver W.after (W.origin walkers.0) r.0 r.1) }
+    ensures met { IfOk result (λ r. IfSome r.2 (Meets W.after W.tells (W.origin walkers.0) bounds.turns.count count)) }
+    ensures beside { IfOk result (λ r. IsMetBesideStay bounds.turns.count r.0 r.2) }
 {
     let (mut walker, mut base) = walkers;
     let (mut other, mut trunk) = others;
@@ -74,10 +79,11 @@ fn stayed<W: Space + Drop, P: Progress>(
         bounds.turns.count,
         bounds.places.count - 1,
         tests,
+        count,
     )
 }
 
-/// What is known of all runs over places, as far as the bounds say, and how far the search went.
+/// What is known of all runs over places, as far as the bounds say, how far the search went, and which calls are made in orders.
 fn answered<P: Progress>(
     alloc: Global,
     orders: &Orders<'_>,
@@ -85,19 +91,31 @@ fn answered<P: Progress>(
     lasting: &[Moment],
     progress: &mut P,
     bounds: Bounds,
-) -> Result<(Stay, Extent), AllocError>
+) -> Result<(Stay, Extent, Option<Met>), AllocError>
     requires none { none.now ≡ [] }
     requires few { length lasting.now ≤ 64 }
-    ensures says { IfOk result (λ r. SaysForEver watched.watched_after watched.watched_passes
+    ensures says { IfOk result (λ r. SaysForEver watched.watched_after watched.watched_passes (λ w. false)
         (watched.watched lasting.now (places.origin orders.now.config.now orders.now.scripts.now orders.now.rules []))
-        (length lasting.now) bounds.turns.count r.0) }
+        (length lasting.now) bounds.turns.count (bounds.places.count - 1) (P.over progress.new) r.0) }
     ensures went { IfOk result (λ r. WentForEver watched.watched_after (watched.watched lasting.now
         (places.origin orders.now.config.now orders.now.scripts.now orders.now.rules [])) r.0 r.1) }
+    ensures calls { IfOk result (λ r. IfSome r.2 (SaysMade orders.now.config.now orders.now.scripts.now orders.now.rules bounds.turns.count)) }
+    ensures beside { IfOk result (λ r. IsMetBesideStay bounds.turns.count r.0 r.2) }
 {
+    let _names = orders.config.names();
+    made_answer();
     let walkers = two_watchers(orders, none, lasting)?;
     let others = two_watchers(orders, none, lasting)?;
     let tests = lasting.len() as u8;
-    stayed(alloc, walkers, others, progress, bounds, tests)
+    stayed(
+        alloc,
+        walkers,
+        others,
+        progress,
+        bounds,
+        tests,
+        NUMBERS as usize,
+    )
 }
 
 /// What is known of a trace of so many lines from whose end on what is asked under this number stays: it is the shortest, or not.
@@ -111,13 +129,13 @@ fn staying_of(number: u8, lines: u32, shortest: bool) -> Staying
     }
 }
 
-/// What is told of steps that end so, the shortest or not. Where they are more than a trace may have, it is that nothing is known.
+/// What is told of steps that end so, the shortest or not.
 fn report_along(
     alloc: Global,
     orders: &Orders<'_>,
     none: &Question,
     _lasting: &[Moment],
-    turns: u32,
+    _bounds: Bounds,
     test: u8,
     steps: &[u8],
     shortest: bool,
@@ -127,27 +145,25 @@ fn report_along(
     requires none { none.now ≡ [] }
     requires is_one { test < length _lasting.now }
     requires ends { watched.WatchedEnds orders.now.config.now orders.now.scripts.now orders.now.rules _lasting.now test steps.now }
+    requires few { length steps.now ≤ _bounds.turns.count }
     requires least { IsTrue shortest → IsLeast orders.now.config.now orders.now.scripts.now orders.now.rules _lasting.now (length steps.now) }
     requires gone { (nodes : List Node) × HasGone watched.watched_after (watched.watched _lasting.now
         (places.origin orders.now.config.now orders.now.scripts.now orders.now.rules [])) nodes extent }
-    ensures finds { IfOk result (λ r. Finds orders.now.config.now orders.now.scripts.now orders.now.rules _lasting.now turns r.text.items r.staying) }
-    ensures gone { IfOk result (λ r. IsGone orders.now.config.now orders.now.scripts.now orders.now.rules _lasting.now r.staying r.extent) }
+    ensures finds { IfOk result (λ r. Finds orders.now.config.now orders.now.scripts.now orders.now.rules _lasting.now _bounds.turns.count
+        (_bounds.places.count - 1) r.text.items r.staying) }
+    ensures gone { IfOk result (λ r. (over : Bool)
+        → IsGone orders.now.config.now orders.now.scripts.now orders.now.rules _lasting.now over r.staying r.extent) }
+    ensures tells { IfOk result (λ r. TellsCalls orders.now.config.now orders.now.scripts.now orders.now.rules _bounds.turns.count r.staying r.met) }
 {
     orders.config.names().validity();
     watched_answer();
-    if MOST_LINES < steps.len() {
-        return Ok(Report {
-            staying: Staying::NotWithin(turns),
-            text: not_within(alloc, turns)?,
-            extent,
-        });
-    }
     let text = trace_along(alloc, orders, none, steps)?;
     let staying = staying_of(test, steps.len() as u32, shortest);
     Ok(Report {
         staying,
         text,
         extent,
+        met: None,
     })
 }
 
@@ -161,45 +177,45 @@ pub(crate) fn found<P: Progress>(
 ) -> Result<Report, AllocError>
     requires few { length lasting.now ≤ 64 }
     requires in_bits { AreInBits orders.now.scripts.now }
-    ensures finds { IfOk result (λ r. Finds orders.now.config.now orders.now.scripts.now orders.now.rules lasting.now bounds.turns.count r.text.items r.staying) }
-    ensures gone { IfOk result (λ r. IsGone orders.now.config.now orders.now.scripts.now orders.now.rules lasting.now r.staying r.extent) }
+    ensures finds { IfOk result (λ r. Finds orders.now.config.now orders.now.scripts.now orders.now.rules lasting.now bounds.turns.count
+        (bounds.places.count - 1) r.text.items r.staying) }
+    ensures gone { IfOk result (λ r. IsGone orders.now.config.now orders.now.scripts.now orders.now.rules lasting.now (P.over progress.new) r.staying r.extent) }
+    ensures tells { IfOk result (λ r. TellsCalls orders.now.config.now orders.now.scripts.now orders.now.rules bounds.turns.count r.staying r.met) }
 {
     orders.config.names().validity();
     watched_answer();
     let none = Question::new(Vec::new(alloc));
-    let (stay, extent) = answered(alloc, orders, &none, lasting, progress, bounds)?;
+    let (stay, extent, met) = answered(alloc, orders, &none, lasting, progress, bounds)?;
     match stay {
         Stay::Shortest(test, steps) => report_along(
-            alloc,
-            orders,
-            &none,
-            lasting,
-            bounds.turns.count,
-            test,
-            &steps,
-            true,
-            extent,
+            alloc, orders, &none, lasting, bounds, test, &steps, true, extent,
         ),
         Stay::Found(test, steps) => report_along(
-            alloc,
-            orders,
-            &none,
-            lasting,
-            bounds.turns.count,
-            test,
-            &steps,
-            false,
-            extent,
+            alloc, orders, &none, lasting, bounds, test, &steps, false, extent,
         ),
         Stay::Never => Ok(Report {
             staying: Staying::Never,
             text: never(alloc)?,
             extent,
+            met,
         }),
         Stay::NotKnown(turns) => Ok(Report {
             staying: Staying::NotWithin(turns),
             text: not_within(alloc, turns)?,
             extent,
+            met,
+        }),
+        Stay::Wanting(turns) => Ok(Report {
+            staying: Staying::Wanting(turns),
+            text: not_within(alloc, turns)?,
+            extent,
+            met,
+        }),
+        Stay::Ended(turns) => Ok(Report {
+            staying: Staying::Ended(turns),
+            text: not_within(alloc, turns)?,
+            extent,
+            met,
         }),
     }
 }

@@ -3,6 +3,7 @@ ghost use Rattle.std.specs.Prelude.{◌≡◌, ◌≢◌, ◌+◌, ◌-◌, ◌�
 ghost use Rattle.fmp_run_devices.specs.Devices.{IsKnown, bytes_of};
 ghost use Rattle.fmp_run_forever.specs.Gone.{IsGone};
 ghost use Rattle.fmp_run_forever.specs.Stayed.{IsPartWritten, IsWritten, is_unwritten};
+ghost use Rattle.fmp_run_forever.specs.Told.{TellsCalls};
 ghost use Rattle.fmp_text_scripts.specs.Scripts.{AreInBits};
 
 use crate::searching::found;
@@ -10,7 +11,7 @@ use crate::staying::Staying;
 use fmp_ranges::Bounds;
 use fmp_run_devices::{Sink, write_out};
 use fmp_run_explore::{Asked, Orders};
-use fmp_search::{Extent, Progress};
+use fmp_search::{Extent, Met, Progress};
 use fmp_search_orders::Rules;
 use fmp_search_pattern::Moment;
 use std::alloc::Global;
@@ -32,20 +33,21 @@ pub(crate) fn found_written<W: Sink, P: Progress>(
     bounds: Bounds,
     output: &mut W,
     progress: &mut P,
-) -> Result<(Staying, Extent), WriteFault>
+) -> Result<(Staying, Extent, Option<Met>), WriteFault>
     requires output_calls { W.failures output.old < 2 ^ 64 - 1 }
     requires few { length asked.now.question.items ≤ 64 }
     requires in_bits { AreInBits asked.now.scripts }
     ensures written { IsKnown (W.written output.old)
-        → IfOk result (λ r. IsWritten asked.now.config asked.now.scripts rules asked.now.question.items bounds.turns.count (bytes_of (W.written output.old))
-        (bytes_of (W.written output.new)) r.0) }
-    ensures gone { IfOk result (λ r. IsGone asked.now.config asked.now.scripts rules asked.now.question.items r.0 r.1) }
+        → IfOk result (λ r. IsWritten asked.now.config asked.now.scripts rules asked.now.question.items bounds.turns.count
+        (bounds.places.count - 1) (bytes_of (W.written output.old)) (bytes_of (W.written output.new)) r.0) }
+    ensures gone { IfOk result (λ r. IsGone asked.now.config asked.now.scripts rules asked.now.question.items (P.over progress.new) r.0 r.1) }
+    ensures tells { IfOk result (λ r. TellsCalls asked.now.config asked.now.scripts rules bounds.turns.count r.0 r.2) }
     ensures known { IsKnown (W.written output.old) → IsKnown (W.written output.new) }
     ensures passed { OnOk result (W.buffered output.new ≡ []) }
     ensures none_held { W.buffered output.old ≡ [] → result ≢ Err WriteFault.Write → W.buffered output.new ≡ [] }
     ensures part { IsKnown (W.written output.old) → (result ≡ Err WriteFault.Write)
-        → IsPartWritten asked.now.config asked.now.scripts rules asked.now.question.items bounds.turns.count (bytes_of (W.written output.old))
-        (bytes_of (W.written output.new)) }
+        → IsPartWritten asked.now.config asked.now.scripts rules asked.now.question.items bounds.turns.count
+        (bounds.places.count - 1) (bytes_of (W.written output.old)) (bytes_of (W.written output.new)) }
     ensures unwritten { IsKnown (W.written output.old) → (result ≡ Err WriteFault.Memory) → bytes_of (W.written output.new) ≡ bytes_of (W.written output.old) }
     ensures writes { W.failures output.new ≡ W.failures output.old + (if is_unwritten result then 1 else 0) }
 {
@@ -60,7 +62,7 @@ pub(crate) fn found_written<W: Sink, P: Progress>(
     };
     progress.end();
     match write_out(output, report.text.as_slice()) {
-        Ok(()) => Ok((report.staying, report.extent)),
+        Ok(()) => Ok((report.staying, report.extent, report.met)),
         Err(_) => Err(WriteFault::Write),
     }
 }

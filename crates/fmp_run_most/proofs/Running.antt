@@ -7,7 +7,7 @@ use Rattle.fmp_search.specs.Meeting.{IsReported, IsReportedWithin, IsReportedAt}
 use Rattle.fmp_search.specs.Runs.{run}
 use Rattle.fmp_search_orders.specs.Places.{Place, after}
 use Rattle.fmp_run_most.specs.declared.figure.Figure.{Figure}
-use Rattle.fmp_run_most.specs.Gauged.{Gauged, gauged, gauged_after, gauged_passes, first_beyond, passed}
+use Rattle.fmp_run_most.specs.Gauged.{Gauged, gauged, gauged_after, gauged_number, first_beyond, passed}
 
 -- a run that has a last step
 pub record Last (q r : Place) (steps : List ℕ) : Type 0 where
@@ -76,7 +76,7 @@ module _ (fs : List Figure) (bs : List ℕ) where
   ungauged (Some p) w is = (p, refl, same_gauged (G p) w is)
 
   -- what is told of a step is told of the place to which it leads
-  told_there : (p r : Place) (s : ℕ) → after p s ≡ Some r → gauged_passes (G p) s ≡ first_beyond r.machine fs bs 0
+  told_there : (p r : Place) (s : ℕ) → after p s ≡ Some r → gauged_number (G p) s ≡ first_beyond r.machine fs bs 0
   told_there p r s goes = ap (λ o. passed fs bs o) goes
 
   -- a number that is told of a step of a run is that of a place to which a run leads that is not longer
@@ -87,7 +87,7 @@ module _ (fs : List Figure) (bs : List ℕ) where
     pub leads : run after q steps ≡ Some place
     pub told : first_beyond place.machine fs bs 0 ≡ n
 
-  pub met_of : (q : Place) (turns n : ℕ) → IsReportedWithin gauged_after gauged_passes (G q) turns n → Met q turns n
+  pub met_of : (q : Place) (turns n : ℕ) → IsReportedWithin gauged_after gauged_number (G q) turns n → Met q turns n
   met_of q turns n report =
       let at = ungauged (run after q report.steps) report.place (sym (run_gauged report.steps q) ∙ report.leads) in
       let goes : gauged_after (G at.0) report.last.step ≡ Some report.last.next = subst (λ w. gauged_after w report.last.step ≡ Some report.last.next) (sym at.2) report.last.goes in
@@ -98,14 +98,14 @@ module _ (fs : List Figure) (bs : List ℕ) where
         place = to.0;
         short = grind (arith, common_steps, few);
         leads = run_more report.steps q at.0 to.0 report.last.step at.1 to.1;
-        told = sym (told_there at.0 to.0 report.last.step to.1) ∙ (ap (λ w. gauged_passes w report.last.step) at.2 ∙ report.last.report);
+        told = sym (told_there at.0 to.0 report.last.step to.1) ∙ (ap (λ w. gauged_number w report.last.step) at.2 ∙ report.last.report);
       }
 
   -- and the other way round
-  last_at : (q r : Place) (steps : List ℕ) (last : Last q r steps) → IsReportedAt gauged_after gauged_passes (G last.place) (first_beyond r.machine fs bs 0)
+  last_at : (q r : Place) (steps : List ℕ) (last : Last q r steps) → IsReportedAt gauged_after gauged_number (G last.place) (first_beyond r.machine fs bs 0)
   last_at q r steps last = record { step = last.step; next = G r; goes = ap (option_map G) last.goes; report = told_there last.place r last.step last.goes }
 
-  pub report_of : (q r : Place) (steps : List ℕ) (turns : ℕ) → Last q r steps → length steps ≤ turns → IsReportedWithin gauged_after gauged_passes (G q) turns (first_beyond r.machine fs bs 0)
+  pub report_of : (q r : Place) (steps : List ℕ) (turns : ℕ) → Last q r steps → length steps ≤ turns → IsReportedWithin gauged_after gauged_number (G q) turns (first_beyond r.machine fs bs 0)
   report_of q r steps turns last few =
       let long = last.long in
       record {
@@ -116,7 +116,7 @@ module _ (fs : List Figure) (bs : List ℕ) where
         last = last_at q r steps last;
       }
 
-  pub report_ever : (q r : Place) (steps : List ℕ) → Last q r steps → IsReported gauged_after gauged_passes (G q) (first_beyond r.machine fs bs 0)
+  pub report_ever : (q r : Place) (steps : List ℕ) → Last q r steps → IsReported gauged_after gauged_number (G q) (first_beyond r.machine fs bs 0)
   report_ever q r steps last = record {
     steps = last.before;
     place = G last.place;

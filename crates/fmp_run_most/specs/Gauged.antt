@@ -41,5 +41,5 @@ passed fs bs None = 0
 passed fs bs (Some r) = first_beyond r.machine fs bs 0
 
 -- and the one of a step
-abbrev pub gauged_passes : Gauged → ℕ → ℕ
-gauged_passes w s = passed w.figures w.bounds (after w.place s)
+abbrev pub gauged_number : Gauged → ℕ → ℕ
+gauged_number w s = passed w.figures w.bounds (after w.place s)

@@ -1,11 +1,12 @@
 //! One who goes through all orders and tells of each event which figure is beyond its bound after it.
 ghost use Rattle.std.specs.Prelude.{◌≡◌, ◌≤◌, length, IfOk, false};
 ghost use Rattle.fmp_search_orders.specs.Places as places;
+ghost use Rattle.fmp_search_kernel.specs.Hashed.{hashed};
 ghost use Rattle.fmp_run_most.specs.Gauged as spec;
 
 use crate::figure::{Figure, is_beyond, value};
 use crate::sizing::Sizing;
-use fmp_search::Space;
+use fmp_search::{Noted, Space};
 use fmp_search_kernel::Walker;
 use fmp_step_words::Views;
 use std::alloc::AllocError;
@@ -15,17 +16,17 @@ use std::marker::Model;
 pub(crate) const SPAN: u32 = 65536;
 
 /// Which figure is the first that is beyond its bound in a state, and its number there.
-fn number_beyond<M: Views>(machine: &M, figures: &[Figure], bounds: &[u16]) -> u64
+fn number_beyond<M: Views>(machine: &M, figures: &[Figure], bounds: &[u16]) -> u32
     requires gauged { (length figures.now ≤ 1024) × (length bounds.now ≡ length figures.now) }
     ensures { result ≡ spec.first_beyond (M.world machine.now) figures.now bounds.now 0 }
 {
     for at in 0..figures.len() {
         let number = value(machine, figures[at]);
         if is_beyond(figures[at].measure, bounds[at], number) {
-            return at as u64 * u64::from(SPAN) + u64::from(number);
+            return at as u32 * SPAN + u32::from(number);
         }
     }
-    figures.len() as u64 * u64::from(SPAN)
+    figures.len() as u32 * SPAN
 }
 
 /// One who stands at a place. Nothing is looked for.
@@ -73,7 +74,11 @@ impl<'a> Space for Gauge<'a> {
 
     ghost wanted = { λ w. false };
 
-    ghost passes = { spec.gauged_passes };
+    ghost passes = { λ w s. 0 };
+
+    ghost tells = { spec.gauged_number };
+
+    ghost hashed = { λ g. hashed g.place };
 
     ghost room = { λ g. g.left };
 
@@ -97,12 +102,15 @@ impl<'a> Space for Gauge<'a> {
         self.walker.go(step)
     }
 
-    fn watch(&mut self, step: u8, _closed: &mut u64) -> Result<Option<u64>, AllocError> {
+    fn watch(&mut self, step: u8, _closed: &mut u64) -> Result<Option<Noted>, AllocError> {
         if !self.walker.go(step)? {
             return Ok(None);
         }
         let machine = self.walker.kernel().machine();
-        Ok(Some(number_beyond(machine, self.figures, self.bounds)))
+        Ok(Some(Noted {
+            passes: 0,
+            number: number_beyond(machine, self.figures, self.bounds),
+        }))
     }
 
     fn again(&mut self, step: u8) {

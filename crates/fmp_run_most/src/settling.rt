@@ -57,7 +57,7 @@ fn met<W: Space + Drop, P: Progress>(
     count: usize,
 ) -> Result<Option<Met>, AllocError>
     requires origins { (W.origin walkers.1 ≡ W.origin walkers.0) × (W.origin others.0 ≡ W.origin walkers.0) × (W.origin others.1 ≡ W.origin walkers.0) }
-    ensures { IfOk result (λ o. IfSome o (Meets W.after W.passes (W.origin walkers.0) within.turns.count count)) }
+    ensures { IfOk result (λ o. IfSome o (Meets W.after W.tells (W.origin walkers.0) within.turns.count count)) }
 {
     let (mut walker, mut base) = walkers;
     let (mut other, mut trunk) = others;
@@ -99,7 +99,7 @@ fn beyond_met<P: Progress>(
     within: Bounds,
 ) -> Result<Option<Met>, AllocError>
     requires { length bounds.now ≡ length sizing.now.figures.now }
-    ensures { IfOk result (λ o. IfSome o (Meets spec.gauged_after spec.gauged_passes
+    ensures { IfOk result (λ o. IfSome o (Meets spec.gauged_after spec.gauged_number
         (spec.gauged sizing.now.figures.now bounds.now (places.origin sizing.now.config.now sizing.now.scripts.now sizing.now.rules [])) within.turns.count
         (length sizing.now.figures.now * spec.span))) }
 {

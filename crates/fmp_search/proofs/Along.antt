@@ -5,6 +5,7 @@ use Rattle.std.proofs.Math.Numerals.{suc-eq-add-one}
 use Rattle.std.proofs.lemmas.Grind.{common_steps}
 use Rattle.std.specs.Option.{option_map, option_and_then}
 use Rattle.fmp_search.specs.declared.guided.Choice.{Choice}
+use Rattle.fmp_search.specs.declared.space.Noted.{Noted}
 use Rattle.fmp_search.specs.declared.exploring.Answer.{Answer}
 use Rattle.fmp_search.specs.declared.exploring.Answer.TheVariants as answer
 use Rattle.fmp_search.specs.Runs.{run, Goes, Watches}
@@ -83,11 +84,11 @@ module _ {P : Type 0} (after : P → ℕ → Option P) where
   -- ---- one step
 
   -- a step that may be chosen is told as it was
-  pub watches_guided : (q r : P) (cs : List Choice) (s passes : ℕ) (report : Option ℕ) → may_choose cs s ≡ true → Watches (after q s) passes report r →
-      Watches (guided_after after (guide cs q) s) passes report (guide (drop 1 cs) r)
-  watches_guided q r cs s passes report may watches = rw may (go (after q s) watches)
+  pub watches_guided : (q r : P) (cs : List Choice) (s : ℕ) (told : Noted) (report : Option Noted) → may_choose cs s ≡ true → Watches (after q s) told report r →
+      Watches (guided_after after (guide cs q) s) told report (guide (drop 1 cs) r)
+  watches_guided q r cs s told report may watches = rw may (go (after q s) watches)
     where
-      go : (o : Option P) → Watches o passes report r → Watches (option_map (guide (drop 1 cs)) o) passes report (guide (drop 1 cs) r)
+      go : (o : Option P) → Watches o told report r → Watches (option_map (guide (drop 1 cs)) o) told report (guide (drop 1 cs) r)
       go None h = h
       go (Some x) h = (h.0, ap (guide (drop 1 cs)) h.1)
 
@@ -138,6 +139,6 @@ module _ {P : Type 0} (after : P → ℕ → Option P) where
     pub says_along : (most room : ℕ) (a : Answer) → Says (guided_after after) (guided_wanted wanted) (guide cs q) most room a → SaysAlong after wanted q cs most room a
     says_along most room (answer.Found steps) says = (says.0, along_shortest steps.items says.1)
     says_along most room answer.Never says = along_ever says
-    says_along most room (answer.NotWithin n) says = (says.0, along_within n says.1, says.2)
+    says_along most room (answer.NotWithin n) says = (along_within n says.0, says.1)
     says_along most room (answer.Wanting n) says = (says.0, along_within n says.1)
     says_along most room (answer.Ended n) says = (says.0, along_within n says.1)

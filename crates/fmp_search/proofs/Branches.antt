@@ -1,21 +1,17 @@
 -- The steps to each place that was found.
-use Rattle.std.proofs.Common.{◌≡◌, ◌⊎◌, ℕ, zero, suc, ◌+◌, ◌-◌, ◌<◌, ◌≤◌, Bool, true, Option, None, Some, List, [], ◌∷◌, ◌++◌, length, take, drop, get_or, inl, inr, refl, ap, sym, ◌∙◌, arith, rules}
-use Rattle.std.specs.Prelude.{reverse, slice_get, slice_index_or}
+use Rattle.std.proofs.Common.{◌≡◌, ℕ, zero, suc, ◌+◌, ◌-◌, ◌<◌, ◌≤◌, Option, Some, List, [], ◌∷◌, ◌++◌, length, get_or, refl, ap, sym, ◌∙◌, arith}
+use Rattle.std.specs.Prelude.{reverse, slice_index_or}
 use Rattle.std.specs.Option.{option_and_then}
 use Rattle.std.specs.List.{fold}
 use Rattle.std.proofs.lemmas.Grind.{common_steps}
-use Rattle.std.proofs.lemmas.Bool.{cases_lt}
-use Rattle.std.proofs.lemmas.List.{append_assoc, get_or-drop, length-append, length-drop, length-take-le, reverse-append, take-append-drop}
-use Rattle.std.proofs.lemmas.Option.{get_or_from_slice_get, slice_get-get_or, slice_get_within}
+use Rattle.std.proofs.lemmas.List.{append_assoc, reverse-append}
 use Rattle.std.proofs.Math.ListN.{get_or-append}
 use Rattle.std.proofs.Math.Seq.{get_or-append_seam}
 use Rattle.fmp_search.specs.declared.nodes.Node.{Node}
 use Rattle.fmp_search.specs.Runs.{run}
-use Rattle.fmp_search.specs.Trees.{root, found_at, IsTree}
-use Rattle.fmp_search.specs.Answers.{Explored}
+use Rattle.fmp_search.specs.Trees.{found_at, IsTree}
 use Rattle.fmp_search.specs.Steps.{with_path, paths, path_at, AreAfter}
 use Rattle.fmp_search.proofs.Trees.{run-append, found-root}
-use Rattle.fmp_search.proofs.Layers.{none-within}
 
 -- ---- the steps to a place
 
@@ -114,6 +110,14 @@ module _ {P : Type 0} (after : P → ℕ → Option P) (q : P) where
 
   pub path_long : (ns : List Node) (i : ℕ) → IsTree after q ns → i ≤ length ns → length (path_at ns i) ≡ (found_at after q ns i).depth
   path_long ns i tree low = (path_below ns i i tree (omega arith) low).1
+
+  -- the steps to a place and one more lead where that step does
+  pub run_over : (ns : List Node) (i s : ℕ) (r : P) → IsTree after q ns → i ≤ length ns → after (found_at after q ns i).place s ≡ Some r →
+      (run after q (path_at ns i ++ s ∷ []) ≡ Some r) × (length (path_at ns i ++ s ∷ []) ≡ (found_at after q ns i).depth + 1)
+  run_over ns i s r tree low goes =
+      let count = path_long ns i tree low in
+      let long : length (path_at ns i ++ s ∷ []) ≡ length (path_at ns i) + 1 = grind (arith, common_steps) in
+      (goes_on (path_at ns i) (s ∷ []) _ _ (path_leads ns i tree low) (one_step _ r s goes), omega (arith, long, count))
 
   -- a run that passes a place leads on from there
   leads_between : (xs ys : List ℕ) (p : P) (r : P) → run after q xs ≡ Some p → run after q (xs ++ ys) ≡ Some r → run after p ys ≡ Some r

@@ -8,17 +8,13 @@ use Rattle.fmp_search.specs.Answers.{AreOpened}
 use Rattle.fmp_search.specs.Charts.{IsCharted}
 use Rattle.fmp_search.specs.Growth.{AreFound}
 use Rattle.fmp_search.specs.Forever.{ForEver, is_bit, test_of, mark_at, AreClosed, AreEarned, AreNearest}
-use Rattle.fmp_search.specs.Stays.{AreEntered, Covers, HasWithin, IsRight}
+use Rattle.fmp_search.specs.Stays.{AreEntered, Covers, HasWithin}
 use Rattle.fmp_search.proofs.Lasting.{is_marked, sound, free_there, enters_near}
 use Rattle.fmp_search.proofs.Layers.{complete-all}
 
 pub within_more : (o : Option Run) (n m : ℕ) → HasWithin o n → n ≤ m → HasWithin o m
 within_more None n m h le = h
 within_more (Some r) n m h le = omega (arith, h, le)
-
-pub right_more : {P : Type 0} (after : P → ℕ → Option P) (passes : P → ℕ → ℕ) (q : P) (n m : ℕ) (o : Option Run) → n ≤ m → IsRight after passes q n o → IsRight after passes q m o
-right_more after passes q n m None le h = h
-right_more after passes q n m (Some r) le h = let lt = h.0 in (omega (arith, lt, le), h.1)
 
 module _ {P : Type 0} (after : P → ℕ → Option P) (passes : P → ℕ → ℕ) (q : P) (nodes : List Node) (chart : Chart) (charted : IsCharted after passes q nodes chart) (whole : chart.opened ≡ length nodes + 1) where
   pub covers_by :

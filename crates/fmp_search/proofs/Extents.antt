@@ -8,8 +8,8 @@ use Rattle.std.proofs.lemmas.Bool.{cases_lt}
 use Rattle.std.proofs.lemmas.Grind.{common_steps}
 use Rattle.fmp_search.specs.declared.nodes.Node.{Node}
 use Rattle.fmp_search.specs.declared.extent.Extent.{Extent}
-use Rattle.fmp_search.specs.Trees.{IsTree}
-use Rattle.fmp_search.specs.Answers.{AreApart, AreOpened, Explored}
+use Rattle.fmp_search.specs.Trees.{AreDistinct, IsTree}
+use Rattle.fmp_search.specs.Answers.{AreOpened, Explored}
 use Rattle.fmp_search.specs.Forever.{AreNearest}
 use Rattle.fmp_search.specs.Steps.{path_at, AreAfter}
 use Rattle.fmp_search.specs.Extents.{IsExtent, HasGone}
@@ -54,8 +54,8 @@ far_more nodes at x f m is last far = elim (one_of_two f x m is) [
 
 module _ {P : Type 0} (after : P → ℕ → Option P) (q : P) where
   -- how far a search went by these places
-  pub gone : (nodes list : List Node) (e : Extent) → IsTree after q nodes → AreApart nodes → list ≡ nodes → IsExtent list e → HasGone after q nodes e
-  gone nodes list e tree apart same extent = record { tree = tree; apart = apart; extent = subst (λ (ns : List Node). IsExtent ns e) same extent }
+  pub gone : (nodes list : List Node) (e : Extent) → IsTree after q nodes → AreDistinct after q nodes → list ≡ nodes → IsExtent list e → HasGone after q nodes e
+  gone nodes list e tree distinct same extent = record { tree = tree; distinct = distinct; extent = subst (λ (ns : List Node). IsExtent ns e) same extent }
 
   -- where all places were opened every run leads to one of them
   pub all_near : (wanted : P → Bool) (ns : List Node) (n first : ℕ) → Explored after wanted q ns n (length ns + 1) first → first ≡ length ns + 1 → AreNearest after q ns

@@ -1,26 +1,31 @@
 -- How a layer is opened, step by step.
 use Rattle.std.proofs.Common.{◌≡◌, ◌⊎◌, inl, inr, ℕ, ◌+◌, ◌<◌, ◌≤◌, ◌^◌, Bool, true, false, Option, None, Some, List, [], ◌∷◌, ◌++◌, length, refl, ap, sym, subst, ◌∙◌, arith, rules}
+use Rattle.std.specs.Prelude.{slice_get}
 use Rattle.std.proofs.Math.Nat.{eq-or-lt_of_le}
 use Rattle.std.proofs.lemmas.Bool.{cases_lt}
 use Rattle.std.proofs.lemmas.Grind.{common_steps}
 use Rattle.fmp_search.specs.declared.cache.Cached.{Cached}
 use Rattle.fmp_search.specs.declared.chart.Chart.{Chart}
+use Rattle.fmp_search.specs.declared.edges.Edge.{Edge}
 use Rattle.fmp_search.specs.declared.layer.Layer.{Layer}
 use Rattle.fmp_search.specs.declared.layer.Layer.TheVariants as layer
 use Rattle.fmp_search.specs.declared.nodes.Node.{Node}
-use Rattle.fmp_search.specs.Answers.{IsShortest}
+use Rattle.fmp_search.specs.Answers.{HasMore, IsShortest}
 use Rattle.fmp_search.specs.Cache.{AreNear}
 use Rattle.fmp_search.specs.Charts.{Adds, AreLeft}
 use Rattle.fmp_search.specs.Fronts.{Advances, IsFront, IsOpen, IsStopped, Stays}
-use Rattle.fmp_search.specs.Growth.{AreBefore, AreTried, Extends, IsTried}
-use Rattle.fmp_search.specs.Runs.{AreClosed, Watches}
-use Rattle.fmp_search.specs.Trees.{Found, found_at, Has, IsAt, IsRunOver, Stands}
-use Rattle.fmp_search.proofs.Apart.{before_more, before_place, before_step}
+use Rattle.fmp_search.specs.Growth.{AreTried, Extends, IsTried}
+use Rattle.fmp_search.specs.declared.space.Noted.{Noted}
+use Rattle.fmp_search.specs.Runs.{AreClosed, told_of, Watches}
+use Rattle.fmp_search.specs.Steps.{path_at}
+use Rattle.fmp_search.specs.Trees.{Found, found_at, Has, IsAt, IsNew, IsRunOver, Stands}
+use Rattle.fmp_search.proofs.Branches.{run_over}
 use Rattle.fmp_search.proofs.Charted.{charted_there, charting_more, charting_next, charting_same, edge_is_true, joined_by, none_needed, none_there, not_there, step_there}
 use Rattle.fmp_search.proofs.Growth.{found_here, stepped, tried_at, tried_more}
+use Rattle.fmp_search.proofs.Hashes.{hashed_more}
 use Rattle.fmp_search.proofs.InCache.{cache_stays}
 use Rattle.fmp_search.proofs.Layers.{is-shortest}
-use Rattle.fmp_search.proofs.Noted.{none_marked, noted_more, noted_next, not_marked}
+use Rattle.fmp_search.proofs.Marking.{none_marked, noted_more, noted_next, not_marked}
 
 one_more : (steps : List ℕ) (s n : ℕ) → length steps ≤ n → length (steps ++ s ∷ []) ≤ n + 1
 one_more steps s n few = grind (arith, common_steps, few)
@@ -68,9 +73,9 @@ module _ {P X : Type 0} (place : X → P) (room : X → ℕ) (origin : X → P) 
         };
       }
 
-module _ {P X : Type 0} (place : X → P) (room : X → ℕ) (origin : X → P) (after : P → ℕ → Option P) (wanted : P → Bool) (q : P) (n first : ℕ) where
+module _ {P X : Type 0} (place : X → P) (room : X → ℕ) (origin : X → P) (after : P → ℕ → Option P) (hashed : P → ℕ) (zeroth : ℕ) (wanted : P → Bool) (q : P) (n first : ℕ) where
   abbrev Front : List Node → List (Cached X) → ℕ → ℕ → Type 0
-  Front nodes cache at step = IsFront place room origin after wanted q n first nodes cache at step
+  Front nodes cache at step = IsFront place room origin after hashed zeroth wanted q n first nodes cache at step
 
   pub near_of : (nodes : List Node) (cache : List (Cached X)) (at step : ℕ) → n + 1 < 2 ^ 31 → Front nodes cache at step → AreNear place room origin after q nodes cache
   near_of nodes cache at step lt x = record { tree = x.explored.tree; depths = λ i le. let d = x.explored.depths i le in omega (arith, d, lt); all = x.all }
@@ -85,45 +90,51 @@ module _ {P X : Type 0} (place : X → P) (room : X → ℕ) (origin : X → P) 
         record {
           explored = x.explored;
           tried = tried_more after q nodes nodes at step low same x.tried (tried_at after q nodes nodes at step number r low made same is);
-          before = before_step nodes at step x.before;
           all = x.all;
+          hashes = x.hashes;
         },
         same,
         is,
       )
 
   -- or to one that was added
-  pub front_more : (nodes more : List Node) (cache : List (Cached X)) (at step hash number : ℕ) (r : P) → at < first → after (found_at after q nodes at).place step ≡ Some r → wanted r ≡ false →
-      more ≡ nodes ++ record { hash = hash; parent = at; step = step } ∷ [] → number ≡ length more → Front nodes cache at step →
-      Front more cache at (step + 1) × Extends after q nodes more × IsAt after q more number r
-  front_more nodes more cache at step hash number r lt made clean is last x =
+  pub front_more : (next : ℕ) (nodes more : List Node) (cache : List (Cached X)) (at step hash number : ℕ) (r : P) → next ≡ zeroth → at < first → after (found_at after q nodes at).place step ≡ Some r → wanted r ≡ false →
+      IsNew after q nodes r → hash ≡ hashed r → more ≡ nodes ++ record { hash = hash; parent = at; step = step } ∷ [] → number ≡ length more → Front nodes cache at step →
+      IsFront place room origin after hashed next wanted q n first more cache at (step + 1) × Extends after q nodes more × IsAt after q more number r
+  front_more next nodes more cache at step hash number r same lt made clean new of is last x =
       let node : Node = record { hash = hash; parent = at; step = step } in
-      let got = stepped after q wanted nodes more n first at node r x.explored lt refl made clean is in
+      let got = stepped after q wanted nodes more n first at node r x.explored lt refl made clean new is in
       let few = x.explored.few in
       let low : at ≤ length nodes = omega (arith, lt, few) in
       let long : length more ≡ length nodes + 1 = ap (λ (ns : List Node). length ns) is ∙ grind (arith, common_steps) in (
         record {
           explored = got.0;
           tried = tried_more after q nodes more at step low got.1 x.tried (tried_at after q nodes more at step _ r low made got.1 got.2);
-          before = subst (λ (ns : List Node). AreBefore ns at (step + 1)) (sym is) (before_more nodes node x.before);
           all = cache_stays place room origin after q nodes more node cache is x.all;
+          hashes = hashed_more after hashed q next zeroth nodes more node r same is x.hashes of got.2;
         },
         got.1,
         subst (λ m. IsAt after q more m r) (sym (last ∙ long)) got.2,
       )
 
-module _ {P X : Type 0} (place : X → P) (room : X → ℕ) (origin : X → P) (after : P → ℕ → Option P) (passes : P → ℕ → ℕ) (wanted : P → Bool) (q : P) (n first : ℕ) where
+module _ {P X : Type 0} (place : X → P) (room : X → ℕ) (origin : X → P) (after : P → ℕ → Option P) (hashed : P → ℕ) (zeroth : ℕ) (passes tells : P → ℕ → ℕ) (wanted : P → Bool) (q : P) (n first : ℕ) where
   abbrev Open : List Node → List (Cached X) → Chart → ℕ → ℕ → Type 0
-  Open nodes cache chart at step = IsOpen place room origin after passes wanted q n first nodes cache chart at step
+  Open nodes cache chart at step = IsOpen place room origin after hashed zeroth passes tells wanted q n first nodes cache chart at step
 
   -- no more steps are tried
-  pub stopped_here : (nodes : List Node) (cache : List (Cached X)) (chart : Chart) (at step : ℕ) → Open nodes cache chart at step → IsStopped after passes q n nodes chart
-  stopped_here nodes cache chart at step x =
-      record { found = found_here after q wanted nodes n first at at step x.front.explored x.front.before; charted = x.charting.charted }
+  pub stopped_here : (nodes : List Node) (cache : List (Cached X)) (chart : Chart) (at step : ℕ) → at < first → Open nodes cache chart at step → IsStopped after passes q n nodes chart
+  stopped_here nodes cache chart at step lt x =
+      let few = x.front.explored.few in
+      let opened = x.charting.opened in record {
+        found = found_here after q wanted nodes n first at x.front.explored;
+        charted = x.charting.charted;
+        short = λ is k e get. let near = x.front.explored.near e.from (x.charting.early is k e get first (omega (arith, lt)) (λ some. lt)) in omega (arith, near);
+        left = omega (arith, lt, few, opened);
+      }
 
   -- what is known where not all steps were tried is the same for later ones
   pub stops_on : (most : ℕ) (over : Bool) (nodes : List Node) (cache left : List (Cached X)) (chart : Chart) (at step later next : ℕ) (how : Layer) → (how ≡ layer.Done → ⊥) →
-      Advances place room origin after passes wanted q n first most false nodes cache chart at step how → Advances place room origin after passes wanted q n first most over nodes left chart later next how
+      Advances place room origin after hashed zeroth passes tells wanted q n first most false nodes cache chart at step how → Advances place room origin after hashed zeroth passes tells wanted q n first most over nodes left chart later next how
   stops_on most over nodes cache left chart at step later next (layer.Found steps) not x = x
   stops_on most over nodes cache left chart at step later next layer.Full not x = x
   stops_on most over nodes cache left chart at step later next layer.Wanting not x = x
@@ -132,25 +143,25 @@ module _ {P X : Type 0} (place : X → P) (room : X → ℕ) (origin : X → P) 
 
   module _ (nodes : List Node) (cache : List (Cached X)) (chart : Chart) (at step : ℕ) (x : Open nodes cache chart at step) (lt : at < first) (p r : P) (there : p ≡ (found_at after q nodes at).place) where
     -- a step cannot be made
-    pub open_same : Watches (after p step) (passes p step) None r → Open nodes cache chart at (step + 1)
+    pub open_same : Watches (after p step) (told_of passes tells p step) None r → Open nodes cache chart at (step + 1)
     open_same none =
         let few = x.front.explored.few in
         let low : at ≤ length nodes = omega (arith, lt, few) in
-        let last : IsTried after q nodes at step = λ y goes. absurd (none_there after passes q nodes (after p step) (passes p step) r y none (subst (λ (z : P). after z step ≡ Some y) (sym there) goes)) in
+        let last : IsTried after q nodes at step = λ y goes. absurd (none_there after passes tells q nodes (after p step) (told_of passes tells p step) r y none (subst (λ (z : P). after z step ≡ Some y) (sym there) goes)) in
         record {
           front = record {
             explored = x.front.explored;
             tried = tried_more after q nodes nodes at step low (extends_same after q nodes) x.front.tried last;
-            before = before_step nodes at step x.front.before;
             all = x.front.all;
+            hashes = x.front.hashes;
           };
-          charting = charting_same after passes q nodes chart at step (not_there after passes q nodes chart.edges at step p r there none)
-              (not_marked after passes p (found_at after q nodes at).place r chart.marks.items step there none) x.charting;
+          charting = charting_same after passes tells q nodes chart at step (not_there after passes tells q nodes chart.edges at step p r there none)
+              (not_marked after passes tells p (found_at after q nodes at).place r chart.marks.items step there none) x.charting;
         }
 
-    module _ (t : ℕ) (watched : Watches (after p step) (passes p step) (Some t) r) where
+    module _ (t : Noted) (watched : Watches (after p step) (told_of passes tells p step) (Some t) r) where
       pub goes_there : after (found_at after q nodes at).place step ≡ Some r
-      goes_there = subst (λ (y : P). after y step ≡ Some r) there (step_there after passes q nodes p r step t watched).0
+      goes_there = subst (λ (y : P). after y step ≡ Some r) there (step_there after passes tells q nodes p r step t watched).0
 
       -- it leads to a place that is looked for
       pub found_there : (steps : List ℕ) → wanted r ≡ true → IsRunOver after q nodes at step steps →
@@ -159,24 +170,45 @@ module _ {P X : Type 0} (place : X → P) (room : X → ℕ) (origin : X → P) 
           let near = x.front.explored.near at lt in
           let count = over_it.count in
           let few : length over_it.before ≤ n = omega (arith, count, near) in (
-            stopped_here nodes cache chart at step x,
+            stopped_here nodes cache chart at step lt x,
             subst (λ (ss : List ℕ). length ss ≤ n + 1) (sym over_it.is) (one_more over_it.before step n few),
             subst (λ (ss : List ℕ). IsShortest after wanted q ss) (sym over_it.is)
                 (is-shortest after wanted q nodes n first at step over_it.before r x.front.explored lt over_it.leads few goes_there is),
           )
 
-      -- or to another, and its edge was not added
-      pub stopped_more : (more : List Node) (new : Chart) → IsFront place room origin after wanted q n first more cache at (step + 1) → Extends after q nodes more → AreLeft chart new →
+      -- or to another for which there is no room
+      pub more_there : IsNew after q nodes r → HasMore after q nodes (n + 1)
+      more_there new =
+          let e = x.front.explored in
+          let few = e.few in
+          let low : at ≤ length nodes = omega (arith, lt, few) in
+          let over = run_over after q nodes at step r e.tree low goes_there in
+          let near = e.near at lt in
+          let long = over.1 in
+          record { steps = path_at nodes at ++ step ∷ []; place = r; short = omega (arith, near, long); leads = over.0; new = new }
+
+      -- or for which there is, and its edge was not added
+      pub stopped_more : (next : ℕ) (more : List Node) (new : Chart) → IsFront place room origin after hashed next wanted q n first more cache at (step + 1) → Extends after q nodes more → AreLeft chart new →
           IsStopped after passes q n more new
-      stopped_more more new front extends left = record {
-        found = found_here after q wanted more n first at at (step + 1) front.explored front.before;
-        charted = λ kept. charted_there after passes q nodes more extends chart new left.opened left.edges (x.charting.charted (sym left.kept ∙ kept));
-      }
+      stopped_more next more new front extends left =
+          let few = x.front.explored.few in
+          let longer = extends.longer in
+          let was = x.charting.opened in
+          let opened = left.opened in record {
+            found = found_here after q wanted more n first at front.explored;
+            charted = λ kept. charted_there after passes tells q nodes more extends chart new left.opened left.edges (x.charting.charted (sym left.kept ∙ kept));
+            short = λ kept k e get.
+                let was = subst (λ (es : List Edge). slice_get es k ≡ Some e) left.edges get in
+                let near = front.explored.near e.from (x.charting.early (sym left.kept ∙ kept) k e was first (omega (arith, lt)) (λ some. lt)) in
+                omega (arith, near);
+            left = omega (arith, lt, few, longer, was, opened);
+          }
 
       -- or it was added
-      pub open_more : (more : List Node) (new : Chart) (number : ℕ) → IsFront place room origin after wanted q n first more cache at (step + 1) → Extends after q nodes more → IsAt after q more number r →
-          Adds (record { passes = t; from = at; to = number; step = step }) chart new → Open more cache new at (step + 1)
-      open_more more new number front extends is adds =
+      pub open_more : (next : ℕ) (more : List Node) (new : Chart) (number : ℕ) → IsFront place room origin after hashed next wanted q n first more cache at (step + 1) → Extends after q nodes more → IsAt after q more number r →
+          Adds (record { passes = t.passes; from = at; to = number; step = step }) t.number chart new →
+          IsOpen place room origin after hashed next passes tells wanted q n first more cache new at (step + 1)
+      open_more next more new number front extends is adds =
           let few = x.front.explored.few in
           let low : at ≤ length nodes = omega (arith, lt, few) in
           let longer = extends.longer in
@@ -184,10 +216,10 @@ module _ {P X : Type 0} (place : X → P) (room : X → ℕ) (origin : X → P) 
           let there_now = there ∙ sym (ap (λ (f : Found P). f.place) (extends.stays at low)) in
           record {
             front = front;
-            charting = charting_more after passes q nodes more extends chart new at step _ low adds.opened adds.kept adds.added
-                (edge_is_true after passes q more at step t number p r low_more there_now watched is)
-                (λ kept. joined_by after passes q more chart.edges new.edges at step t number p r (adds.added (sym adds.kept ∙ kept)) there_now watched is)
-                (noted_more after passes q nodes more extends chart.marks.items new.marks.items at step t p r low adds.noted there_now watched x.charting.noted)
+            charting = charting_more after passes tells q nodes more extends chart new at step _ refl low adds.opened adds.kept adds.added
+                (edge_is_true after passes tells q more at step t number p r low_more there_now watched is)
+                (λ kept. joined_by after passes tells q more chart.edges new.edges at step t number p r (adds.added (sym adds.kept ∙ kept)) there_now watched is)
+                (noted_more after passes tells q nodes more extends chart.marks.items new.marks.items at step t p r low adds.noted there_now watched x.charting.noted)
                 x.charting;
           }
 
@@ -205,6 +237,7 @@ module _ {P X : Type 0} (place : X → P) (room : X → ℕ) (origin : X → P) 
         front = record {
           explored = record {
             tree = e.tree;
+            distinct = e.distinct;
             few = e.few;
             clean = e.clean;
             near = e.near;
@@ -214,9 +247,9 @@ module _ {P X : Type 0} (place : X → P) (room : X → ℕ) (origin : X → P) 
                 opened_next after q nodes at m e.all_opened x.front.tried rest j s r (let le : j ≤ at = omega (arith, lt) in eq-or-lt_of_le le) (cases_lt s m) goes;
           };
           tried = λ s lt. absurd (omega (arith, lt));
-          before = before_place nodes at m x.front.before;
           all = x.front.all;
+          hashes = x.front.hashes;
         };
-        charting = charting_next after passes q nodes chart at m low (λ t le. none_needed after passes q nodes chart.edges at t p there (none t le))
-            (noted_next after passes q nodes chart.marks.items at m (λ t le. none_marked after passes p _ chart.marks.items t there (none t le)) x.charting.noted) x.charting;
+        charting = charting_next after passes tells q nodes chart at m low (λ t le. none_needed after passes tells q nodes chart.edges at t p there (none t le))
+            (noted_next after passes tells q nodes chart.marks.items at m (λ t le. none_marked after passes tells p _ chart.marks.items t there (none t le)) x.charting.noted) x.charting;
       }

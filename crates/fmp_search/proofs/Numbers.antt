@@ -10,15 +10,15 @@ use Rattle.fmp_search.specs.Meeting.{IsMarked, IsNear, IsReported, IsReportedAt,
 use Rattle.fmp_search.proofs.Branches.{path_leads, path_long}
 use Rattle.fmp_search.proofs.Extents.{all_near}
 
-module _ {P : Type 0} (after : P → ℕ → Option P) (passes : P → ℕ → ℕ) where
+module _ {P : Type 0} (after : P → ℕ → Option P) (tells : P → ℕ → ℕ) where
   module _ (q : P) (nodes : List Node) where
     abbrev at : ℕ → P
     at i = (found_at after q nodes i).place
 
     module _ (wanted : P → Bool) (n first turns : ℕ) (marks : List Bool) (x : Explored after wanted q nodes n (length nodes + 1) first) (passed : IsPassed after q nodes turns first)
-        (marked : (i s : ℕ) → i < first → IsMarked after passes (at i) marks s) where
+        (marked : (i s : ℕ) → i < first → IsMarked after tells (at i) marks s) where
       -- what is told of a step from one of the first places is told of a run of so many steps
-      pub report_within : (k : ℕ) → IsNear after passes q nodes first k → IsReportedWithin after passes q turns k
+      pub report_within : (k : ℕ) → IsNear after tells q nodes first k → IsReportedWithin after tells q turns k
       report_within k near =
           let early = near.early in
           let few = passed.few in
@@ -33,18 +33,18 @@ module _ {P : Type 0} (after : P → ℕ → Option P) (passes : P → ℕ → �
             last = near.last;
           }
 
-      at_place : (r : P) (k i : ℕ) → k < length marks → IsReportedAt after passes r k → i < first → at i ≡ r → slice_get marks k ≡ Some true
+      at_place : (r : P) (k i : ℕ) → k < length marks → IsReportedAt after tells r k → i < first → at i ≡ r → slice_get marks k ≡ Some true
       at_place r k i lt last early is =
           let goes : after (at i) last.step ≡ Some last.next = subst (λ p. after p last.step ≡ Some last.next) (sym is) last.goes in
-          let report : passes (at i) last.step ≡ k = subst (λ p. passes p last.step ≡ k) (sym is) last.report in
+          let report : tells (at i) last.step ≡ k = subst (λ p. tells p last.step ≡ k) (sym is) last.report in
           subst (λ j. slice_get marks j ≡ Some true) report (marked i last.step early last.next goes (omega (arith, report, lt)))
 
-      pub within_marked : (k : ℕ) → k < length marks → IsReportedWithin after passes q turns k → slice_get marks k ≡ Some true
+      pub within_marked : (k : ℕ) → k < length marks → IsReportedWithin after tells q turns k → slice_get marks k ≡ Some true
       within_marked k lt report =
           let there = passed.through report.steps report.place report.short report.leads in
           at_place report.place k there.0 lt report.last there.1 there.2
 
-      pub all_marked : first ≡ length nodes + 1 → (k : ℕ) → k < length marks → IsReported after passes q k → slice_get marks k ≡ Some true
+      pub all_marked : first ≡ length nodes + 1 → (k : ℕ) → k < length marks → IsReported after tells q k → slice_get marks k ≡ Some true
       all_marked whole k lt report =
           let there = all_near after q wanted nodes n first x whole report.steps report.place report.leads in
           let low = there.1 in

@@ -1,15 +1,18 @@
 -- How a search through places went.
-use Rattle.std.proofs.Common.{◌≡◌, ◌∙◌, inl, inr, ℕ, ◌+◌, ◌<◌, ◌≤◌, Bool, true, false, Option, List, [], length, refl, sym, subst, arith}
+use Rattle.std.proofs.Common.{◌≡◌, ◌∙◌, inl, inr, ℕ, ◌+◌, ◌<◌, ◌≤◌, Bool, true, false, Option, List, [], length, refl, ap, sym, subst, arith}
+use Rattle.std.proofs.lemmas.Option.{slice_get_within}
 use Rattle.fmp_search.specs.declared.cache.Cached.{Cached}
 use Rattle.fmp_search.specs.declared.chart.Chart.{Chart}
+use Rattle.fmp_search.specs.declared.edges.Edge.{Edge}
 use Rattle.fmp_search.specs.declared.layer.Layer.{Layer}
 use Rattle.fmp_search.specs.declared.layer.Layer.TheVariants as layer
 use Rattle.fmp_search.specs.declared.nodes.Node.{Node}
-use Rattle.fmp_search.specs.Answers.{AreApart, Explored, IsShortest, NoneWithin}
+use Rattle.fmp_search.specs.Answers.{Explored, IsShortest, NoneWithin}
+use Rattle.fmp_search.specs.Charts.{AreFrom, AreShort}
 use Rattle.fmp_search.specs.Fronts.{Advances, IsOpen, IsStopped}
 use Rattle.fmp_search.specs.Growth.{AreFound, IsOverBy}
 use Rattle.fmp_search.specs.Surveys.{GoesSo, IsPassed, IsThrough}
-use Rattle.fmp_search.proofs.Apart.{before_none}
+use Rattle.fmp_search.proofs.Growth.{found_here}
 use Rattle.fmp_search.proofs.Layers.{explored-root, layer-more}
 use Rattle.fmp_search.proofs.Passed.{all_passed}
 
@@ -17,15 +20,21 @@ module _ {P : Type 0} (after : P → ℕ → Option P) (q : P) where
   -- the place where all runs begin is that of all runs of no step
   pub found_none : (nodes : List Node) → nodes ≡ [] → AreFound after q 0 nodes
   found_none nodes is =
-      let root = explored-root after (λ p. false) q refl in
-      subst (λ (ns : List Node). AreFound after q 0 ns) (sym is) (record { tree = root.tree; near = root.depths; apart = before_none.apart; complete = root.complete })
+      subst (λ (ns : List Node). AreFound after q 0 ns) (sym is) (found_here after q (λ p. false) [] 0 1 0 (explored-root after (λ p. false) q refl))
 
   -- no run has fewer than no steps
   pub passed_none : (nodes : List Node) → IsPassed after q nodes 0 0
   passed_none nodes = record { few = omega arith; near = λ i lt. absurd (omega (arith, lt)); through = λ steps r lt leads. absurd (omega (arith, lt)) }
 
-  pub found_of : (wanted : P → Bool) (nodes : List Node) (n opened : ℕ) → Explored after wanted q nodes n (length nodes + 1) opened → AreApart nodes → AreFound after q n nodes
-  found_of wanted nodes n opened x apart = record { tree = x.tree; near = x.depths; apart = apart; complete = x.complete }
+  -- edges from places that were found by fewer steps than so many
+  pub short_none : (nodes : List Node) (edges : List Edge) (turns : ℕ) → edges ≡ [] → AreShort after q nodes edges turns
+  short_none nodes edges turns is k e get = let lt = slice_get_within edges k e get in let long : length edges ≡ 0 = ap length is in absurd (omega (arith, lt, long))
+
+  pub short_within : (nodes : List Node) (edges : List Edge) (n turns : ℕ) → n ≤ turns → AreShort after q nodes edges n → AreShort after q nodes edges turns
+  short_within nodes edges n turns le short k e get = let near = short k e get in omega (arith, near, le)
+
+  pub short_passed : (nodes : List Node) (edges : List Edge) (n first : ℕ) → AreFrom edges first 0 → IsPassed after q nodes n first → AreShort after q nodes edges n
+  short_passed nodes edges n first early passed k e get = passed.near e.from (early k e get first (omega arith) (λ some. absurd (omega (arith, some))))
 
   module _ (wanted : P → Bool) where
     pub shortest_here : wanted q ≡ true → IsShortest after wanted q []
@@ -53,10 +62,10 @@ module _ {P : Type 0} (after : P → ℕ → Option P) (q : P) where
       passed = subst (λ k. IsPassed after q nodes k first) is before;
     })
 
-module _ {P X : Type 0} (place : X → P) (room : X → ℕ) (origin : X → P) (after : P → ℕ → Option P) (passes : P → ℕ → ℕ) (wanted : P → Bool) (q : P) (n first most : ℕ) (over : Bool) (nodes : List Node)
+module _ {P X : Type 0} (place : X → P) (room : X → ℕ) (origin : X → P) (after : P → ℕ → Option P) (hashed : P → ℕ) (zeroth : ℕ) (passes tells : P → ℕ → ℕ) (wanted : P → Bool) (q : P) (n first most : ℕ) (over : Bool) (nodes : List Node)
     (cache : List (Cached X)) (chart : Chart) (at step : ℕ) where
   -- what is known where not all steps were tried
-  pub stopped_by : (how : Layer) → (how ≡ layer.Done → ⊥) → Advances place room origin after passes wanted q n first most over nodes cache chart at step how →
+  pub stopped_by : (how : Layer) → (how ≡ layer.Done → ⊥) → Advances place room origin after hashed zeroth passes tells wanted q n first most over nodes cache chart at step how →
       IsStopped after passes q n nodes chart × IsOverBy over how
   stopped_by (layer.Found steps) not x = (x.0, tt)
   stopped_by layer.Full not x = (x.0, tt)
@@ -65,21 +74,21 @@ module _ {P X : Type 0} (place : X → P) (room : X → ℕ) (origin : X → P) 
   stopped_by layer.Done not x = absurd (not refl)
 
   pub through_by : (how : Layer) (turns asked opened : ℕ) → (how ≡ layer.Done → ⊥) → n < turns → NoneWithin after wanted q n → most ≡ asked →
-      Advances place room origin after passes wanted q n first most over nodes cache chart at step how → GoesSo after wanted q turns asked nodes n opened how
+      Advances place room origin after hashed zeroth passes tells wanted q n first most over nodes cache chart at step how → GoesSo after wanted q turns asked nodes n opened how
   through_by (layer.Found steps) turns asked opened not lt none same x = let few = x.1 in (omega (arith, lt), omega (arith, lt, few), x.2)
-  through_by layer.Full turns asked opened not lt none same x = (lt, none, x.1 ∙ same)
+  through_by layer.Full turns asked opened not lt none same x = (lt, none, x.1 ∙ same, x.2)
   through_by layer.Wanting turns asked opened not lt none same x = (lt, none)
   through_by layer.Over turns asked opened not lt none same x = (lt, none)
   through_by layer.Done turns asked opened not lt none same x = absurd (not refl)
 
   -- where all steps from the places of a layer were tried, the next one begins
-  pub open_layer : first ≡ at → IsOpen place room origin after passes wanted q n first nodes cache chart at 0 → IsOpen place room origin after passes wanted q (n + 1) (length nodes + 1) nodes cache chart at 0
+  pub open_layer : first ≡ at → IsOpen place room origin after hashed zeroth passes tells wanted q n first nodes cache chart at 0 → IsOpen place room origin after hashed zeroth passes tells wanted q (n + 1) (length nodes + 1) nodes cache chart at 0
   open_layer is x = record {
     front = record {
       explored = layer-more after wanted q nodes n at (subst (λ k. Explored after wanted q nodes n k at) is x.front.explored);
       tried = x.front.tried;
-      before = x.front.before;
       all = x.front.all;
+      hashes = x.front.hashes;
     };
     charting = x.charting;
   }

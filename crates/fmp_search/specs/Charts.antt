@@ -36,6 +36,14 @@ pub record IsCharted {P : Type 0} (after : P → ℕ → Option P) (passes : P �
   pub joined : (i s : ℕ) → i < chart.opened → IsJoined after passes q nodes chart.edges i s
   pub few : chart.opened ≤ length nodes + 1
 
+-- each edge is of a step from one of the first places, or from the next, where steps from there were tried
+abbrev pub AreFrom : List Edge → ℕ → ℕ → Type 0
+AreFrom edges at steps = (k : ℕ) (e : Edge) → slice_get edges k ≡ Some e → (first : ℕ) → at ≤ first → (0 < steps → at < first) → e.from < first
+
+-- each edge is of a step from a place that was found by fewer steps than so many
+abbrev pub AreShort : {P : Type 0} → (P → ℕ → Option P) → P → List Node → List Edge → ℕ → Type 0
+AreShort after q nodes edges turns = (k : ℕ) (e : Edge) → slice_get edges k ≡ Some e → (found_at after q nodes e.from).depth < turns
+
 -- nothing was tried
 pub record IsBlank (kept : Bool) (count : ℕ) (chart : Chart) : Type 0 where
   pub same : chart.kept ≡ kept
@@ -43,10 +51,10 @@ pub record IsBlank (kept : Bool) (count : ℕ) (chart : Chart) : Type 0 where
   pub opened : chart.opened ≡ 0
   pub marks : chart.marks.items ≡ replicate count false
 
--- what is told of an edge was marked, and the edge was added, if edges are kept
-pub record Adds (edge : Edge) (old new : Chart) : Type 0 where
+-- the number that is told of a step was marked, and the edge of the step was added, if edges are kept
+pub record Adds (edge : Edge) (number : ℕ) (old new : Chart) : Type 0 where
   pub added : old.kept ≡ true → new.edges ≡ old.edges ++ edge ∷ []
-  pub noted : Notes edge.passes old.marks.items new.marks.items
+  pub noted : Notes number old.marks.items new.marks.items
   pub opened : new.opened ≡ old.opened
   pub kept : new.kept ≡ old.kept
 
@@ -58,8 +66,9 @@ pub record AreLeft (old new : Chart) : Type 0 where
   pub kept : new.kept ≡ old.kept
 
 -- so many places were opened, and if edges are kept, those of the first steps from the next are there too, as the marks of what was told of all these steps are
-pub record Charting {P : Type 0} (after : P → ℕ → Option P) (passes : P → ℕ → ℕ) (q : P) (nodes : List Node) (chart : Chart) (at steps : ℕ) : Type 0 where
+pub record Charting {P : Type 0} (after : P → ℕ → Option P) (passes tells : P → ℕ → ℕ) (q : P) (nodes : List Node) (chart : Chart) (at steps : ℕ) : Type 0 where
   pub opened : chart.opened ≡ at
   pub charted : chart.kept ≡ true → IsCharted after passes q nodes chart
   pub linked : chart.kept ≡ true → (s : ℕ) → s < steps → IsJoined after passes q nodes chart.edges at s
-  pub noted : AreNoted after passes q nodes chart.marks.items at steps
+  pub early : chart.kept ≡ true → AreFrom chart.edges at steps
+  pub noted : AreNoted after tells q nodes chart.marks.items at steps

@@ -6,8 +6,8 @@ use Rattle.fmp_search.specs.declared.exploring.Answer.TheVariants as answer
 use Rattle.fmp_search.specs.declared.extent.Extent.{Extent}
 use Rattle.fmp_search.specs.declared.staying.Stay.{Stay}
 use Rattle.fmp_search.specs.declared.staying.Stay.TheVariants as stay
-use Rattle.fmp_search.specs.Trees.{IsTree}
-use Rattle.fmp_search.specs.Answers.{AreApart, IsComplete}
+use Rattle.fmp_search.specs.Trees.{AreDistinct, IsTree}
+use Rattle.fmp_search.specs.Answers.{IsComplete}
 use Rattle.fmp_search.specs.Forever.{AreNearest}
 use Rattle.fmp_search.specs.Steps.{path_at}
 
@@ -17,10 +17,10 @@ pub record IsExtent (nodes : List Node) (e : Extent) : Type 0 where
   pub near : (i : ℕ) → i ≤ length nodes → length (path_at nodes i) ≤ e.farthest
   pub far : (i : ℕ) × (i ≤ length nodes) × (length (path_at nodes i) ≡ e.farthest)
 
--- so it is of these places, no two of which were found by the same step from the same place
+-- so it is of these places, no two of which are the same
 pub record HasGone {P : Type 0} (after : P → ℕ → Option P) (q : P) (nodes : List Node) (e : Extent) : Type 0 where
   pub tree : IsTree after q nodes
-  pub apart : AreApart nodes
+  pub distinct : AreDistinct after q nodes
   pub extent : IsExtent nodes e
 
 -- a search went so far, and every run leads to one of the places that it found
@@ -47,6 +47,8 @@ AreOf after q (stay.Shortest test steps) nodes = AreNearest after q nodes
 AreOf after q (stay.Found test steps) nodes = Unit {0}
 AreOf after q stay.Never nodes = AreNearest after q nodes
 AreOf after q (stay.NotKnown n) nodes = IsComplete after q nodes n (length nodes + 1)
+AreOf after q (stay.Wanting n) nodes = IsComplete after q nodes n (length nodes + 1)
+AreOf after q (stay.Ended n) nodes = IsComplete after q nodes n (length nodes + 1)
 
 -- how far a search went, beside what it found of runs from which on a test is passed for ever
 abbrev pub WentForEver : {P : Type 0} → (P → ℕ → Option P) → P → Stay → Extent → Type 0

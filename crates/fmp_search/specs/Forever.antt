@@ -1,10 +1,12 @@
 -- Places from where on every step passes a test, and how marks tell which they are.
-use Rattle.std.specs.Prelude.{◌≡◌, ℕ, ◌/◌, ◌%◌, ◌^◌, ◌<◌, ◌≤◌, ◌==◌, Bool, true, false, Option, Some}
+use Rattle.std.specs.Prelude.{◌≡◌, ◌⊎◌, ℕ, ◌/◌, ◌%◌, ◌^◌, ◌<◌, ◌≤◌, ◌==◌, Bool, true, false, Option, Some}
 use Rattle.std.specs.Prelude.{List, [], ◌∷◌, ◌++◌, length}
 use Rattle.std.specs.Prelude.{slice_index_or}
 use Rattle.fmp_search.specs.declared.nodes.Node.{Node}
 use Rattle.fmp_search.specs.declared.staying.Stay.{Stay}
 use Rattle.fmp_search.specs.declared.staying.Stay.TheVariants as stay
+use Rattle.fmp_search.specs.Answers.{StopsAt}
+use Rattle.fmp_search.specs.Meeting.{IsMet}
 use Rattle.fmp_search.specs.Runs.{run}
 use Rattle.fmp_search.specs.Trees.{found_at}
 
@@ -102,11 +104,15 @@ pub record MarksSay {P : Type 0} (after : P → ℕ → Option P) (test : P → 
 
 -- ---- what is known
 
--- what an answer says of the runs whose last step passes one of so many tests, as every step after it does
-abbrev pub SaysForEver : {P : Type 0} → (P → ℕ → Option P) → (P → ℕ → ℕ) → P → ℕ → ℕ → Stay → Type 0
-SaysForEver after passes q tests turns (stay.Shortest test steps) =
-    (test < tests) × EndsForEver after (test_of passes test) q steps.items
+-- what an answer says of the runs whose last step passes one of so many tests, as every step after it does, by a search of at most so many steps with room
+-- for so many places besides the first. Where it was ended, it met a place that is looked for, or who may end it did
+abbrev pub SaysForEver : {P : Type 0} → (P → ℕ → Option P) → (P → ℕ → ℕ) → (P → Bool) → P → ℕ → ℕ → ℕ → Bool → Stay → Type 0
+SaysForEver after passes wanted q tests turns room over (stay.Shortest test steps) =
+    (test < tests) × (length steps.items ≤ turns) × EndsForEver after (test_of passes test) q steps.items
     × ((k : ℕ) (others : List ℕ) → k < tests → EndsForEver after (test_of passes k) q others → length steps.items ≤ length others)
-SaysForEver after passes q tests turns (stay.Found test steps) = (test < tests) × EndsForEver after (test_of passes test) q steps.items
-SaysForEver after passes q tests turns stay.Never = (k : ℕ) → k < tests → NoneForEver after (test_of passes k) q
-SaysForEver after passes q tests turns (stay.NotKnown n) = n ≤ turns
+SaysForEver after passes wanted q tests turns room over (stay.Found test steps) =
+    (test < tests) × (length steps.items ≤ turns) × EndsForEver after (test_of passes test) q steps.items
+SaysForEver after passes wanted q tests turns room over stay.Never = (k : ℕ) → k < tests → NoneForEver after (test_of passes k) q
+SaysForEver after passes wanted q tests turns room over (stay.NotKnown n) = StopsAt after q turns room n
+SaysForEver after passes wanted q tests turns room over (stay.Wanting n) = n < turns
+SaysForEver after passes wanted q tests turns room over (stay.Ended n) = (n ≤ turns) × (IsMet after wanted q ⊎ (over ≡ true))

@@ -5,11 +5,12 @@ use Rattle.fmp_search.specs.declared.chart.Chart.{Chart}
 use Rattle.fmp_search.specs.declared.layer.Layer.{Layer}
 use Rattle.fmp_search.specs.declared.layer.Layer.TheVariants as layer
 use Rattle.fmp_search.specs.declared.nodes.Node.{Node}
-use Rattle.fmp_search.specs.Answers.{Explored, IsShortest}
+use Rattle.fmp_search.specs.Answers.{Explored, HasMore, IsShortest}
 use Rattle.fmp_search.specs.Cache.{IsCache}
-use Rattle.fmp_search.specs.Charts.{Charting, IsCharted}
-use Rattle.fmp_search.specs.Growth.{AreBefore, AreFound, AreTried, Extends}
-use Rattle.fmp_search.specs.Trees.{IsAt}
+use Rattle.fmp_search.specs.Charts.{AreShort, Charting, IsCharted}
+use Rattle.fmp_search.specs.Growth.{AreFound, AreTried, Extends}
+use Rattle.fmp_search.specs.Tables.{AreHashed}
+use Rattle.fmp_search.specs.Trees.{IsAt, IsNew}
 
 -- what stays where steps are tried: where the runs of three walkers begin, for how many places there is room, whether edges are kept, and how many marks there are
 pub record Stays {P X : Type 0} (origin : X → P) (q : P) (walker base other : X) (most room : ℕ) (kept : Bool) (count : ℕ) (chart : Chart) : Type 0 where
@@ -20,34 +21,39 @@ pub record Stays {P X : Type 0} (origin : X → P) (q : P) (walker base other : 
   pub same : chart.kept ≡ kept
   pub marks : length chart.marks.items ≡ count
 
--- what is known where not all steps were tried: the places of all runs of n steps were found, and if edges are kept those from the first places are all there
+-- what is known where not all steps were tried: the places of all runs of n steps were found, and if edges are kept those from the first places are all there. Not all places were opened
 pub record IsStopped {P : Type 0} (after : P → ℕ → Option P) (passes : P → ℕ → ℕ) (q : P) (n : ℕ) (nodes : List Node) (chart : Chart) : Type 0 where
   pub found : AreFound after q n nodes
   pub charted : chart.kept ≡ true → IsCharted after passes q nodes chart
+  pub short : chart.kept ≡ true → AreShort after q nodes chart.edges (n + 1)
+  pub left : chart.opened ≤ length nodes
 
-module _ {P X : Type 0} (place : X → P) (room : X → ℕ) (origin : X → P) (after : P → ℕ → Option P) (wanted : P → Bool) (q : P) (n first : ℕ) where
-  -- of the first places, which are those of all runs of n steps, all steps from the first were tried, and the first steps from the next, and walkers stand at some
+module _ {P X : Type 0} (place : X → P) (room : X → ℕ) (origin : X → P) (after : P → ℕ → Option P) (hashed : P → ℕ) (zeroth : ℕ) (wanted : P → Bool) (q : P)
+    (n first : ℕ) where
+  -- of the first places, which are those of all runs of n steps, all steps from the first were tried, and the first steps from the next, walkers stand at
+  -- some, and their hashes are kept
   pub record IsFront (nodes : List Node) (cache : List (Cached X)) (at step : ℕ) : Type 0 where
     pub explored : Explored after wanted q nodes n first at
     pub tried : AreTried after q nodes at step
-    pub before : AreBefore nodes at step
     pub all : IsCache place room origin after q nodes cache
+    pub hashes : AreHashed after hashed q zeroth nodes
 
   -- the number that a place has, to which a step leads: it is one of the places that were found, or was added to them. There is none where there is no room or no memory for it
   abbrev pub Numbers : ℕ → List Node → List (Cached X) → ℕ → ℕ → P → Option ℕ → List Node → Type 0
-  Numbers most nodes cache at step r None more = more ≡ nodes
+  Numbers most nodes cache at step r None more = (more ≡ nodes) × IsNew after q nodes r
   Numbers most nodes cache at step r (Some number) more = IsFront more cache at (step + 1) × Extends after q nodes more × IsAt after q more number r
 
-module _ {P X : Type 0} (place : X → P) (room : X → ℕ) (origin : X → P) (after : P → ℕ → Option P) (passes : P → ℕ → ℕ) (wanted : P → Bool) (q : P) (n first : ℕ) where
+module _ {P X : Type 0} (place : X → P) (room : X → ℕ) (origin : X → P) (after : P → ℕ → Option P) (hashed : P → ℕ) (zeroth : ℕ) (passes tells : P → ℕ → ℕ)
+    (wanted : P → Bool) (q : P) (n first : ℕ) where
   -- and the edges of these steps are there
   pub record IsOpen (nodes : List Node) (cache : List (Cached X)) (chart : Chart) (at step : ℕ) : Type 0 where
-    pub front : IsFront place room origin after wanted q n first nodes cache at step
-    pub charting : Charting after passes q nodes chart at step
+    pub front : IsFront place room origin after hashed zeroth wanted q n first nodes cache at step
+    pub charting : Charting after passes tells q nodes chart at step
 
   -- how steps went: those before one were all tried, or it is known why they were not
   abbrev pub Advances : ℕ → Bool → List Node → List (Cached X) → Chart → ℕ → ℕ → Layer → Type 0
   Advances most over nodes cache chart at step (layer.Found steps) = IsStopped after passes q n nodes chart × (length steps.items ≤ n + 1) × IsShortest after wanted q steps.items
-  Advances most over nodes cache chart at step layer.Full = IsStopped after passes q n nodes chart × (length nodes ≡ most)
+  Advances most over nodes cache chart at step layer.Full = IsStopped after passes q n nodes chart × (length nodes ≡ most) × HasMore after q nodes (n + 1)
   Advances most over nodes cache chart at step layer.Wanting = IsStopped after passes q n nodes chart
   Advances most over nodes cache chart at step layer.Over = IsStopped after passes q n nodes chart × (over ≡ true)
   Advances most over nodes cache chart at step layer.Done = IsOpen nodes cache chart at step

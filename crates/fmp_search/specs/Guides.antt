@@ -6,7 +6,7 @@ use Rattle.fmp_search.specs.declared.guided.Choice.{Choice}
 use Rattle.fmp_search.specs.declared.exploring.Answer.{Answer}
 use Rattle.fmp_search.specs.declared.exploring.Answer.TheVariants as answer
 use Rattle.fmp_search.specs.Runs.{run}
-use Rattle.fmp_search.specs.Answers.{UsedUp}
+use Rattle.fmp_search.specs.Answers.{StopsAt}
 
 -- the step is one of the two
 abbrev pub is_of : Choice → ℕ → Bool
@@ -65,6 +65,6 @@ abbrev pub SaysAlong : {P : Type 0} → (P → ℕ → Option P) → (P → Bool
 SaysAlong after wanted q cs most room (answer.Found steps) = (length steps.items ≤ most) × IsShortestAlong after wanted q cs steps.items
 SaysAlong after wanted q cs most room answer.Never = NoneEverAlong after wanted q cs
 SaysAlong after wanted q cs most room (answer.NotWithin n) =
-    (n ≤ most) × NoneWithinAlong after wanted q cs n × (n < most → UsedUp (guided_after after) (guide cs q) n room)
+    NoneWithinAlong after wanted q cs n × StopsAt (guided_after after) (guide cs q) most room n
 SaysAlong after wanted q cs most room (answer.Wanting n) = (n < most) × NoneWithinAlong after wanted q cs n
 SaysAlong after wanted q cs most room (answer.Ended n) = (n < most) × NoneWithinAlong after wanted q cs n

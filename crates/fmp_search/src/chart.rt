@@ -7,10 +7,10 @@ use crate::edges::{Edge, Edges};
 use std::alloc::{AllocError, Global};
 
 /// Marks a number, if there is a mark for it.
-fn mark(marks: &mut [bool], number: u64)
+fn mark(marks: &mut [bool], number: u32)
     ensures { Notes number marks.old marks.new }
 {
-    if number < marks.len() as u64 {
+    if (number as usize) < marks.len() {
         marks[number as usize] = true;
     }
 }
@@ -39,15 +39,15 @@ impl Chart {
         })
     }
 
-    /// Marks what is told of an edge, and adds the edge after the others, if they are kept. The error is want of memory, and leaves all as it was.
-    pub(crate) fn add(&mut self, alloc: Global, edge: Edge) -> Result<(), AllocError>
-        ensures adds { IfOk result (λ done. Adds edge self.old self.new) }
+    /// Marks the number that is told of a step, and adds the edge of the step after the others, if they are kept. The error is want of memory, and leaves all as it was.
+    pub(crate) fn add(&mut self, alloc: Global, edge: Edge, number: u32) -> Result<(), AllocError>
+        ensures adds { IfOk result (λ done. Adds edge number self.old self.new) }
         ensures left { OnErr result (AreLeft self.old self.new) }
     {
         if self.kept {
             self.edges.push(alloc, edge)?;
         }
-        mark(&mut self.marks, edge.passes);
+        mark(&mut self.marks, number);
         Ok(())
     }
 }

@@ -1,10 +1,12 @@
 //! All runs.
-ghost use Rattle.std.specs.Prelude.{◌≡◌, ◌<◌, ◌^◌, IfOk};
+ghost use Rattle.std.specs.Prelude.{◌≡◌, ◌<◌, ◌^◌, IfOk, IfSome};
 ghost use Rattle.fmp_search.specs.Answers.{IsEndedBy, Says};
 ghost use Rattle.fmp_search.specs.Extents.{Went};
+ghost use Rattle.fmp_search.specs.Meeting.{IsMetBeside, Meets};
 
 use crate::extent::{Extent, extent_of};
 use crate::layer::Layer;
+use crate::meeting::Met;
 use crate::progress::Progress;
 use crate::space::Space;
 use crate::surveying::{Survey, go_through};
@@ -31,7 +33,8 @@ pub enum Answer {
 /// opened last.
 ///
 /// Where the room does not do, `NotWithin` says for how many steps it did, and then all of it was used. `Wanting` says so where the memory for the places does not do, and
-/// `Ended` only where `progress` ends the search. Beside that it gives how far the search went, unless a run was found. The error is want of memory for anything else.
+/// `Ended` only where `progress` ends the search. Beside that it gives how far the search went, unless a run was found, and which numbers below a count
+/// are told of steps: of those of all runs, or of those of at most so many steps, and nothing where not all of these were tried. The error is want of memory for anything else.
 pub fn explore<W: Space + Drop, P: Progress>(
     alloc: Global,
     walker: &mut W,
@@ -41,11 +44,14 @@ pub fn explore<W: Space + Drop, P: Progress>(
     progress: &mut P,
     turns: u32,
     most: u32,
-) -> Result<(Answer, Option<Extent>), AllocError>
+    count: usize,
+) -> Result<(Answer, Option<Extent>, Option<Met>), AllocError>
     requires origins { (W.origin base.old ≡ W.origin walker.old) × (W.origin other.old ≡ W.origin walker.old) × (W.origin trunk.old ≡ W.origin walker.old) }
     requires turns { turns < 2 ^ 31 }
     ensures says { IfOk result (λ r. Says W.after W.wanted (W.origin walker.old) turns most r.0) }
     ensures went { IfOk result (λ r. Went W.after (W.origin walker.old) r.0 r.1) }
+    ensures met { IfOk result (λ r. IfSome r.2 (Meets W.after W.tells (W.origin walker.old) turns count)) }
+    ensures beside { IfOk result (λ r. IsMetBeside turns r.0 r.2) }
     ensures ended { IfOk result (λ r. IsEndedBy (P.over progress.new) r.0) }
 {
     let Survey {
@@ -54,28 +60,33 @@ pub fn explore<W: Space + Drop, P: Progress>(
         chart,
         depth,
     } = go_through(
-        alloc, walker, base, other, trunk, progress, turns, most, false, 0,
+        alloc, walker, base, other, trunk, progress, turns, most, false, count,
     )?;
     match how {
-        Layer::Found(steps) => Ok((Answer::Found(steps), None)),
+        Layer::Found(steps) => Ok((Answer::Found(steps), None, None)),
         Layer::Full => {
             let extent = extent_of(alloc, &nodes)?;
-            Ok((Answer::NotWithin(depth), Some(extent)))
+            Ok((Answer::NotWithin(depth), Some(extent), None))
         }
         Layer::Wanting => {
             let extent = extent_of(alloc, &nodes)?;
-            Ok((Answer::Wanting(depth), Some(extent)))
+            Ok((Answer::Wanting(depth), Some(extent), None))
         }
         Layer::Over => {
             let extent = extent_of(alloc, &nodes)?;
-            Ok((Answer::Ended(depth), Some(extent)))
+            Ok((Answer::Ended(depth), Some(extent), None))
         }
         Layer::Done => {
             let extent = extent_of(alloc, &nodes)?;
-            if chart.opened == nodes.len() + 1 {
-                return Ok((Answer::Never, Some(extent)));
+            let whole = chart.opened == nodes.len() + 1;
+            let met = Some(Met {
+                marks: chart.marks,
+                whole,
+            });
+            if whole {
+                return Ok((Answer::Never, Some(extent), met));
             }
-            Ok((Answer::NotWithin(depth), Some(extent)))
+            Ok((Answer::NotWithin(depth), Some(extent), met))
         }
     }
 }

@@ -1,11 +1,11 @@
 //! Runs whose first steps are given.
-ghost use Rattle.std.specs.Prelude.{◌≡◌, ◌+◌, ◌<◌, ◌^◌, drop, nat_lt, IfOk, if◌then◌else◌};
+ghost use Rattle.std.specs.Prelude.{◌≡◌, ◌+◌, ◌%◌, ◌<◌, ◌≤◌, ◌^◌, drop, length, nat_lt, IfOk, if◌then◌else◌};
 ghost use Rattle.fmp_search.specs.Answers.{IsEndedBy};
 ghost use Rattle.fmp_search.specs.Guides.{Guide, SaysAlong, guided_after, guided_wanted, is_empty, is_of, may_choose};
 
 use crate::exploring::{Answer, explore};
 use crate::progress::Progress;
-use crate::space::Space;
+use crate::space::{Noted, Space};
 use std::alloc::{AllocError, Global};
 
 /// One of two steps.
@@ -30,6 +30,7 @@ struct Guided<'a, W: Space + Drop> {
     walker: W,
     choices: &'a [Choice],
     made: usize,
+    ghost within: { made ≤ length choices.now },
 }
 
 impl<'a, W: Space + Drop> Guided<'a, W> {
@@ -71,6 +72,10 @@ impl<'a, W: Space + Drop> Space for Guided<'a, W> {
 
     ghost passes = { λ g s. W.passes g.place s };
 
+    ghost tells = { λ g s. W.tells g.place s };
+
+    ghost hashed = { λ g. (W.hashed g.place + length g.choices) % 2 ^ 64 };
+
     ghost room = { λ g. W.room g.walker };
 
     fn another(&self) -> Result<Self, AllocError> {
@@ -100,7 +105,7 @@ impl<'a, W: Space + Drop> Space for Guided<'a, W> {
         Ok(made)
     }
 
-    fn watch(&mut self, step: u8, closed: &mut u64) -> Result<Option<u64>, AllocError> {
+    fn watch(&mut self, step: u8, closed: &mut u64) -> Result<Option<Noted>, AllocError> {
         if !self.may_choose(step) {
             return Ok(None);
         }
@@ -133,7 +138,8 @@ impl<'a, W: Space + Drop> Space for Guided<'a, W> {
     }
 
     fn hash(&self) -> u64 {
-        self.walker.hash().wrapping_add(self.made as u64)
+        let left = self.choices.len() - self.made;
+        self.walker.hash().wrapping_add(left as u64)
     }
 }
 
@@ -174,7 +180,7 @@ pub fn explore_along<W: Space + Drop, P: Progress>(
         choices,
         made: 0,
     };
-    let (answer, _extent) = explore(
+    let (answer, _extent, _met) = explore(
         alloc,
         &mut walker,
         &mut base,
@@ -183,6 +189,7 @@ pub fn explore_along<W: Space + Drop, P: Progress>(
         progress,
         turns,
         most,
+        0,
     )?;
     Ok(answer)
 }

@@ -26,20 +26,20 @@ impl Kind {
     }
 }
 
-/// Kinds, and a table of their numbers by which one is found again.
+/// Kinds, and a table by which one is found again: of each it has the number that comes after its own.
 #[derive(Drop)]
 pub(crate) struct Kinds {
     pub(crate) all: Vec<Kind>,
     table: Vec<u32>,
 }
 
-/// A table of the numbers of these kinds, of so many slots. The error is want of memory.
+/// A table of these kinds, of so many slots. The error is want of memory.
 fn table_of(alloc: Global, all: &[Kind], slots: usize) -> Result<Vec<u32>, AllocError>
     requires { length all.now < 2 ^ 32 }
 {
     let mut table = vec![in alloc; NOBODY; slots]?;
     for number in 0..all.len() {
-        put(&mut table, all[number].hash(), number as u32);
+        put(&mut table, all[number].hash(), number as u32 + 1);
     }
     Ok(table)
 }
@@ -76,12 +76,13 @@ impl Kinds {
     {
         let slots = self.table.len();
         for turn in 0..slots {
-            let number = self.table[slot(kind.hash(), turn, slots)];
+            let after = self.table[slot(kind.hash(), turn, slots)];
+            if after == NOBODY {
+                return None;
+            }
+            let number = after - 1;
             if self.has(number, kind) {
                 return Some(number);
-            }
-            if number == NOBODY {
-                return None;
             }
         }
         None
@@ -108,13 +109,13 @@ impl Kinds {
         if let Some(number) = self.find(kind) {
             return Ok(number);
         }
-        if self.all.len() >= NOBODY as usize {
+        if self.all.len() >= u32::MAX as usize {
             return Err(AllocError);
         }
         self.make_room(alloc)?;
         let number = self.all.len() as u32;
         self.all.push(kind)?;
-        put(&mut self.table, kind.hash(), number);
+        put(&mut self.table, kind.hash(), number + 1);
         Ok(number)
     }
 }

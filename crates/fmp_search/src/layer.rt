@@ -11,7 +11,7 @@ use crate::chart::Chart;
 use crate::edges::Edge;
 use crate::nodes::{Node, steps_over};
 use crate::progress::Progress;
-use crate::space::Space;
+use crate::space::{Noted, Space};
 use crate::store::Store;
 use std::alloc::{AllocError, Global};
 
@@ -49,13 +49,14 @@ fn number_of<W: Space + Drop>(
     at: usize,
     step: u8,
 ) -> Result<Option<u32>, AllocError>
-    requires front { IsFront W.place W.room W.origin W.after W.wanted (W.origin walker.now) front.depth front.end store.old.nodes.items cache.now at step }
+    requires front { IsFront W.place W.room W.origin W.after W.hashed store.old.first W.wanted (W.origin walker.now) front.depth front.end
+        store.old.nodes.items cache.now at step }
     requires place { at < front.end }
     requires made { W.after (found_at W.after (W.origin walker.now) store.old.nodes.items at).place step ≡ Some (W.place walker.now) }
     requires clean { W.wanted (W.place walker.now) ≡ false }
     requires origins { W.origin other.old ≡ W.origin walker.now }
-    ensures number { IfOk result (λ o. Numbers W.place W.room W.origin W.after W.wanted (W.origin walker.now) front.depth front.end store.old.most
-        store.old.nodes.items cache.now at step (W.place walker.now) o store.new.nodes.items) }
+    ensures number { IfOk result (λ o. Numbers W.place W.room W.origin W.after W.hashed store.new.first W.wanted (W.origin walker.now) front.depth
+        front.end store.old.most store.old.nodes.items cache.now at step (W.place walker.now) o store.new.nodes.items) }
     ensures stays { IfOk result (λ o. (store.new.most ≡ store.old.most) × (W.origin other.new ≡ W.origin other.old)) }
 {
     let hash = walker.hash();
@@ -91,18 +92,18 @@ fn may_try<W: Space + Drop>(base: &W, closed: u64, step: u8) -> bool
     !is_closed(closed, step) && base.may_go(step)
 }
 
-/// Makes the step of a number from the place where `base` stands, and tells which tests it passes. None where it cannot be made. Steps that it shows
+/// Makes the step of a number from the place where `base` stands, and tells which tests it passes, and its number. None where it cannot be made. Steps that it shows
 /// to be none from there are added to `closed`. The error is want of memory.
 fn step_from<W: Space + Drop>(
     walker: &mut W,
     base: &W,
     step: u8,
     closed: &mut u64,
-) -> Result<Option<u64>, AllocError>
+) -> Result<Option<Noted>, AllocError>
     requires origin { W.origin base.now ≡ W.origin walker.old }
     requires room { 0 < W.room base.now }
     requires closed { AreClosed W.after (W.place base.now) closed.old }
-    ensures watched { IfOk result (λ report. IsWatched W.after W.passes (W.place base.now) step report (W.place walker.new) closed.new) }
+    ensures watched { IfOk result (λ report. IsWatched W.after W.passes W.tells (W.place base.now) step report (W.place walker.new) closed.new) }
     ensures origin { W.origin walker.new ≡ W.origin walker.old }
 {
     if !may_try(base, *closed, step) {
@@ -127,20 +128,20 @@ fn try_step<W: Space + Drop>(
     step: u8,
     closed: &mut u64,
 ) -> Result<Layer, AllocError>
-    requires opening { IsOpen W.place W.room W.origin W.after W.passes W.wanted (W.origin walker.old) front.depth front.end
+    requires opening { IsOpen W.place W.room W.origin W.after W.hashed store.old.first W.passes W.tells W.wanted (W.origin walker.old) front.depth front.end
         store.old.nodes.items cache.now chart.old at step }
     requires place { at < front.end }
     requires base { Stands W.place W.room W.origin W.after (W.origin walker.old) store.old.nodes.items at base.now }
     requires other { W.origin other.old ≡ W.origin walker.old }
     requires closed { AreClosed W.after (W.place base.now) closed.old }
-    ensures advances { IfOk result (Advances W.place W.room W.origin W.after W.passes W.wanted (W.origin walker.old) front.depth front.end
-        store.old.most false store.new.nodes.items cache.now chart.new at (step + 1)) }
+    ensures advances { IfOk result (Advances W.place W.room W.origin W.after W.hashed store.new.first W.passes W.tells W.wanted (W.origin walker.old) front.depth
+        front.end store.old.most false store.new.nodes.items cache.now chart.new at (step + 1)) }
     ensures stays { IfOk result (λ how. Stays W.origin (W.origin walker.old) walker.new base.now other.new store.old.most store.new.most
         chart.old.kept (length chart.old.marks.items) chart.new) }
     ensures extends { IfOk result (λ how. Extends W.after (W.origin walker.old) store.old.nodes.items store.new.nodes.items) }
     ensures closed { IfOk result (λ how. AreClosed W.after (W.place base.now) closed.new) }
 {
-    let Some(passes) = step_from(walker, base, step, closed)? else {
+    let Some(noted) = step_from(walker, base, step, closed)? else {
         return Ok(Layer::Done);
     };
     if walker.is_wanted() {
@@ -153,12 +154,12 @@ fn try_step<W: Space + Drop>(
         return Ok(Layer::Wanting);
     };
     let edge = Edge {
-        passes,
+        passes: noted.passes,
         from: at as u32,
         to,
         step,
     };
-    match chart.add(alloc, edge) {
+    match chart.add(alloc, edge, noted.number) {
         Ok(()) => Ok(Layer::Done),
         Err(AllocError) => Ok(Layer::Wanting),
     }
@@ -177,12 +178,12 @@ fn open_place<W: Space + Drop>(
     front: Front,
     at: usize,
 ) -> Result<Layer, AllocError>
-    requires opening { IsOpen W.place W.room W.origin W.after W.passes W.wanted (W.origin walker.old) front.depth front.end
+    requires opening { IsOpen W.place W.room W.origin W.after W.hashed store.old.first W.passes W.tells W.wanted (W.origin walker.old) front.depth front.end
         store.old.nodes.items cache.old.items chart.old at 0 }
     requires place { at < front.end }
     requires origins { (W.origin base.old ≡ W.origin walker.old) × (W.origin other.old ≡ W.origin walker.old) }
-    ensures advances { IfOk result (Advances W.place W.room W.origin W.after W.passes W.wanted (W.origin walker.old) front.depth front.end
-        store.old.most false store.new.nodes.items cache.new.items chart.new (at + 1) 0) }
+    ensures advances { IfOk result (Advances W.place W.room W.origin W.after W.hashed store.new.first W.passes W.tells W.wanted (W.origin walker.old) front.depth
+        front.end store.old.most false store.new.nodes.items cache.new.items chart.new (at + 1) 0) }
     ensures stays { IfOk result (λ how. Stays W.origin (W.origin walker.old) walker.new base.new other.new store.old.most store.new.most
         chart.old.kept (length chart.old.marks.items) chart.new) }
 {
@@ -224,12 +225,12 @@ pub(crate) fn open_layer<W: Space + Drop, P: Progress>(
     front: Front,
     begin: usize,
 ) -> Result<Layer, AllocError>
-    requires opening { IsOpen W.place W.room W.origin W.after W.passes W.wanted (W.origin walker.old) front.depth front.end
+    requires opening { IsOpen W.place W.room W.origin W.after W.hashed store.old.first W.passes W.tells W.wanted (W.origin walker.old) front.depth front.end
         store.old.nodes.items cache.old.items chart.old begin 0 }
     requires place { begin ≤ front.end }
     requires origins { (W.origin base.old ≡ W.origin walker.old) × (W.origin other.old ≡ W.origin walker.old) }
-    ensures advances { IfOk result (Advances W.place W.room W.origin W.after W.passes W.wanted (W.origin walker.old) front.depth front.end
-        store.old.most (P.over progress.new) store.new.nodes.items cache.new.items chart.new front.end 0) }
+    ensures advances { IfOk result (Advances W.place W.room W.origin W.after W.hashed store.new.first W.passes W.tells W.wanted (W.origin walker.old) front.depth
+        front.end store.old.most (P.over progress.new) store.new.nodes.items cache.new.items chart.new front.end 0) }
     ensures stays { IfOk result (λ how. Stays W.origin (W.origin walker.old) walker.new base.new other.new store.old.most store.new.most
         chart.old.kept (length chart.old.marks.items) chart.new) }
 {

@@ -1,6 +1,7 @@
 //! Which numbers are told of steps.
 ghost use Rattle.std.specs.Prelude.{◌≡◌, ◌<◌, ◌^◌, None, IfOk, IfSome};
 ghost use Rattle.fmp_search.specs.Meeting.{IsLeftOpen, Meets};
+ghost use Rattle.fmp_search.specs.Surveys as surveys;
 
 use crate::layer::Layer;
 use crate::progress::Progress;
@@ -13,6 +14,25 @@ use std::alloc::{AllocError, Global};
 pub struct Met {
     pub marks: Vec<bool>,
     pub whole: bool,
+}
+
+/// Which numbers are told of steps, where all steps were tried that were asked for.
+pub(crate) fn met_of(survey: Survey) -> Option<Met>
+    ensures { result ≡ surveys.met_of survey }
+{
+    let Survey {
+        how,
+        nodes,
+        chart,
+        ..
+    } = survey;
+    match how {
+        Layer::Done => Some(Met {
+            whole: chart.opened == nodes.len() + 1,
+            marks: chart.marks,
+        }),
+        Layer::Found(_) | Layer::Full | Layer::Wanting | Layer::Over => None,
+    }
 }
 
 /// Goes through all places, up to so many steps from where all runs begin and with room for so many besides the first, and tells which numbers below a
@@ -32,23 +52,14 @@ pub fn meet<W: Space + Drop, P: Progress>(
 ) -> Result<Option<Met>, AllocError>
     requires origins { (W.origin base.old ≡ W.origin walker.old) × (W.origin other.old ≡ W.origin walker.old) × (W.origin trunk.old ≡ W.origin walker.old) }
     requires turns { turns < 2 ^ 31 }
-    ensures meets { IfOk result (λ o. IfSome o (Meets W.after W.passes (W.origin walker.old) turns count)) }
+    ensures meets { IfOk result (λ o. IfSome o (Meets W.after W.tells (W.origin walker.old) turns count)) }
     ensures none { IfOk result (λ o. o ≡ None → IsLeftOpen W.after W.wanted (W.origin walker.old) turns most (P.over progress.new)) }
 {
-    let Survey {
-        how,
-        nodes,
-        chart,
-        ..
-    } = go_through(
+    let survey = go_through(
         alloc, walker, base, other, trunk, progress, turns, most, false, count,
     )?;
-    match how {
-        Layer::Done => Ok(Some(Met {
-            whole: chart.opened == nodes.len() + 1,
-            marks: chart.marks,
-        })),
+    match survey.how {
         Layer::Wanting => Err(AllocError),
-        _ => Ok(None),
+        _ => Ok(met_of(survey)),
     }
 }

@@ -1,8 +1,15 @@
 //! What can be gone through.
-ghost use Rattle.std.specs.Prelude.{◌≡◌, ◌≤◌, ◌<◌, ◌+◌, ◌^◌, ℕ, Bool, true, false, Option, None, Some, IfOk, is_some};
-ghost use Rattle.fmp_search.specs.Runs.{Closes, Goes, Watches};
+ghost use Rattle.std.specs.Prelude.{◌≡◌, ◌↔◌, ◌≤◌, ◌<◌, ◌+◌, ◌^◌, ℕ, Bool, true, false, IsTrue, Option, None, Some, IfOk, is_some};
+ghost use Rattle.fmp_search.specs.Runs.{Closes, Goes, told_of, Watches};
 
 use std::alloc::AllocError;
+
+/// What is told of a step: which of up to 64 tests it passes, bit k for test k, and a number.
+#[derive(Clone, Copy)]
+pub struct Noted {
+    pub passes: u64,
+    pub number: u32,
+}
 
 /// One who stands at a place of a graph, can make numbered steps, and can go back to where all runs begin. What a step leads to depends
 /// on the place alone.
@@ -23,6 +30,12 @@ pub trait Space {
 
     // Which of up to 64 tests a step from a place passes, each as a bit.
     ghost passes: { Place → ℕ → ℕ };
+
+    // A number that is told of a step from a place, if it can be made.
+    ghost tells: { Place → ℕ → ℕ };
+
+    // A number of each place.
+    ghost hashed: { Place → ℕ };
 
     // For how many steps more there is room, before it has to go back.
     ghost room: { Self → ℕ };
@@ -48,11 +61,11 @@ pub trait Space {
         ensures goes { IfOk result (λ made. Goes (after (place self.old) step) made (place self.new)) }
         ensures origin { origin self.new ≡ origin self.old };
 
-    /// Makes the step of a number as `go` does, and tells which tests it passes: bit k for test k. None where it could not be made. Where
+    /// Makes the step of a number as `go` does, and tells which tests it passes, and its number. None where it could not be made. Where
     /// that shows of other steps that they cannot be made from the same place, it may add their bits to `closed`.
-    fn watch(&mut self, step: u8, closed: &mut u64) -> Result<Option<u64>, AllocError>
+    fn watch(&mut self, step: u8, closed: &mut u64) -> Result<Option<Noted>, AllocError>
         requires { 0 < room self.old }
-        ensures goes { IfOk result (λ report. Watches (after (place self.old) step) (passes (place self.old) step) report (place self.new)) }
+        ensures goes { IfOk result (λ report. Watches (after (place self.old) step) (told_of passes tells (place self.old) step) report (place self.new)) }
         ensures closed { Closes after (place self.old) closed.old closed.new }
         ensures origin { origin self.new ≡ origin self.old };
 
@@ -79,13 +92,12 @@ pub trait Space {
     fn is_wanted(&self) -> bool
         ensures { result ≡ wanted (place self.now) };
 
-    /// Whether another, whose runs begin at the same place, stands at the same place. It may say no of two that are the same, and then
-    /// a place counts twice.
+    /// Whether another, whose runs begin at the same place, stands at the same place.
     fn is_same(&self, other: &Self) -> bool
         requires { origin other.now ≡ origin self.now }
-        ensures { result ≡ true → place other.now ≡ place self.now };
+        ensures { IsTrue result ↔ (place other.now ≡ place self.now) };
 
-    /// A number that is the same at the same place. The answers do not depend on it; where it often differs at other places they come
-    /// sooner.
-    fn hash(&self) -> u64;
+    /// The number of the place where it stands. The answers do not depend on it; where it often differs at other places they come sooner.
+    fn hash(&self) -> u64
+        ensures { result ≡ hashed (place self.now) };
 }

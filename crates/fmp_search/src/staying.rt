@@ -1,22 +1,24 @@
 //! Steps from which on a test is passed for ever.
-ghost use Rattle.std.specs.Prelude.{◌≡◌, ◌≤◌, ◌<◌, ◌+◌, ◌^◌, ◌⊎◌, ℕ, Some, true, false, length, IfOk};
+ghost use Rattle.std.specs.Prelude.{◌≡◌, ◌==◌, ◌≤◌, ◌<◌, ◌+◌, ◌^◌, ◌⊎◌, ℕ, Bool, None, Some, true, false, length, IfOk, IfSome};
 ghost use Rattle.fmp_search.specs.Trees.{found_at, IsTree};
-ghost use Rattle.fmp_search.specs.Charts.{AreTrue, IsCharted, IsTrueEdge};
-ghost use Rattle.fmp_search.specs.Answers.{IsComplete};
+ghost use Rattle.fmp_search.specs.Charts.{AreShort, AreTrue, IsCharted, IsTrueEdge};
 ghost use Rattle.fmp_search.specs.Extents.{AreOf, WentForEver};
 ghost use Rattle.fmp_search.specs.Forever.{is_bit, mark_at, test_of, AreClosed, AreEarned, AreNearest, SaysForEver};
+ghost use Rattle.fmp_search.specs.Meeting.{IsMetBesideStay, Meets};
 ghost use Rattle.fmp_search.specs.Spreads.{AreKept, AreMarked, AreOpenFrom, AreWithin, HasFailing};
-ghost use Rattle.fmp_search.specs.Stays.{AreEntered, Covers, HasWithin, IsRight};
+ghost use Rattle.fmp_search.specs.Stays.{AreEntered, Covers, HasWithin, IsBacked, IsRight};
+ghost use Rattle.fmp_search.specs.Surveys.{met_of, Surveys};
 
 use crate::chart::Chart;
 use crate::edges::{Edge, Edges};
 use crate::extent::{Extent, extent_of};
 use crate::layer::Layer;
 use crate::marks::spread;
+use crate::meeting::{Met, met_of};
 use crate::nodes::{Node, steps_over};
 use crate::progress::Progress;
 use crate::space::Space;
-use crate::surveying::go_through;
+use crate::surveying::{Survey, go_through};
 use std::alloc::{AllocError, Global};
 
 /// What is known of runs whose last step passes one of some tests, and every step after it too.
@@ -28,8 +30,12 @@ pub enum Stay {
     Found(u8, Vec<u8>),
     /// No run is, for no test.
     Never,
-    /// That is not known. So many steps were gone through.
+    /// That is not known. So many steps were gone through: no more were asked for, or there is no room for more places.
     NotKnown(u32),
+    /// Likewise, where there was no memory for more places.
+    Wanting(u32),
+    /// Likewise, where the search was ended before more is known, or met a place that is looked for.
+    Ended(u32),
 }
 
 /// Whether a test is one of these.
@@ -147,13 +153,15 @@ fn run_over<W: Space>(
     edge: Edge,
     marks: &[bool],
     test: u8,
+    _turns: u32,
 ) -> Result<Option<Run>, AllocError>
     requires test { test < 64 }
     requires tree { IsTree W.after (W.origin walker.now) nodes.now }
-    requires sure { IsTrueEdge W.after W.passes (W.origin walker.now) nodes.now edge }
+    requires sure { IsTrueEdge W.after W.passes (W.origin walker.now) nodes.now edge
+        × ((found_at W.after (W.origin walker.now) nodes.now edge.from).depth < _turns) }
     requires closed { AreClosed W.after (test_of W.passes test) (W.origin walker.now) nodes.now marks.now }
     requires long { length marks.now ≡ length nodes.now + 1 }
-    ensures right { IfOk result (λ o. IsRight W.after W.passes (W.origin walker.now) (test + 1) o) }
+    ensures right { IfOk result (λ o. IsRight W.after W.passes (W.origin walker.now) _turns (test + 1) o) }
     ensures within { IfOk result (λ o. is_bit edge.passes test ≡ true → mark_at marks.now edge.to ≡ false
         → HasWithin o ((found_at W.after (W.origin walker.now) nodes.now edge.from).depth + 1)) }
 {
@@ -177,60 +185,57 @@ fn entered<W: Space>(
     marks: &[bool],
     test: u8,
     before: Option<Run>,
+    turns: u32,
 ) -> Result<Option<Run>, AllocError>
     requires test { test < 64 }
     requires tree { IsTree W.after (W.origin walker.now) nodes.now }
-    requires sure { AreTrue W.after W.passes (W.origin walker.now) nodes.now edges.now }
+    requires sure { AreTrue W.after W.passes (W.origin walker.now) nodes.now edges.now × AreShort W.after (W.origin walker.now) nodes.now edges.now turns }
     requires closed { AreClosed W.after (test_of W.passes test) (W.origin walker.now) nodes.now marks.now }
     requires long { length marks.now ≡ length nodes.now + 1 }
-    requires right { IsRight W.after W.passes (W.origin walker.now) (test + 1) before }
-    ensures right { IfOk result (λ o. IsRight W.after W.passes (W.origin walker.now) (test + 1) o) }
+    requires right { IsRight W.after W.passes (W.origin walker.now) turns (test + 1) before }
+    ensures right { IfOk result (λ o. IsRight W.after W.passes (W.origin walker.now) turns (test + 1) o) }
     ensures kept { IfOk result (λ o. (n : ℕ) → HasWithin before n → HasWithin o n) }
     ensures within { IfOk result (λ o. AreEntered W.after (W.origin walker.now) nodes.now edges.now marks.now test o) }
 {
     let mut best = before;
     for at in 0..edges.len() {
-        let over = run_over(alloc, walker, nodes, edges.get(at), marks, test)?;
+        let over = run_over(alloc, walker, nodes, edges.get(at), marks, test, turns)?;
         best = better(best, over);
     }
     Ok(best)
 }
 
-/// The answer of a run that was found, or of none, where all was gone through or not.
+/// The answer of a run that was found, or of none. It is none where no run was found, and not all was gone through.
 fn report<W: Space>(
     _walker: &W,
     _nodes: &[Node],
     best: Option<Run>,
     whole: bool,
     _tests: u8,
-    turns: u32,
-) -> Stay
-    requires right { IsRight W.after W.passes (W.origin _walker.now) _tests best }
+    _turns: u32,
+) -> Option<Stay>
+    requires right { IsRight W.after W.passes (W.origin _walker.now) _turns _tests best }
     requires covers { whole ≡ true → (k : ℕ) → k < _tests → Covers W.after W.passes (W.origin _walker.now) k best }
     requires nearest { whole ≡ true → AreNearest W.after (W.origin _walker.now) _nodes.now }
-    requires complete { IsComplete W.after (W.origin _walker.now) _nodes.now turns (length _nodes.now + 1) }
-    ensures says { SaysForEver W.after W.passes (W.origin _walker.now) _tests turns result }
-    ensures all { AreOf W.after (W.origin _walker.now) result _nodes.now }
+    ensures says { IfSome result (λ s. (room : ℕ) (over : Bool) → SaysForEver W.after W.passes W.wanted (W.origin _walker.now) _tests _turns room over s) }
+    ensures all { IfSome result (λ s. AreOf W.after (W.origin _walker.now) s _nodes.now) }
+    ensures backed { IfSome result (IsBacked whole) }
+    ensures none { result ≡ None → whole ≡ false }
 {
     match best {
         Some(found) => {
             if whole {
-                Stay::Shortest(found.test, found.steps)
+                Some(Stay::Shortest(found.test, found.steps))
             } else {
-                Stay::Found(found.test, found.steps)
+                Some(Stay::Found(found.test, found.steps))
             }
         }
-        None => {
-            if whole {
-                Stay::Never
-            } else {
-                Stay::NotKnown(turns)
-            }
-        }
+        None => { if whole { Some(Stay::Never) } else { None } }
     }
 }
 
-/// What is known by the places that were found and the steps between them. The error is want of memory.
+/// What is known by the places that were found and the steps between them. It is none where no run was found, and not all places were opened. The error is
+/// want of memory.
 fn report_of<W: Space>(
     alloc: Global,
     walker: &W,
@@ -238,26 +243,69 @@ fn report_of<W: Space>(
     chart: &Chart,
     tests: u8,
     turns: u32,
-) -> Result<Stay, AllocError>
+) -> Result<Option<Stay>, AllocError>
     requires tests { tests ≤ 64 }
     requires tree { IsTree W.after (W.origin walker.now) nodes.now }
-    requires charted { IsCharted W.after W.passes (W.origin walker.now) nodes.now chart.now }
+    requires charted { IsCharted W.after W.passes (W.origin walker.now) nodes.now chart.now
+        × AreShort W.after (W.origin walker.now) nodes.now chart.now.edges turns }
     requires nearest { chart.now.opened ≡ length nodes.now + 1 → AreNearest W.after (W.origin walker.now) nodes.now }
-    requires complete { IsComplete W.after (W.origin walker.now) nodes.now turns (length nodes.now + 1) }
-    ensures says { IfOk result (λ s. SaysForEver W.after W.passes (W.origin walker.now) tests turns s) }
-    ensures all { IfOk result (λ s. AreOf W.after (W.origin walker.now) s nodes.now) }
+    ensures says { IfOk result (λ o. IfSome o (λ s. (room : ℕ) (over : Bool)
+        → SaysForEver W.after W.passes W.wanted (W.origin walker.now) tests turns room over s)) }
+    ensures all { IfOk result (λ o. IfSome o (λ s. AreOf W.after (W.origin walker.now) s nodes.now)) }
+    ensures backed { IfOk result (λ o. IfSome o (IsBacked (chart.now.opened == length nodes.now + 1))) }
+    ensures none { IfOk result (λ o. o ≡ None → chart.now.opened ≡ length nodes.now + 1 → ⊥) }
 {
     let mut best = None;
     for test in 0..tests {
         let marks = marks_of(alloc, walker, nodes, chart, test)?;
-        best = entered(alloc, walker, nodes, &chart.edges, &marks, test, best)?;
+        best = entered(
+            alloc,
+            walker,
+            nodes,
+            &chart.edges,
+            &marks,
+            test,
+            best,
+            turns,
+        )?;
     }
     let whole = chart.opened == nodes.len() + 1;
     Ok(report(walker, nodes, best, whole, tests, turns))
 }
 
+/// What is known by what was gone through, with the edges. The error is want of memory.
+fn stay_of<W: Space, P: Progress>(
+    alloc: Global,
+    walker: &W,
+    _progress: &P,
+    survey: &Survey,
+    turns: u32,
+    _most: u32,
+    tests: u8,
+    _count: usize,
+) -> Result<Stay, AllocError>
+    requires tests { tests ≤ 64 }
+    requires surveys { Surveys W.after W.passes W.tells W.wanted (W.origin walker.now) turns _most (P.over _progress.now) true _count survey.now }
+    ensures says { IfOk result (SaysForEver W.after W.passes W.wanted (W.origin walker.now) tests turns _most (P.over _progress.now)) }
+    ensures all { IfOk result (λ s. AreOf W.after (W.origin walker.now) s survey.now.nodes.items) }
+    ensures beside { IfOk result (λ s. IsMetBesideStay turns s (met_of survey.now)) }
+{
+    if matches!(survey.how, Layer::Over) {
+        return Ok(Stay::Ended(survey.depth));
+    }
+    if let Some(stay) = report_of(alloc, walker, &survey.nodes, &survey.chart, tests, turns)? {
+        return Ok(stay);
+    }
+    match &survey.how {
+        Layer::Wanting => Ok(Stay::Wanting(survey.depth)),
+        Layer::Full | Layer::Done => Ok(Stay::NotKnown(survey.depth)),
+        Layer::Found(_) | Layer::Over => Ok(Stay::Ended(survey.depth)),
+    }
+}
+
 /// Looks for a run whose last step passes one of so many tests, as every step after it does: through all places, up to so many steps from where all
-/// runs begin, and with room for so many besides the first. How far it went is told too. The error is want of memory.
+/// runs begin, and with room for so many besides the first. How far it went is told too, and which numbers below a count are told of
+/// steps: of those of all runs, or of those of at most so many steps, and nothing where not all of these were tried. The error is want of memory.
 pub fn for_ever<W: Space + Drop, P: Progress>(
     alloc: Global,
     walker: &mut W,
@@ -268,24 +316,20 @@ pub fn for_ever<W: Space + Drop, P: Progress>(
     turns: u32,
     most: u32,
     tests: u8,
-) -> Result<(Stay, Extent), AllocError>
+    count: usize,
+) -> Result<(Stay, Extent, Option<Met>), AllocError>
     requires origins { (W.origin base.old ≡ W.origin walker.old) × (W.origin other.old ≡ W.origin walker.old) × (W.origin trunk.old ≡ W.origin walker.old) }
     requires turns { turns < 2 ^ 31 }
     requires tests { tests ≤ 64 }
-    ensures says { IfOk result (λ r. SaysForEver W.after W.passes (W.origin walker.old) tests turns r.0) }
+    ensures says { IfOk result (λ r. SaysForEver W.after W.passes W.wanted (W.origin walker.old) tests turns most (P.over progress.new) r.0) }
     ensures went { IfOk result (λ r. WentForEver W.after (W.origin walker.old) r.0 r.1) }
+    ensures met { IfOk result (λ r. IfSome r.2 (Meets W.after W.tells (W.origin walker.old) turns count)) }
+    ensures beside { IfOk result (λ r. IsMetBesideStay turns r.0 r.2) }
 {
-    let found = go_through(
-        alloc, walker, base, other, trunk, progress, turns, most, true, 0,
+    let survey = go_through(
+        alloc, walker, base, other, trunk, progress, turns, most, true, count,
     )?;
-    let extent = extent_of(alloc, &found.nodes)?;
-    let depth = found.depth;
-    match found.how {
-        Layer::Over => Ok((Stay::NotKnown(depth), extent)),
-        _ => {
-            let nodes = &found.nodes;
-            let stay = report_of(alloc, walker, nodes, &found.chart, tests, depth)?;
-            Ok((stay, extent))
-        }
-    }
+    let extent = extent_of(alloc, &survey.nodes)?;
+    let stay = stay_of(alloc, walker, progress, &survey, turns, most, tests, count)?;
+    Ok((stay, extent, met_of(survey)))
 }

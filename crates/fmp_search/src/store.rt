@@ -1,7 +1,8 @@
 //! All places that were found, and a table by which one is found again.
-ghost use Rattle.std.specs.Prelude.{◌≡◌, ◌≤◌, ◌<◌, ◌+◌, ◌^◌, ◌++◌, ◌∷◌, ◌↔◌, [], true, length, IfOk, IfSome, OnErr};
+ghost use Rattle.std.specs.Prelude.{◌≡◌, ◌≤◌, ◌<◌, ◌+◌, ◌^◌, ◌++◌, ◌∷◌, ◌↔◌, [], true, length, IfOk, IsTrue, OnErr};
 ghost use Rattle.fmp_search.specs.Cache.{AreNear};
-ghost use Rattle.fmp_search.specs.Trees.{IsAt};
+ghost use Rattle.fmp_search.specs.Tables.{free_in, AreHashed, HasHash, Holds};
+ghost use Rattle.fmp_search.specs.Trees.{IsAt, IsKnownAs};
 
 use crate::cache::{Cached, go_to};
 use crate::nodes::Node;
@@ -9,48 +10,58 @@ use crate::space::Space;
 use crate::table::{LEAST, NOBODY, clear_for, put, slot};
 use std::alloc::{AllocError, Global};
 
-/// The nodes, of which there are at most so many, and a table of the numbers of places, each near the slot that its hash names. Both grow with the places.
+/// The nodes, of which there are at most so many, and a table of the numbers of their places. Both grow with the places. Where all runs begin is not in the
+/// table.
 #[derive(Drop)]
 pub(crate) struct Store {
     pub(crate) nodes: Vec<Node>,
     pub(crate) most: u32,
-    first: u64,
+    /// The hash of the place where all runs begin.
+    pub(crate) first: u64,
     table: Vec<u32>,
     ghost few: { length nodes.items ≤ most },
     ghost small: { length nodes.items < 2 ^ 32 },
+    ghost holds: { Holds table.items nodes.items },
 }
 
-/// Puts the places of these nodes into a table, and the first one, which has none, by its hash.
-fn put_all(table: &mut [u32], first: u64, nodes: &[Node])
-    requires { length nodes.now < 2 ^ 32 }
+/// Puts the places of these nodes into a table that is free.
+fn put_all(table: &mut Vec<u32>, nodes: &[Node])
+    requires few { length nodes.now < 2 ^ 32 }
+    requires room { length nodes.now < length table.old.items }
+    requires free { free_in table.old.items ≡ length table.old.items }
+    ensures holds { Holds table.new.items nodes.now }
+    ensures long { length table.new.items ≡ length table.old.items }
 {
-    put(table, first, 0);
     for at in 0..nodes.len() {
-        put(table, nodes[at].hash, at as u32 + 1);
+        let node = nodes[at];
+        put(table, node.hash, at as u32 + 1);
     }
 }
 
 /// Makes the table of the places of these nodes larger where it is half full: twice as large, but not larger than that of as many places as there may be.
 /// The error is want of memory.
-fn make_room(table: &mut Vec<u32>, first: u64, nodes: &[Node], most: u32) -> Result<(), AllocError>
-    requires { length nodes.now < 2 ^ 32 }
+fn make_room(table: &mut Vec<u32>, nodes: &[Node], most: u32) -> Result<(), AllocError>
+    requires small { length nodes.now < 2 ^ 32 }
+    requires few { length nodes.now ≤ most }
+    requires holds { Holds table.old.items nodes.now }
+    ensures holds { Holds table.new.items nodes.now }
+    ensures room { IfOk result (λ done. 0 < free_in table.new.items) }
 {
     if nodes.len() < table.len() / 2 {
         return Ok(());
     }
     let slots = (4 * nodes.len() + LEAST).min(2 * most as usize + 2);
     clear_for(table, slots)?;
-    put_all(table, first, nodes);
+    put_all(table, nodes);
     Ok(())
 }
 
 impl Store {
     /// A store of no place but where all runs begin, to which at most so many more may be added.
     pub(crate) fn new(alloc: Global, hash: u64, most: u32) -> Result<Store, AllocError>
-        ensures { IfOk result (λ s. (s.nodes.items ≡ []) × (s.most ≡ most)) }
+        ensures { IfOk result (λ s. (s.nodes.items ≡ []) × (s.most ≡ most) × (s.first ≡ hash)) }
     {
-        let mut table = vec![in alloc; NOBODY; LEAST]?;
-        put(&mut table, hash, 0);
+        let table = vec![in alloc; NOBODY; LEAST]?;
         Ok(Store {
             nodes: Vec::new(alloc),
             most,
@@ -78,9 +89,9 @@ impl Store {
         requires { length self.old.nodes.items < self.old.most }
         ensures added { IfOk result (λ done. self.new.nodes.items ≡ self.old.nodes.items ++ node ∷ []) }
         ensures left { OnErr result (self.new.nodes.items ≡ self.old.nodes.items) }
-        ensures same { self.new.most ≡ self.old.most }
+        ensures same { (self.new.most ≡ self.old.most) × (self.new.first ≡ self.old.first) }
     {
-        make_room(&mut self.table, self.first, &self.nodes, self.most)?;
+        make_room(&mut self.table, &self.nodes, self.most)?;
         let place = self.nodes.len() as u32 + 1;
         self.nodes.push(node)?;
         put(&mut self.table, node.hash, place);
@@ -89,7 +100,7 @@ impl Store {
 
     /// Whether there is a place of a number, and it has this hash. Others may have the same.
     fn has_hash(&self, place: usize, hash: u64) -> bool
-        ensures { result ≡ true → place ≤ length self.now.nodes.items }
+        ensures { IsTrue result ↔ HasHash self.now.first self.now.nodes.items place hash }
     {
         if place == 0 {
             self.first == hash
@@ -98,7 +109,7 @@ impl Store {
         }
     }
 
-    /// The number of the place where a walker stands, of this hash. None where it was not found yet. It may be none where it was.
+    /// The number of the place where a walker stands, of this hash. None where it was not found yet. The error is want of memory.
     pub(crate) fn find<W: Space + Drop>(
         &self,
         alloc: Global,
@@ -108,9 +119,14 @@ impl Store {
         hash: u64,
     ) -> Result<Option<u32>, AllocError>
         requires near { AreNear W.place W.room W.origin W.after (W.origin other.old) self.now.nodes.items cache.now }
+        requires hashed { (hash ≡ W.hashed (W.place walker.now)) × AreHashed W.after W.hashed (W.origin other.old) self.now.first self.now.nodes.items }
         requires origins { W.origin other.old ≡ W.origin walker.now }
-        ensures { IfOk result (λ n. (W.origin other.new ≡ W.origin other.old) × IfSome n (λ i. IsAt W.after (W.origin other.old) self.now.nodes.items i (W.place walker.now))) }
+        ensures { IfOk result (λ n. (W.origin other.new ≡ W.origin other.old)
+            × IsKnownAs W.after (W.origin other.old) self.now.nodes.items (W.place walker.now) n) }
     {
+        if self.is_at(alloc, walker, other, cache, hash, 0)? {
+            return Ok(Some(0));
+        }
         let slots = self.table.len();
         for turn in 0..slots {
             let number = self.table[slot(hash, turn, slots)];
@@ -124,8 +140,7 @@ impl Store {
         Ok(None)
     }
 
-    /// Whether `walker` stands at the place of a number, of this hash. It may say no where it does. The other walker goes there to compare.
-    /// The error is want of memory.
+    /// Whether `walker` stands at the place of a number, of this hash. The other walker goes there to compare. The error is want of memory.
     fn is_at<W: Space + Drop>(
         &self,
         alloc: Global,
@@ -136,8 +151,10 @@ impl Store {
         number: usize,
     ) -> Result<bool, AllocError>
         requires near { AreNear W.place W.room W.origin W.after (W.origin other.old) self.now.nodes.items cache.now }
+        requires hashed { (hash ≡ W.hashed (W.place walker.now)) × AreHashed W.after W.hashed (W.origin other.old) self.now.first self.now.nodes.items }
         requires origins { W.origin other.old ≡ W.origin walker.now }
-        ensures { IfOk result (λ k. (W.origin other.new ≡ W.origin other.old) × (k ≡ true → IsAt W.after (W.origin other.old) self.now.nodes.items number (W.place walker.now))) }
+        ensures { IfOk result (λ k. (W.origin other.new ≡ W.origin other.old)
+            × (IsTrue k ↔ IsAt W.after (W.origin other.old) self.now.nodes.items number (W.place walker.now))) }
     {
         if !self.has_hash(number, hash) {
             return Ok(false);

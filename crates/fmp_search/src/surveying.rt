@@ -51,7 +51,7 @@ pub(crate) fn go_through<W: Space + Drop, P: Progress>(
 ) -> Result<Survey, AllocError>
     requires origins { (W.origin base.old ≡ W.origin walker.old) × (W.origin other.old ≡ W.origin walker.old) × (W.origin trunk.old ≡ W.origin walker.old) }
     requires turns { turns < 2 ^ 31 }
-    ensures surveys { IfOk result (Surveys W.after W.passes W.wanted (W.origin walker.old) turns most (P.over progress.new) kept count) }
+    ensures surveys { IfOk result (Surveys W.after W.passes W.tells W.wanted (W.origin walker.old) turns most (P.over progress.new) kept count) }
     ensures origin { IfOk result (λ s. W.origin walker.new ≡ W.origin walker.old) }
 {
     trunk.restart()?;

@@ -10,7 +10,8 @@ use Rattle.fmp_rules.specs.World.{World}
 use Rattle.fmp_rules.specs.Step.{step}
 use Rattle.fmp_kernel_order.specs.Queues.{Queues, listed}
 use Rattle.fmp_smp_histories.specs.Scripted.{asked_at}
-use Rattle.fmp_search.specs.Runs.{Goes}
+use Rattle.fmp_search.specs.declared.space.Noted.{Noted}
+use Rattle.fmp_search.specs.Runs.{Goes, Watches}
 use Rattle.fmp_search_pattern.specs.Questions.{allows}
 use Rattle.fmp_search_pattern.specs.Sights.{Sight}
 use Rattle.fmp_search_kernel.specs.Walked.{Walked}
@@ -46,6 +47,19 @@ module _ (w w' : Place) (s : ℕ) (e : Event) (is : event_of w s ≡ Some e) (th
 pub not_gone : (w w' : Place) (s : ℕ) → event_of w s ≡ None → Goes (after w s) false w'
 unfolding after
 not_gone w w' s is = rw is refl
+
+-- what is told of a step by whether it was made
+pub watches_gone : (o : Option Place) (is : Noted) (made : Bool) (w : Place) → Goes o made w → made ≡ false → Watches o is None w
+watches_gone None is made w goes not = refl
+watches_gone (Some x) is made w goes not = cc
+
+pub watches_made : (o : Option Place) (is told : Noted) (made : Bool) (w : Place) → Goes o made w → made ≡ true → told ≡ is → Watches o is (Some told) w
+watches_made None is told made w goes so same = cc
+watches_made (Some x) is told made w goes so same = (ap Some same, goes.1)
+
+pub not_watched : (w w' : Place) (s : ℕ) (is : Noted) → event_of w s ≡ None → Watches (after w s) is None w'
+unfolding after
+not_watched w w' s is none = rw none refl
 
 -- where no event may be marked so, no step leads anywhere that marks its event so
 pub none_goes : (w : Place) (s : ℕ) → ((sight : Sight) → allows w.question w.seen (is_marked s) sight ≡ false) → after w s ≡ None

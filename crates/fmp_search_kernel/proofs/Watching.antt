@@ -1,11 +1,12 @@
 -- What one knows who watches for what stays for ever.
 use Rattle.std.proofs.Common.{◌≡◌, ◌∙◌, ℕ, Bool, true, false, cond, List, [], map, Option, Some, None, refl, ap, sym, subst}
-use Rattle.std.specs.Prelude.{is_some, option_map}
+use Rattle.std.specs.Prelude.{option_map}
 use Rattle.fmp_codes.specs.declared.records.Event.{Event}
 use Rattle.fmp_codes.specs.declared.records.Record.{Record}
 use Rattle.fmp_rules.specs.Step.{step}
 use Rattle.fmp_kernel_order.specs.Queues.{listed}
-use Rattle.fmp_search.specs.Runs.{Goes, Watches}
+use Rattle.fmp_search.specs.declared.space.Noted.{Noted}
+use Rattle.fmp_search.specs.Runs.{Watches}
 use Rattle.fmp_search_pattern.specs.Questions.{allows}
 use Rattle.fmp_search_pattern.specs.Sights.{Sight}
 use Rattle.fmp_search_pattern.specs.Lasting.{Lasting, is_so}
@@ -52,26 +53,28 @@ module _ (w : Place) (none : w.question ≡ []) (s : ℕ) where
       ap (next_place w (is_marked s)) is ∙ ap (λ b. allowed w b did) mark ∙ ap (λ b. cond b (Some (went w false did)) None) free
 
   -- what was told of the event is so of the step
-  pub watches_so : (w' : Place) (e : Event) (lasting : List Lasting) (n : ℕ) (r : Record) → is_marked s ≡ false → event_of w s ≡ Some e →
-      w' ≡ went w false (step listed w.machine e) → r ≡ (step listed w.machine e).1 → n ≡ bits_of (map (λ l. is_so l (sight_at w' r)) lasting) →
-      Watches (after w s) (bits_of (map (λ l. step_test (is_so l) w s) lasting)) (Some n) w'
-  watches_so w' e lasting n r mark is there report bits =
+  pub watches_so : (w' : Place) (e : Event) (lasting : List Lasting) (n number told : ℕ) (r : Record) → is_marked s ≡ false → event_of w s ≡ Some e →
+      w' ≡ went w false (step listed w.machine e) → r ≡ (step listed w.machine e).1 → n ≡ bits_of (map (λ l. is_so l (sight_at w' r)) lasting) → told ≡ number →
+      Watches (after w s) (record { passes = bits_of (map (λ l. step_test (is_so l) w s) lasting); number = number }) (Some (record { passes = n; number = told })) w'
+  watches_so w' e lasting n number told r mark is there report bits numbered =
       let did = step listed w.machine e in
       let same : n ≡ bits_of (map (λ l. step_test (is_so l) w s) lasting) =
       bits
       ∙ ap (λ (x : Place). bits_of (map (λ l. is_so l (sight_at x r)) lasting)) there
       ∙ ap (λ (x : Record). bits_of (map (λ l. is_so l (sight_at (went w false did) x)) lasting)) report
       ∙ sym (ap (λ o. bits_of (map (λ l. test_there (is_so l) w o) lasting)) is) in
-      subst (λ o. Watches o (bits_of (map (λ l. step_test (is_so l) w s) lasting)) (Some n) w') (sym (unmarked e mark is)) (ap Some same, there)
+      let noted : Noted = record { passes = n; number = told } in
+      let all : noted ≡ record { passes = bits_of (map (λ l. step_test (is_so l) w s) lasting); number = number } =
+      ap (λ (k : ℕ). record { passes = k; number = told }) same ∙ ap (λ (k : ℕ). record { passes = bits_of (map (λ l. step_test (is_so l) w s) lasting); number = k }) numbered in
+      subst (λ o. Watches o (record { passes = bits_of (map (λ l. step_test (is_so l) w s) lasting); number = number }) (Some noted) w') (sym (unmarked e mark is)) (ap Some all, there)
 
-  pub watches_none : (w' : Place) (p : ℕ) → after w s ≡ None → Watches (after w s) p None w'
+  pub watches_none : (w' : Place) (p : Noted) → after w s ≡ None → Watches (after w s) p None w'
   watches_none w' p is = subst (λ o. Watches o p None w') (sym is) refl
 
 -- ---- with what is asked
 
 module _ (lasting : List Lasting) where
-
-  pub watches_watched : (w w' : Place) (s p : ℕ) (report : Option ℕ) → Watches (after w s) p report w' → Watches (watched_after (watched lasting w) s) p report (watched lasting w')
+  pub watches_watched : (w w' : Place) (s : ℕ) (p : Noted) (report : Option Noted) → Watches (after w s) p report w' → Watches (watched_after (watched lasting w) s) p report (watched lasting w')
   watches_watched w w' s p report = go (after w s)
     where
       go : (o : Option Place) → Watches o p report w' → Watches (option_map (watched lasting) o) p report (watched lasting w')

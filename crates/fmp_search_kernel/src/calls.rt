@@ -1,5 +1,5 @@
 //! The numbers of the calls of scripts.
-ghost use Rattle.std.specs.Prelude.{◌≡◌};
+ghost use Rattle.std.specs.Prelude.{◌≡◌, Some};
 ghost use Rattle.fmp_search_orders.specs.Made as made;
 
 use crate::walker::Walker;
@@ -42,12 +42,12 @@ impl<'a> Walker<'a> {
         }
     }
 
-    /// The number of the call that a step makes here.
-    pub(crate) fn number_at(&self, step: u8) -> u32
-        ensures { result ≡ made.number_at self.now.place step }
+    /// The number of the call that an event makes here.
+    pub(crate) fn number_of(&self, event: Event) -> u32
+        ensures { result ≡ made.number_reported self.now.place (Some event) }
     {
-        match self.event_of(step) {
-            Some(Event::Call(p, _)) => self.number_by(p, self.kernel.runner(p)),
+        match event {
+            Event::Call(p, _) => self.number_by(p, self.kernel.runner(p)),
             _ => NUMBERS,
         }
     }

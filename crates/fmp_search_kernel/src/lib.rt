@@ -2,7 +2,6 @@
 #![tactic(auto)]
 
 mod begun;
-mod caller;
 mod calls;
 mod sights;
 mod space;
@@ -11,7 +10,6 @@ mod walker;
 mod watcher;
 
 pub use begun::choice_of;
-pub use caller::Caller;
 pub use calls::{NUMBERS, POSITIONS, number_of_call};
 pub use sights::{Seen, has_to_look, is_over, is_so_at_boot, put_line};
 pub use ticks::advance_taken;

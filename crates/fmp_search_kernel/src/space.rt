@@ -1,18 +1,24 @@
 //! The walker as one who goes through a graph: its places are those of all orders.
-ghost use Rattle.std.specs.Prelude.{◌≡◌, ◌<◌, ◌+◌, ℕ, IfOk};
+ghost use Rattle.std.specs.Prelude.{◌≡◌, ◌≤◌, ◌<◌, ◌+◌, ℕ, Some, IfOk};
 ghost use Rattle.std.specs.Int.{bit_at};
+ghost use Rattle.fmp_codes.specs.Records.{processor_of};
 ghost use Rattle.fmp_search.specs.Runs.{Closes, Goes};
 ghost use Rattle.fmp_search_orders.specs.Laws.{is_seen};
+ghost use Rattle.fmp_search_orders.specs.Made.{number_at};
 ghost use Rattle.fmp_search_orders.specs.Places as places;
+ghost use Rattle.fmp_search_kernel.specs.Hashed.{hashed, with_first};
 ghost use Rattle.fmp_search_kernel.specs.Walked.{origin_of, ClosesMark};
 
 use crate::walker::{MOST, Walker, are_equal, is_marked};
+use fmp_codes::Event;
 use fmp_kernel_parts::Digest;
-use fmp_search::Space;
+use fmp_search::{Noted, Space};
 use std::alloc::AllocError;
 
 /// Adds the first of these numbers, so many, to what tells places apart.
-fn add_numbers(digest: &mut Digest, numbers: &[u32], count: usize) {
+fn add_numbers(digest: &mut Digest, numbers: &[u32], count: usize)
+    ensures { digest.new ≡ with_first count numbers.now digest.old }
+{
     for number in numbers.get(..count).unwrap_or(numbers) {
         digest.add(u64::from(*number));
     }
@@ -40,17 +46,16 @@ impl<'a> Walker<'a> {
         Ok(())
     }
 
-    /// Makes the step of a number as `go` does. After one without a mark it looks, too, whether the event may have one, and closes the step
-    /// that gives it one where it may not.
-    fn go_closing(&mut self, step: u8, closed: &mut u64) -> Result<bool, AllocError>
-        requires { 0 < self.old.left }
+    /// Makes the event of a step happen as `go` does. After one without a mark it looks, too, whether the event may have one, and closes the step that gives
+    /// it one where it may not.
+    fn go_closing(&mut self, event: Event, step: u8, closed: &mut u64) -> Result<bool, AllocError>
+        requires room { 0 < self.old.left }
+        requires is { places.event_of self.old.place step ≡ Some event }
+        requires on { (processor_of event).number ≤ self.old.place.config.processors }
         ensures goes { IfOk result (λ made. Goes (places.after self.old.place step) made self.new.place) }
         ensures closed { Closes places.after self.old.place closed.old closed.new }
         ensures origin { origin_of self.new.place ≡ origin_of self.old.place }
     {
-        let Some(event) = self.event_of(step) else {
-            return Ok(false);
-        };
         let seen = self.seen;
         let marked = is_marked(step);
         self.play(event, marked);
@@ -71,6 +76,10 @@ impl<'a> Space for Walker<'a> {
     ghost wanted = { is_seen };
 
     ghost passes = { λ w s. 0 };
+
+    ghost tells = { number_at };
+
+    ghost hashed = { hashed };
 
     ghost room = { λ w. w.left };
 
@@ -109,9 +118,13 @@ impl<'a> Space for Walker<'a> {
         self.is_allowed(seen, marked)
     }
 
-    fn watch(&mut self, step: u8, closed: &mut u64) -> Result<Option<u64>, AllocError> {
-        if self.go_closing(step, closed)? {
-            Ok(Some(0))
+    fn watch(&mut self, step: u8, closed: &mut u64) -> Result<Option<Noted>, AllocError> {
+        let Some(event) = self.event_of(step) else {
+            return Ok(None);
+        };
+        let number = self.number_of(event);
+        if self.go_closing(event, step, closed)? {
+            Ok(Some(Noted { passes: 0, number }))
         } else {
             Ok(None)
         }
@@ -154,6 +167,7 @@ impl<'a> Space for Walker<'a> {
             && self.kernel.is_same(&other.kernel)
     }
 
+    #[tactic(auto, unfolding(crate::specs::Hashed::hashed))]
     fn hash(&self) -> u64 {
         let tasks = self.config.tasks().len();
         let processors = usize::from(self.config.processors());

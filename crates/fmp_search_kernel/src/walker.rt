@@ -1,5 +1,5 @@
 //! One who stands at a place of all orders, and makes steps.
-ghost use Rattle.std.specs.Prelude.{◌≡◌, ◌≤◌, ◌<◌, ◌+◌, ◌^◌, ℕ, List, [], ◌∷◌, true, false, Some, is_some, length, map, IfOk, IfSome, IfNone, IsTrue, if◌then◌else◌};
+ghost use Rattle.std.specs.Prelude.{◌≡◌, ◌≤◌, ◌<◌, ◌+◌, ◌^◌, ℕ, List, [], ◌∷◌, true, false, Some, is_some, length, map, IfOk, IfSome, IfNone, IsTrue, ◌↔◌, if◌then◌else◌};
 ghost use Rattle.fmp_codes.specs.Records.{processor_of};
 ghost use Rattle.fmp_rules.specs.Boot.{boot};
 ghost use Rattle.fmp_rules.specs.Step as machine;
@@ -7,6 +7,7 @@ ghost use Rattle.fmp_kernel_order.specs.Queues.{listed, no_queues};
 ghost use Rattle.fmp_search_orders.specs.Places as places;
 ghost use Rattle.fmp_search.specs.Runs.{Watches};
 ghost use Rattle.fmp_search_orders.specs.Lasting.{step_test};
+ghost use Rattle.fmp_search_orders.specs.Made.{number_at};
 ghost use Rattle.fmp_search_orders.specs.Watched.{bits_of};
 ghost use Rattle.fmp_search_pattern.specs.Lasting.{is_so};
 ghost use Rattle.fmp_search_pattern.specs.Questions.{allows};
@@ -18,6 +19,7 @@ use crate::ticks::{advance_idled, advance_taken, keeps_pace, lower_taken, may_ti
 use fmp_codes::{Answer, Event, Proc, Record, Runner};
 use fmp_kernel::Kernel;
 use fmp_rules::Config;
+use fmp_search::Noted;
 use fmp_search_orders::Rules;
 use fmp_search_pattern::{Moment, Question, allows, some_read, step_reads};
 use fmp_smp_histories::{advance_handler, advance_task, asked_at};
@@ -95,7 +97,7 @@ fn counted(seen: u32, marked: bool) -> u32
 /// Whether two lists of positions are the same. All are looked at: a loop that does not stop at the first difference is compiled to one over
 /// many at a time.
 pub(crate) fn are_equal(one: &[u32; 64], other: &[u32; 64]) -> bool
-    ensures { IsTrue result → one.now ≡ other.now }
+    ensures { IsTrue result ↔ (one.now ≡ other.now) }
 {
     let mut same = true;
     for at in 0..64usize {
@@ -353,29 +355,32 @@ impl<'a> Walker<'a> {
         &self.made
     }
 
-    /// Makes the step of a number where no question is asked, and tells which of these are so of its event: bit k for the one of index k. None where it
-    /// cannot be made. The error is want of memory for the lines of the event.
+    /// Makes the step of a number where no question is asked, and tells which of these are so of its event, bit k for the one of index k, and the number of
+    /// the call that it makes. None where it cannot be made. The error is want of memory for the lines of the event.
     pub(crate) fn watch_for(
         &mut self,
         step: u8,
         lasting: &[Moment],
-    ) -> Result<Option<u64>, AllocError>
+    ) -> Result<Option<Noted>, AllocError>
         requires room { 0 < self.old.left }
         requires none { self.old.place.question ≡ [] }
         requires few { length lasting.now ≤ 64 }
         ensures goes { IfOk result (λ report. Watches (places.after self.old.place step)
-            (bits_of (map (λ l. step_test (is_so l) self.old.place step) lasting.now)) report self.new.place) }
+            (record { passes = bits_of (map (λ l. step_test (is_so l) self.old.place step) lasting.now); number = number_at self.old.place step })
+            report self.new.place) }
         ensures origin { origin_of self.new.place ≡ origin_of self.old.place }
         ensures question { self.new.place.question ≡ self.old.place.question }
     {
         if is_marked(step) {
             return Ok(None);
         }
-        let Some(_event) = self.follow(step) else {
+        let Some(event) = self.event_of(step) else {
             return Ok(None);
         };
-        let bits = self.bits(lasting)?;
-        Ok(Some(bits))
+        let number = self.number_of(event);
+        self.play(event, false);
+        let passes = self.bits(lasting)?;
+        Ok(Some(Noted { passes, number }))
     }
 
     /// Which of these are so of the last event, likewise. The place stays as it is.

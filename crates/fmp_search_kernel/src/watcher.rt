@@ -1,13 +1,15 @@
 //! One who goes through all orders and tells of each event what is so of it of what is asked.
 ghost use Rattle.std.specs.Prelude.{◌≡◌, ◌≤◌, ◌<◌, [], IfOk, IfSome, false, length, map};
 ghost use Rattle.fmp_search_orders.specs.Lasting.{step_test};
+ghost use Rattle.fmp_search_orders.specs.Made.{watched_number};
 ghost use Rattle.fmp_search_orders.specs.Places as places;
 ghost use Rattle.fmp_search_orders.specs.Watched as watched;
 ghost use Rattle.fmp_search_pattern.specs.Lasting.{is_so};
+ghost use Rattle.fmp_search_kernel.specs.Hashed.{hashed};
 
 use crate::walker::{Walker, is_marked};
 use fmp_rules::Config;
-use fmp_search::Space;
+use fmp_search::{Noted, Space};
 use fmp_search_orders::Rules;
 use fmp_search_pattern::{Moment, Question};
 use fmp_text_scripts::Scripts;
@@ -66,6 +68,10 @@ impl<'a> Space for Watcher<'a> {
 
     ghost passes = { watched.watched_passes };
 
+    ghost tells = { watched_number };
+
+    ghost hashed = { λ w. hashed w.place };
+
     ghost room = { λ w. w.left };
 
     fn another(&self) -> Result<Self, AllocError> {
@@ -87,7 +93,7 @@ impl<'a> Space for Watcher<'a> {
         self.walker.go(step)
     }
 
-    fn watch(&mut self, step: u8, _closed: &mut u64) -> Result<Option<u64>, AllocError> {
+    fn watch(&mut self, step: u8, _closed: &mut u64) -> Result<Option<Noted>, AllocError> {
         self.walker.watch_for(step, self.lasting)
     }
 

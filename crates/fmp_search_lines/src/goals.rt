@@ -60,7 +60,7 @@ fn explored<W: Space + Drop>(
     requires turns { turns < 2 ^ 31 }
     ensures { IfOk result (λ r. Says W.after W.wanted (W.origin walker) turns most r.0) }
 {
-    let (answer, _extent) = explore(
+    let (answer, _extent, _met) = explore(
         alloc,
         &mut walker,
         &mut base,
@@ -69,6 +69,7 @@ fn explored<W: Space + Drop>(
         &mut Quiet,
         turns,
         most,
+        0,
     )?;
     Ok((answer, walker))
 }

@@ -1,5 +1,5 @@
 //! What plays the events of lines.
-ghost use Rattle.std.specs.Prelude.{◌≡◌, ◌≤◌, ◌<◌, ◌+◌, ◌^◌, ℕ, true, Option, Some, IfOk, is_some};
+ghost use Rattle.std.specs.Prelude.{◌≡◌, ◌↔◌, ◌≤◌, ◌<◌, ◌+◌, ◌^◌, ℕ, true, IsTrue, Option, Some, IfOk, is_some};
 ghost use Rattle.fmp_search.specs.Runs.{Goes};
 
 use std::alloc::AllocError;
@@ -15,6 +15,9 @@ pub trait Player {
 
     // The state after the event of a line, if the line is right there.
     ghost plays: { State → ℕ → Option State };
+
+    // A number of each state.
+    ghost hashed: { State → ℕ };
 
     // For how many lines there is room, before it has to begin anew.
     ghost room: { Self → ℕ };
@@ -50,11 +53,12 @@ pub trait Player {
         ensures room { IfOk result (λ done. room self.new ≡ room other.now) }
         ensures begins { begins self.new ≡ begins self.old };
 
-    /// Whether another that begins alike is in the same state. It may say no of two that are.
+    /// Whether another that begins alike is in the same state.
     fn is_same(&self, other: &Self) -> bool
         requires { begins other.now ≡ begins self.now }
-        ensures { result ≡ true → state other.now ≡ state self.now };
+        ensures { IsTrue result ↔ (state other.now ≡ state self.now) };
 
-    /// A number that is the same in the same state.
-    fn hash(&self) -> u64;
+    /// The number of its state. No answer depends on it.
+    fn hash(&self) -> u64
+        ensures { result ≡ hashed (state self.now) };
 }

@@ -1,12 +1,14 @@
 //! One who takes lines one after the other, as a walker of a graph.
 ghost use Rattle.std.specs.Prelude.{◌≡◌, ◌≤◌, ◌<◌, ℕ, [], Option, None, true};
+ghost use Rattle.std.specs.List.{fold};
+ghost use Rattle.fmp_kernel_parts.specs.Digests.{added};
 ghost use Rattle.fmp_search.specs.Runs.{Goes};
 ghost use Rattle.fmp_search_lines.specs.Held as spec;
 
 use crate::player::Player;
 use crate::taken::Taken;
 use fmp_kernel_parts::Digest;
-use fmp_search::Space;
+use fmp_search::{Noted, Space};
 use std::alloc::AllocError;
 
 /// Lines with the last that may come before each, whether each has to be taken, and up to which; and what was taken of them.
@@ -20,6 +22,15 @@ pub struct Taker<'a, P: Player + Drop> {
     /// The greatest goal that this one reached, or one who stood where it went. No answer depends on it.
     pub reached: u32,
     pub player: P,
+}
+
+/// Adds the numbers of these lines to what tells places apart.
+fn add_lines(digest: &mut Digest, lines: &[u32])
+    ensures { digest.new ≡ fold added digest.old lines.now }
+{
+    for line in lines {
+        digest.add(u64::from(*line));
+    }
 }
 
 impl<'a, P: Player + Drop> Taker<'a, P> {
@@ -45,6 +56,10 @@ impl<'a, P: Player + Drop> Space for Taker<'a, P> {
     ghost wanted = { spec.is_reached };
 
     ghost passes = { λ q s. 0 };
+
+    ghost tells = { λ q s. 0 };
+
+    ghost hashed = { spec.hashed P.hashed };
 
     ghost room = { λ w. P.room w.player };
 
@@ -83,9 +98,12 @@ impl<'a, P: Player + Drop> Space for Taker<'a, P> {
         Ok(true)
     }
 
-    fn watch(&mut self, step: u8, _closed: &mut u64) -> Result<Option<u64>, AllocError> {
+    fn watch(&mut self, step: u8, _closed: &mut u64) -> Result<Option<Noted>, AllocError> {
         if self.go(step)? {
-            Ok(Some(0))
+            Ok(Some(Noted {
+                passes: 0,
+                number: 0,
+            }))
         } else {
             Ok(None)
         }
@@ -120,13 +138,12 @@ impl<'a, P: Player + Drop> Space for Taker<'a, P> {
             && self.player.is_same(&other.player)
     }
 
+    #[tactic(auto, unfolding(crate::specs::Held::hashed))]
     fn hash(&self) -> u64 {
         let mut digest = Digest::new();
         digest.add(self.player.hash());
         digest.add(u64::from(self.taken.top));
-        for line in self.taken.pending.as_slice() {
-            digest.add(u64::from(*line));
-        }
+        add_lines(&mut digest, self.taken.pending.as_slice());
         digest.value()
     }
 }

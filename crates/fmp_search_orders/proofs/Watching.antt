@@ -47,7 +47,7 @@ module _ (lasting : List Lasting) where
 
   -- ---- runs
 
-  run_watched : (steps : List ℕ) (q : Place) → run watched_after (W q) steps ≡ option_map W (run after q steps)
+  pub run_watched : (steps : List ℕ) (q : Place) → run watched_after (W q) steps ≡ option_map W (run after q steps)
   run_watched [] q = refl
   run_watched (s ∷ steps) q = go (λ p. run_watched steps p) (after q s)
     where
@@ -59,7 +59,7 @@ module _ (lasting : List Lasting) where
   same_watched : (a b : Watched) → Some a ≡ Some b → a ≡ b
   same_watched a b is = cc
 
-  unwatched : (o : Option Place) (w : Watched) → option_map W o ≡ Some w → (p : Place) × (o ≡ Some p) × (W p ≡ w)
+  pub unwatched : (o : Option Place) (w : Watched) → option_map W o ≡ Some w → (p : Place) × (o ≡ Some p) × (W p ≡ w)
   unwatched None w is = cc
   unwatched (Some p) w is = (p, refl, same_watched (W p) w is)
 

@@ -1,5 +1,5 @@
 -- Which calls of the scripts are made in some order.
-use Rattle.std.specs.Prelude.{◌≡◌, ℕ, ◌+◌, ◌*◌, ◌<◌, nat_lt, List, [], ◌∷◌, ◌++◌, length, Option, None, Some, if◌then◌else◌}
+use Rattle.std.specs.Prelude.{◌≡◌, ℕ, ◌+◌, ◌*◌, ◌<◌, nat_lt, Bool, true, List, [], ◌∷◌, ◌++◌, length, Option, None, Some, is_none, if◌then◌else◌}
 use Rattle.fmp_codes.specs.declared.numbers.Proc.{Proc}
 use Rattle.fmp_codes.specs.declared.records.Event.{Event}
 use Rattle.fmp_codes.specs.declared.records.Event.TheVariants as event
@@ -12,9 +12,13 @@ use Rattle.fmp_smp_histories.specs.Histories.{state_after}
 use Rattle.fmp_smp_histories.specs.Positions.{function_of}
 use Rattle.fmp_smp_histories.specs.Scripted.{position_of}
 use Rattle.fmp_search.specs.Meeting.{IsReported, IsReportedWithin}
+use Rattle.fmp_search_pattern.specs.declared.question.Step.{Step}
+use Rattle.fmp_search_pattern.specs.Lasting.{Lasting}
+use Rattle.fmp_search_pattern.specs.Matching.{every}
 use Rattle.fmp_search_orders.specs.declared.rules.Rules.{Rules}
 use Rattle.fmp_search_orders.specs.Orders.{IsOrder}
 use Rattle.fmp_search_orders.specs.Places.{Place, after, event_of, origin, position_at}
+use Rattle.fmp_search_orders.specs.Watched.{Watched, watched, watched_after}
 
 -- what is told of a step that is no call of one of the first 256 positions of a script
 abbrev pub no_number : ℕ
@@ -64,9 +68,22 @@ number_reported w other = no_number
 abbrev pub number_at : Place → ℕ → ℕ
 number_at w s = number_reported w (event_of w s)
 
+-- the same where something is asked of every event from one on
+abbrev pub watched_number : Watched → ℕ → ℕ
+watched_number w s = number_at w.place s
+
+-- a question lets every event be passed by: nothing must not come before one of its moments
+abbrev pub lets_pass : List Step → Bool
+lets_pass question = every (λ (s : Step). is_none s.without) question
+
 -- what is told of the steps of runs over places is made in orders, and the other way round
-pub record MadeAnswer (c : Setup) (scripts : List Steps) (rules : Rules) : Type 0 where
-  pub made : (n : ℕ) → IsReported after number_at (origin c scripts rules []) n → IsMade c scripts rules n
-  pub report : (n : ℕ) → IsMade c scripts rules n → IsReported after number_at (origin c scripts rules []) n
-  pub made_within : (turns n : ℕ) → IsReportedWithin after number_at (origin c scripts rules []) turns n → IsMadeWithin c scripts rules turns n
-  pub report_within : (turns n : ℕ) → IsMadeWithin c scripts rules turns n → IsReportedWithin after number_at (origin c scripts rules []) turns n
+pub record MadeAnswer {P : Type 0} (after : P → ℕ → Option P) (tells : P → ℕ → ℕ) (q : P) (c : Setup) (scripts : List Steps) (rules : Rules) : Type 0 where
+  pub made : (n : ℕ) → IsReported after tells q n → IsMade c scripts rules n
+  pub report : (n : ℕ) → IsMade c scripts rules n → IsReported after tells q n
+  pub made_within : (turns n : ℕ) → IsReportedWithin after tells q turns n → IsMadeWithin c scripts rules turns n
+  pub report_within : (turns n : ℕ) → IsMadeWithin c scripts rules turns n → IsReportedWithin after tells q turns n
+
+-- so it is of places where something is asked, if every event may be passed by, and of places with what is asked of every event from one on
+pub record MadeAnswers (c : Setup) (scripts : List Steps) (rules : Rules) : Type 0 where
+  pub asked : (question : List Step) → lets_pass question ≡ true → MadeAnswer after number_at (origin c scripts rules question) c scripts rules
+  pub watched_so : (lasting : List Lasting) → MadeAnswer watched_after watched_number (watched lasting (origin c scripts rules [])) c scripts rules

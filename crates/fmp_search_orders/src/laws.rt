@@ -11,7 +11,7 @@ ghost use Rattle.fmp_search_orders.specs.Lasting.{LastingAnswer};
 ghost use Rattle.fmp_search_orders.specs.Watched.{WatchedAnswer};
 ghost use Rattle.fmp_search_pattern.specs.Lasting.{Lasting};
 ghost use Rattle.fmp_search_pattern.specs.Sights.{Sight};
-ghost use Rattle.fmp_search_orders.specs.Made.{MadeAnswer};
+ghost use Rattle.fmp_search_orders.specs.Made.{MadeAnswers};
 ghost use Rattle.fmp_search_orders.specs.Laws.{RunsAreOrders, PlacesAnswer};
 ghost use Rattle.fmp_search_orders.specs.Orders.{IsOrder};
 
@@ -49,8 +49,9 @@ pub fn watched_answer()
     ensures { (c : Setup) (scripts : List Steps) (rules : Rules) (lasting : List Lasting) → IsValid c → WatchedAnswer c scripts rules lasting }
 {}
 
-/// What calls are made by steps of runs over places is what calls are made in orders, and the same of at most so many steps and lines.
+/// What calls are made by steps of runs over places is what calls are made in orders, and the same of at most so many steps and lines: whatever is asked, if
+/// every event may be passed by.
 #[tactic(auto, using(crate::proofs::Made::made_answer))]
 pub fn made_answer()
-    ensures { (c : Setup) (scripts : List Steps) (rules : Rules) → IsValid c → MadeAnswer c scripts rules }
+    ensures { (c : Setup) (scripts : List Steps) (rules : Rules) → IsValid c → MadeAnswers c scripts rules }
 {}

@@ -1,4 +1,5 @@
 //! The kernel as one who plays lines.
+ghost use Rattle.fmp_kernel.specs.Hashed.{hashed};
 ghost use Rattle.fmp_kernel_order.specs.Queues.{listed, Queues};
 ghost use Rattle.fmp_trace_orders.specs.Standing.{begun};
 ghost use Rattle.fmp_trace_orders.specs.Playing.{Playing, plays};
@@ -16,6 +17,8 @@ impl<'a> Player for LinePlayer<'a> {
     ghost begins = { λ w. begun w.state };
 
     ghost plays = { plays listed };
+
+    ghost hashed = { λ s. hashed s.machine };
 
     ghost room = { λ w. w.left };
 

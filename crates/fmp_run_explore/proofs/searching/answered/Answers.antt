@@ -1,7 +1,10 @@
 use Rattle.std.proofs.Common.{◌∙◌, ◌-◌, IfOk, ap, subst, sym}
+use Rattle.std.specs.Prelude.{IfSome}
 use Rattle.fmp_search.specs.Answers.{Says}
 use Rattle.fmp_search.specs.Extents.{Went}
+use Rattle.fmp_search.specs.Meeting.{Meets}
 use Rattle.fmp_search_orders.specs.Laws.{is_seen}
+use Rattle.fmp_search_orders.specs.Made.{number_at}
 use Rattle.fmp_search_orders.specs.Places.{Place, after}
 use Rattle.fmp_search_kernel.specs.Walked.{origin_of}
 use Rattle.fmp_run_explore.proofs.searching.answered.Goals as goal
@@ -22,3 +25,7 @@ returns-clause-says g c =
 
 pub returns-clause-went : goal.returns-clause-went
 returns-clause-went g c = subst (λ (w : Place). IfOk c.explored.result (λ r. Went after w r.0 r.1)) (ap origin_of c.in_ok-walkers.ensures.first) c.explored.ensures.went
+
+pub returns-clause-met : goal.returns-clause-met
+returns-clause-met g c =
+    subst (λ (w : Place). IfOk c.explored.result (λ r. IfSome r.2 (Meets after number_at w c.args.bounds.turns.count 65536))) (ap origin_of c.in_ok-walkers.ensures.first) c.explored.ensures.met

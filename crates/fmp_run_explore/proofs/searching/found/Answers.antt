@@ -1,9 +1,11 @@
-use Rattle.std.proofs.Common.{arith, ◌≡◌, ◌∙◌, ◌-◌, ◌<◌, ◌^◌, ℕ, true, List, length, ap, subst, sym}
+use Rattle.std.proofs.Common.{arith, ◌≡◌, ◌∙◌, ◌-◌, ◌<◌, ◌^◌, ℕ, true, None, Option, List, length, ap, subst, sym}
 use Rattle.std.specs.Prelude.{is_some}
 use Rattle.fmp_names.specs.Names.{AreValid}
 use Rattle.fmp_trace.specs.Lines.{lines_from}
+use Rattle.fmp_search.specs.declared.meeting.Met.{Met}
 use Rattle.fmp_search.specs.Answers.{Says}
 use Rattle.fmp_search.specs.Extents.{Went}
+use Rattle.fmp_search.specs.Meeting.{IsMetBeside, IsOfAll}
 use Rattle.fmp_search.specs.Runs.{run}
 use Rattle.fmp_search_orders.specs.Laws.{is_seen}
 use Rattle.fmp_search_orders.specs.Places.{after, origin, records}
@@ -45,7 +47,7 @@ returns-in_ok-not_within-in-NotWithin-clause-finds g c =
     let begin = origin c.args.orders.now.config.now c.args.orders.now.scripts.now c.args.orders.now.rules c.args.question.now in
     let law = c.places_answer.ensures c.args.orders.now.config.now c.args.orders.now.scripts.now c.args.orders.now.rules c.args.question.now c.names-names.ensures.valid in
     let says = subst (λ a. Says after is_seen begin c.args.bounds.turns.count (c.args.bounds.places.count - 1) a) c.in-NotWithin.is c.in_ok-answer.ensures.says in
-    (says.0, law.within c.in-NotWithin.turns says.1, c.in_ok-not_within-in-NotWithin.ensures, says.2)
+    (law.within c.in-NotWithin.turns says.0, c.in_ok-not_within-in-NotWithin.ensures, says.1)
 
 pub returns-in_ok-not_within-in-Wanting-clause-finds : goal.returns-in_ok-not_within-in-Wanting-clause-finds
 returns-in_ok-not_within-in-Wanting-clause-finds g c =
@@ -85,3 +87,19 @@ pub returns-in_ok-not_within-in-Ended-clause-went : goal.returns-in_ok-not_withi
 returns-in_ok-not_within-in-Ended-clause-went g c =
     let begin = origin c.args.orders.now.config.now c.args.orders.now.scripts.now c.args.orders.now.rules c.args.question.now in
     subst (λ a. Went after begin a c.in_ok-answer.extent) c.in-Ended.is c.in_ok-answer.ensures.went
+
+pub returns-in_ok-never-in-Never-clause-tells : goal.returns-in_ok-never-in-Never-clause-tells
+returns-in_ok-never-in-Never-clause-tells g c = record {
+  says = c.calls_met-met.ensures.says;
+  beside = λ free.
+      let beside = subst (λ a. IsMetBeside c.args.bounds.turns.count a c.in_ok-answer.told) c.in-Never.is c.in_ok-answer.ensures.beside in
+      subst (λ (m : Option Met). IsOfAll m) (sym (c.calls_met-met.ensures.same free)) beside;
+}
+
+pub returns-in_ok-not_within-in-NotWithin-clause-tells : goal.returns-in_ok-not_within-in-NotWithin-clause-tells
+returns-in_ok-not_within-in-NotWithin-clause-tells g c = record {
+  says = c.calls_met-met.ensures.says;
+  beside = λ free.
+      let beside = subst (λ a. IsMetBeside c.args.bounds.turns.count a c.in_ok-answer.told) c.in-NotWithin.is c.in_ok-answer.ensures.beside in
+      subst (λ (m : Option Met). m ≡ None → c.in-NotWithin.turns < c.args.bounds.turns.count) (sym (c.calls_met-met.ensures.same free)) beside;
+}

@@ -3,7 +3,7 @@ use Rattle.fmp_names.specs.Names.{AreValid}
 use Rattle.fmp_trace.specs.Lines.{lines_from}
 use Rattle.fmp_search.specs.declared.guided.Choice.{Choice}
 use Rattle.fmp_search.specs.Guides.{SaysAlong, NoneEverAlong, NoneWithinAlong, IsShortestAlong, guide, guided_after}
-use Rattle.fmp_search.specs.Answers.{UsedUp}
+use Rattle.fmp_search.specs.Answers.{StopsAt}
 use Rattle.fmp_search_orders.specs.Laws.{is_seen}
 use Rattle.fmp_search_orders.specs.Places.{after, origin, records}
 use Rattle.fmp_run_explore_from.proofs.Found.{shown_from}
@@ -33,10 +33,9 @@ returns-in_ok-not_within-in-NotWithin-clause-finds g c = λ begun order chosen.
     let law = c.begun_answer.ensures c.args.orders.now.config.now c.args.orders.now.scripts.now c.args.orders.now.rules c.args.question.now begun c.names-names.ensures.valid order in
     let says = subst (λ a. SaysAlong after is_seen begin c.args.choices.now c.args.bounds.turns.count (c.args.bounds.places.count - 1) a) c.in-NotWithin.is c.in_ok-steps.ensures.says in
     let n = c.in-NotWithin.turns in (
-      says.0,
-      law.within n (subst (λ (cs : List Choice). NoneWithinAlong after is_seen begin cs n) chosen says.1),
+      law.within n (subst (λ (cs : List Choice). NoneWithinAlong after is_seen begin cs n) chosen says.0),
       c.in_ok-not_within-in-NotWithin.ensures,
-      λ less. subst (λ (cs : List Choice). UsedUp (guided_after after) (guide cs begin) n (c.args.bounds.places.count - 1)) chosen (says.2 less),
+      subst (λ (cs : List Choice). StopsAt (guided_after after) (guide cs begin) c.args.bounds.turns.count (c.args.bounds.places.count - 1) n) chosen says.1,
     )
 
 pub returns-in_ok-not_within-in-Wanting-clause-finds : goal.returns-in_ok-not_within-in-Wanting-clause-finds

@@ -1,4 +1,4 @@
-use Rattle.std.proofs.Common.{◌≡◌, ◌∙◌, true, List, ap, subst, sym}
+use Rattle.std.proofs.Common.{◌≡◌, ◌∙◌, ◌-◌, true, List, ap, subst, sym}
 use Rattle.std.specs.Prelude.{is_some}
 use Rattle.fmp_names.specs.Names.{AreValid}
 use Rattle.fmp_trace.specs.Lines.{lines_from}
@@ -24,6 +24,7 @@ returns-clause-finds c =
     let text = c.in_ok-text.text.items in
     let law = c.watched_answer.ensures config scripts rules lasting c.names.ensures.valid in
     let is = c.in_ok-text.ensures ∙ ap (λ (q : List Step). lines_from config.names 1 (records (origin config scripts rules q) steps)) c.requires.none in
-    let so = staying config scripts rules lasting c.args.test steps c.requires.is_one c.requires.ends text c.names.ensures.valid (subst AreValid c.names.ensures.value c.validity.ensures) c.requires.in_bits law
-    c.if-steps-gt-MOST_LINES.false is in
-    report config scripts rules lasting c.args.test steps c.requires.is_one c.requires.ends c.args.turns text c.args.shortest c.staying_of-staying.result so c.requires.least c.staying_of-staying.ensures
+    let turns = c.args._bounds.turns.count in
+    let so = staying config scripts rules lasting c.args.test steps c.requires.is_one c.requires.ends turns text c.names.ensures.valid (subst AreValid c.names.ensures.value c.validity.ensures) c.requires.in_bits law
+    c.requires.few c.args._bounds.turns.few is in
+    report config scripts rules lasting c.args.test steps c.requires.is_one c.requires.ends turns (c.args._bounds.places.count - 1) text c.args.shortest c.staying_of-staying.result so c.requires.least c.staying_of-staying.ensures

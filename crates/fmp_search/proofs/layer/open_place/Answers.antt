@@ -15,7 +15,7 @@ enter-requires-clause-near g c =
     let q = W.origin c.args.walker.now in
     let nodes = c.args.store.now.nodes.items in
     let cache = c.args.cache.now.items in
-    let near = near_of W.place W.room W.origin W.after W.wanted q c.args.front.depth c.args.front.end nodes cache c.args.at 0 c.args.front.shallow c.requires.opening.front in
+    let near = near_of W.place W.room W.origin W.after W.hashed c.args.store.now.first W.wanted q c.args.front.depth c.args.front.end nodes cache c.args.at 0 c.args.front.shallow c.requires.opening.front in
     subst (λ (ns : List Node). AreNear W.place W.room W.origin W.after (W.origin c.args.base.now) ns cache) (sym c.deref.ensures.value)
     (subst (λ x. AreNear W.place W.room W.origin W.after x nodes cache) (sym c.requires.origins.0) near)
 
@@ -30,9 +30,9 @@ loop-step-init g c =
         front = record {
           explored = front.explored;
           tried = front.tried;
-          before = front.before;
           all = subst (λ (ns : List Node). IsCache W.place W.room W.origin W.after q ns cache) c.deref.ensures.value
               (subst (λ x. IsCache W.place W.room W.origin W.after x c.deref.result.now cache) c.requires.origins.0 c.in_ok-enter.ensures.1);
+          hashes = front.hashes;
         };
         charting = c.requires.opening.charting;
       };
@@ -55,9 +55,9 @@ try_step-requires g c =
     let base = c.enter.new.walker in
     let stood = subst (λ (ns : List Node). Stands W.place W.room W.origin W.after q ns at base) c.deref.ensures.value
     (subst (λ x. Stands W.place W.room W.origin W.after x c.deref.result.now at base) c.requires.origins.0 c.in_ok-enter.ensures.0) in record {
-      opening = subst (λ (cs : List (Cached _)). IsOpen W.place W.room W.origin W.after W.passes W.wanted from front.depth front.end nodes cs c.loop-step.chart at c.loop-step.step)
+      opening = subst (λ (cs : List (Cached _)). IsOpen W.place W.room W.origin W.after W.hashed c.loop-step.store.first W.passes W.tells W.wanted from front.depth front.end nodes cs c.loop-step.chart at c.loop-step.step)
           (sym c.deref-in-loop-step.ensures.value)
-          (subst (λ x. IsOpen W.place W.room W.origin W.after W.passes W.wanted x front.depth front.end nodes c.enter.new.cache.items c.loop-step.chart at c.loop-step.step) (sym same) inv.opening);
+          (subst (λ x. IsOpen W.place W.room W.origin W.after W.hashed c.loop-step.store.first W.passes W.tells W.wanted x front.depth front.end nodes c.enter.new.cache.items c.loop-step.chart at c.loop-step.step) (sym same) inv.opening);
       place = c.requires.place;
       base = subst (λ x. Stands W.place W.room W.origin W.after x nodes at base) (sym same) (stands_there W.place W.room W.origin W.after q old nodes at base inv.extends stood);
       other = inv.stays.other_origin ∙ sym same;
@@ -80,10 +80,10 @@ loop-step-preserved g c =
     let from = W.origin c.loop-step.walker in
     let is = c.in_ok-how.ensures in
     let cache = c.deref-in-loop-step.result.now in
-    let done = subst (λ h. Advances W.place W.room W.origin W.after W.passes W.wanted from front.depth front.end c.loop-step.store.most false more cache chart at (s + 1) h) c.in-Done.is is.advances in
+    let done = subst (λ h. Advances W.place W.room W.origin W.after W.hashed c.try_step.new.store.first W.passes W.tells W.wanted from front.depth front.end c.loop-step.store.most false more cache chart at (s + 1) h) c.in-Done.is is.advances in
     record {
-      opening = subst (λ (cs : List (Cached _)). IsOpen W.place W.room W.origin W.after W.passes W.wanted q front.depth front.end more cs chart at (s + 1)) c.deref-in-loop-step.ensures.value
-          (subst (λ x. IsOpen W.place W.room W.origin W.after W.passes W.wanted x front.depth front.end more cache chart at (s + 1)) same done);
+      opening = subst (λ (cs : List (Cached _)). IsOpen W.place W.room W.origin W.after W.hashed c.try_step.new.store.first W.passes W.tells W.wanted q front.depth front.end more cs chart at (s + 1)) c.deref-in-loop-step.ensures.value
+          (subst (λ x. IsOpen W.place W.room W.origin W.after W.hashed c.try_step.new.store.first W.passes W.tells W.wanted x front.depth front.end more cache chart at (s + 1)) same done);
       stays = stays_on W.origin q c.loop-step.walker c.enter.new.walker c.loop-step.other c.try_step.new.walker c.enter.new.walker c.try_step.new.other _ _ _ _ _ c.loop-step.chart chart inv.stays is.stays;
       extends = extends_on W.after q old nodes more inv.extends (subst (λ x. Extends W.after x nodes more) same is.extends);
       closed = is.closed;
@@ -104,10 +104,10 @@ returns-in_default g c =
     let is = c.in_ok-how.ensures in
     let most = c.args.store.now.most in
     let cache = c.deref-in-loop-step.result.now in
-    let here = subst (λ m. Advances W.place W.room W.origin W.after W.passes W.wanted from front.depth front.end m false more cache chart at (s + 1) how) inv.stays.same_room is.advances in
+    let here = subst (λ m. Advances W.place W.room W.origin W.after W.hashed c.try_step.new.store.first W.passes W.tells W.wanted from front.depth front.end m false more cache chart at (s + 1) how) inv.stays.same_room is.advances in
     record {
-      advances = stops_on W.place W.room W.origin W.after W.passes W.wanted q front.depth front.end most false more cache c.enter.new.cache.items chart at (s + 1) (at + 1) 0 how c.in_default.not-Done
-          (subst (λ x. Advances W.place W.room W.origin W.after W.passes W.wanted x front.depth front.end most false more cache chart at (s + 1) how) inv.stays.walker_origin here);
+      advances = stops_on W.place W.room W.origin W.after W.hashed c.try_step.new.store.first W.passes W.tells W.wanted q front.depth front.end most false more cache c.enter.new.cache.items chart at (s + 1) (at + 1) 0 how c.in_default.not-Done
+          (subst (λ x. Advances W.place W.room W.origin W.after W.hashed c.try_step.new.store.first W.passes W.tells W.wanted x front.depth front.end most false more cache chart at (s + 1) how) inv.stays.walker_origin here);
       stays = stays_on W.origin q c.loop-step.walker c.enter.new.walker c.loop-step.other c.try_step.new.walker c.enter.new.walker c.try_step.new.other _ _ _ _ _ c.loop-step.chart chart inv.stays is.stays;
     }
 
@@ -125,7 +125,7 @@ returns g c =
     (subst (λ x. Stands W.place W.room W.origin W.after x c.deref.result.now at base) c.requires.origins.0 c.in_ok-enter.ensures.0) in
     let stands = stands_there W.place W.room W.origin W.after q old nodes at base inv.extends stood in
     let past = c.loop-step-test.false in record {
-      advances = open_next W.place W.room W.origin W.after W.passes W.wanted q front.depth front.end nodes c.enter.new.cache.items c.loop-step.chart at c.loop-step.step (W.place base) c.requires.place
+      advances = open_next W.place W.room W.origin W.after W.hashed c.loop-step.store.first W.passes W.tells W.wanted q front.depth front.end nodes c.enter.new.cache.items c.loop-step.chart at c.loop-step.step (W.place base) c.requires.place
           stands.stands.there (λ t le. c.steps-steps.ensures t (omega (arith, le, past))) inv.opening;
       stays = record {
         walker_origin = inv.stays.walker_origin;

@@ -18,13 +18,13 @@ next_too edges n one Fact is_one earlier last k e (inl is) get =
     subst (λ (x : Edge). Fact x) (some_same one e (sym is_one ∙ subst (λ m. slice_get edges m ≡ Some e) is get)) last
 next_too edges n one Fact is_one earlier last k e (inr low) get = earlier k e low get
 
-one_of : {P : Type 0} (after : P → ℕ → Option P) (passes : P → ℕ → ℕ) (q : P) (tests : ℕ) (a b o : Option Run) → (o ≡ a) ⊎ (o ≡ b) → IsRight after passes q tests a → IsRight after passes q tests b →
-    IsRight after passes q tests o
-one_of after passes q tests a b o (inl is) first second = subst (λ (x : Option Run). IsRight after passes q tests x) (sym is) first
-one_of after passes q tests a b o (inr is) first second = subst (λ (x : Option Run). IsRight after passes q tests x) (sym is) second
+one_of : {P : Type 0} (after : P → ℕ → Option P) (passes : P → ℕ → ℕ) (q : P) (turns tests : ℕ) (a b o : Option Run) → (o ≡ a) ⊎ (o ≡ b) → IsRight after passes q turns tests a → IsRight after passes q turns tests b →
+    IsRight after passes q turns tests o
+one_of after passes q turns tests a b o (inl is) first second = subst (λ (x : Option Run). IsRight after passes q turns tests x) (sym is) first
+one_of after passes q turns tests a b o (inr is) first second = subst (λ (x : Option Run). IsRight after passes q turns tests x) (sym is) second
 
 pub run_over-requires-clause-sure : goal.run_over-requires-clause-sure
-run_over-requires-clause-sure g c = c.requires.sure c.loop-at.at _ c.get.ensures
+run_over-requires-clause-sure g c = (c.requires.sure.0 c.loop-at.at _ c.get.ensures, c.requires.sure.1 c.loop-at.at _ c.get.ensures)
 
 pub loop-at-preserved : goal.loop-at-preserved
 loop-at-preserved g c =
@@ -34,7 +34,7 @@ loop-at-preserved g c =
     let new = c.better-best.result in
     let Fact = λ (e : Edge). is_bit e.passes c.args.test ≡ true → mark_at c.args.marks.now e.to ≡ false → HasWithin new ((found_at after q c.args.nodes.now e.from).depth + 1) in
     record {
-      right = one_of after g.W.Space.passes q (c.args.test + 1) c.loop-at.best c.in_ok-over.over new c.better-best.ensures.one inv.right c.in_ok-over.ensures.right;
+      right = one_of after g.W.Space.passes q c.args.turns (c.args.test + 1) c.loop-at.best c.in_ok-over.over new c.better-best.ensures.one inv.right c.in_ok-over.ensures.right;
       kept = λ n h. c.better-best.ensures.kept n (inv.kept n h);
       within = λ k e low get. next_too c.args.edges.now c.loop-at.at c.get.result Fact c.get.ensures
           (λ k e low get is free. c.better-best.ensures.kept _ (inv.within k e low get is free))

@@ -5,7 +5,7 @@ use Rattle.fmp_search.proofs.Covered.{covers_by}
 use Rattle.fmp_search.proofs.staying.report_of.Goals as goal
 
 pub entered-requires-clause-sure : goal.entered-requires-clause-sure
-entered-requires-clause-sure g c = c.requires.charted.sure
+entered-requires-clause-sure g c = (c.requires.charted.0.sure, c.requires.charted.1)
 
 pub loop-test-preserved : goal.loop-test-preserved
 loop-test-preserved g c =
@@ -19,7 +19,7 @@ loop-test-preserved g c =
       right = c.in_ok-best.ensures.right;
       covers = λ whole. below_more (λ k. Covers after passes q k best) _
           (λ k lt others ends. c.in_ok-best.ensures.kept (length others) (c.loop-test.invariant.covers whole k lt others ends))
-          (covers_by after passes q nodes c.args.chart.now c.requires.charted whole c.loop-test.test marks best c.in_ok-marks.ensures.closed (c.in_ok-marks.ensures.earned whole) (c.requires.nearest whole)
+          (covers_by after passes q nodes c.args.chart.now c.requires.charted.0 whole c.loop-test.test marks best c.in_ok-marks.ensures.closed (c.in_ok-marks.ensures.earned whole) (c.requires.nearest whole)
           (subst (λ (ms : List Bool). AreEntered after q nodes c.args.chart.now.edges ms c.loop-test.test best) c.deref.ensures.value c.in_ok-best.ensures.within));
     }
 

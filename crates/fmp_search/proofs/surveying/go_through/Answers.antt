@@ -5,16 +5,17 @@ use Rattle.fmp_search.specs.declared.surveying.Survey.{Survey}
 use Rattle.fmp_search.specs.Answers.{Explored, IsShortest}
 use Rattle.fmp_search.specs.Cache.{IsCache}
 use Rattle.fmp_search.specs.Fronts.{Advances, IsOpen}
-use Rattle.fmp_search.specs.Growth.{AreBefore, AreFound}
+use Rattle.fmp_search.specs.Growth.{AreFound}
 use Rattle.fmp_search.specs.Meeting.{AreNoted}
 use Rattle.fmp_search.specs.Surveys.{IsThrough, Surveys}
-use Rattle.fmp_search.proofs.Apart.{before_none}
 use Rattle.fmp_search.proofs.Charted.{charting_none}
 use Rattle.fmp_search.proofs.Fronts.{none_tried, stays_on}
+use Rattle.fmp_search.proofs.Growth.{found_here}
+use Rattle.fmp_search.proofs.Hashes.{hashed_first}
 use Rattle.fmp_search.proofs.Passed.{passed}
 use Rattle.fmp_search.proofs.Trees.{stands_first}
 use Rattle.fmp_search.proofs.Layers.{explored-root, none-within}
-use Rattle.fmp_search.proofs.Surveyed.{found_none, found_of, open_layer, passed_none, shortest_here, stopped_by, through_all, through_by, through_last}
+use Rattle.fmp_search.proofs.Surveyed.{found_none, open_layer, passed_none, short_none, short_passed, short_within, shortest_here, stopped_by, through_all, through_by, through_last}
 use Rattle.fmp_search.proofs.surveying.go_through.Goals as goal
 
 pub first_cached-requires : goal.first_cached-requires
@@ -27,13 +28,20 @@ returns-then-is_wanted g c =
     let q = W.origin c.args.walker.now in
     let nodes = c.in_ok-store.store.nodes.items in
     let blank = c.in_ok-chart.ensures in
-    let chart = charting_none W.after W.passes q nodes c.args.kept c.in_ok-chart.chart c.args.count blank in
+    let chart = charting_none W.after W.passes W.tells q nodes c.args.kept c.in_ok-chart.chart c.args.count blank in
     let there = c.in_ok-restart.ensures.there ∙ c.requires.origins.2 in
     let is : W.wanted q ≡ true = subst (λ x. W.wanted x ≡ true) there (sym c.if-is_wanted.ensures) in
     let none = c.new-then-is_wanted.ensures.items in
     record {
-      surveys = subst (λ (s : Survey). Surveys W.after W.passes W.wanted q c.args.turns c.args.most (g.P.Progress.over c.args.progress.now) c.args.kept c.args.count s) (sym c.of.ensures) (record {
-        surveyed = record { found = found_none W.after q nodes c.in_ok-store.ensures.0; charted = chart.charted; noted = λ is. absurd (search (rules, is)); small = c.in_ok-store.store.small };
+      surveys = subst (λ (s : Survey). Surveys W.after W.passes W.tells W.wanted q c.args.turns c.args.most (g.P.Progress.over c.args.progress.now) c.args.kept c.args.count s) (sym c.of.ensures) (record {
+        surveyed = record {
+          found = found_none W.after q nodes c.in_ok-store.ensures.0;
+          charted = chart.charted;
+          noted = λ is. absurd (search (rules, is));
+          left = λ not. let opened = blank.opened in omega (arith, opened);
+          small = c.in_ok-store.store.small;
+        };
+        short = λ is. short_none W.after q nodes c.in_ok-chart.chart.edges c.args.turns blank.edges;
         through = (
           omega arith,
           subst (λ (ss : List _). length ss ≤ c.args.turns) (sym none) (omega arith),
@@ -58,11 +66,11 @@ loop-depth-init g c =
         front = record {
           explored = subst (λ (ns : List Node). Explored W.after W.wanted q ns 0 (length ns + 1) 0) (sym {A = List Node} c.in_ok-store.ensures.0) (explored-root W.after W.wanted q clean);
           tried = none_tried W.after q nodes 0;
-          before = subst (λ (ns : List Node). AreBefore ns 0 0) (sym c.in_ok-store.ensures.0) before_none;
           all = subst (λ (ns : List Node). IsCache W.place W.room W.origin W.after q ns c.in_ok-cache.cache.items) c.deref.ensures.value
               (subst (λ x. IsCache W.place W.room W.origin W.after x c.deref.result.now c.in_ok-cache.cache.items) (c.restart.ensures.origin ∙ c.requires.origins.2) c.in_ok-cache.ensures);
+          hashes = hashed_first W.after W.hashed q c.in_ok-store.store.first nodes c.in_ok-store.ensures.0 (c.in_ok-store.ensures.2 ∙ c.hash.ensures ∙ ap W.hashed there);
         };
-        charting = charting_none W.after W.passes q nodes c.args.kept c.in_ok-chart.chart c.args.count blank;
+        charting = charting_none W.after W.passes W.tells q nodes c.args.kept c.in_ok-chart.chart c.args.count blank;
       };
       few = omega arith;
       stays = record {
@@ -88,13 +96,16 @@ returns-then-begin-end g c =
     let depth = c.loop-depth.depth in
     let all : c.loop-depth.begin ≡ length nodes + 1 = c.if-begin-end.true ∙ c.count-end.ensures in
     record {
-      surveys = subst (λ (s : Survey). Surveys W.after W.passes W.wanted q c.args.turns c.args.most (g.P.Progress.over c.loop-depth.progress) c.args.kept c.args.count s) (sym c.of-then-begin-end.ensures) (record {
+      surveys = subst (λ (s : Survey). Surveys W.after W.passes W.tells W.wanted q c.args.turns c.args.most (g.P.Progress.over c.loop-depth.progress) c.args.kept c.args.count s) (sym c.of-then-begin-end.ensures) (record {
         surveyed = record {
-          found = found_of W.after q W.wanted nodes depth c.loop-depth.begin x inv.opening.front.before.apart;
+          found = found_here W.after q W.wanted nodes depth (length nodes + 1) c.loop-depth.begin x;
           charted = inv.opening.charting.charted;
-          noted = λ is. subst (λ n. AreNoted W.after W.passes q nodes c.loop-depth.chart.marks.items n 0) (sym opened) inv.opening.charting.noted;
+          noted = λ is. subst (λ n. AreNoted W.after W.tells q nodes c.loop-depth.chart.marks.items n 0) (sym opened) inv.opening.charting.noted;
+          left = λ not. absurd (not refl);
           small = c.loop-depth.store.small;
         };
+        short = λ is. short_within W.after q nodes c.loop-depth.chart.edges depth c.args.turns inv.within
+            (short_passed W.after q nodes c.loop-depth.chart.edges depth c.loop-depth.begin (inv.opening.charting.early is) inv.passed);
         through = subst (λ n. IsThrough W.after W.wanted q c.args.turns nodes depth n) (sym opened) (through_all W.after q W.wanted nodes depth c.loop-depth.begin c.args.turns inv.within x all inv.passed);
         ended = tt;
         same = inv.stays.same;
@@ -112,9 +123,9 @@ open_layer-requires g c =
     let few = inv.few in
     let count = c.count-end.ensures in
     record {
-      opening = subst (λ k. IsOpen W.place W.room W.origin W.after W.passes W.wanted (W.origin c.loop-depth.walker) c.loop-depth.depth k nodes c.loop-depth.cache.items c.loop-depth.chart c.loop-depth.begin 0)
+      opening = subst (λ k. IsOpen W.place W.room W.origin W.after W.hashed c.loop-depth.store.first W.passes W.tells W.wanted (W.origin c.loop-depth.walker) c.loop-depth.depth k nodes c.loop-depth.cache.items c.loop-depth.chart c.loop-depth.begin 0)
           (sym count)
-          (subst (λ x. IsOpen W.place W.room W.origin W.after W.passes W.wanted x c.loop-depth.depth (length nodes + 1) nodes c.loop-depth.cache.items c.loop-depth.chart c.loop-depth.begin 0) (sym same) inv.opening);
+          (subst (λ x. IsOpen W.place W.room W.origin W.after W.hashed c.loop-depth.store.first W.passes W.tells W.wanted x c.loop-depth.depth (length nodes + 1) nodes c.loop-depth.cache.items c.loop-depth.chart c.loop-depth.begin 0) (sym same) inv.opening);
       place = omega (arith, few, count);
       origins = (inv.stays.base_origin ∙ sym same, inv.stays.other_origin ∙ sym same);
     }
@@ -131,11 +142,11 @@ loop-depth-preserved g c =
     let chart = c.open_layer.new.chart in
     let is = c.in_ok-how.ensures in
     let from = W.origin c.loop-depth.walker in
-    let done = subst (λ h. Advances W.place W.room W.origin W.after W.passes W.wanted from depth end c.loop-depth.store.most (g.P.Progress.over c.open_layer.new.progress) nodes cache chart end 0 h)
+    let done = subst (λ h. Advances W.place W.room W.origin W.after W.hashed c.open_layer.new.store.first W.passes W.tells W.wanted from depth end c.loop-depth.store.most (g.P.Progress.over c.open_layer.new.progress) nodes cache chart end 0 h)
     c.in-Done.is is.advances in
-    let opened_all = subst (λ x. IsOpen W.place W.room W.origin W.after W.passes W.wanted x depth end nodes cache chart end 0) inv.stays.walker_origin done in
+    let opened_all = subst (λ x. IsOpen W.place W.room W.origin W.after W.hashed c.open_layer.new.store.first W.passes W.tells W.wanted x depth end nodes cache chart end 0) inv.stays.walker_origin done in
     let before = c.loop-depth-test.true in record {
-      opening = open_layer W.place W.room W.origin W.after W.passes W.wanted q depth end c.loop-depth.store.most true nodes cache chart end 0 refl opened_all;
+      opening = open_layer W.place W.room W.origin W.after W.hashed c.open_layer.new.store.first W.passes W.tells W.wanted q depth end c.loop-depth.store.most true nodes cache chart end 0 refl opened_all;
       few = opened_all.front.explored.few;
       stays = stays_on W.origin q c.loop-depth.walker c.loop-depth.base c.loop-depth.other c.open_layer.new.walker c.open_layer.new.base c.open_layer.new.other _ _ _ _ _ c.loop-depth.chart chart
           inv.stays is.stays;
@@ -161,12 +172,13 @@ returns-in_default g c =
     let is = c.in_ok-how.ensures in
     let stays = stays_on W.origin q c.loop-depth.walker c.loop-depth.base c.loop-depth.other c.open_layer.new.walker c.open_layer.new.base c.open_layer.new.other _ _ _ _ _ c.loop-depth.chart chart
     inv.stays is.stays in
-    let x = subst (λ x. Advances W.place W.room W.origin W.after W.passes W.wanted x depth end most over nodes cache chart end 0 how) inv.stays.walker_origin is.advances in
-    let stopped = stopped_by W.place W.room W.origin W.after W.passes W.wanted q depth end most over nodes cache chart end 0 how not x in
+    let x = subst (λ x. Advances W.place W.room W.origin W.after W.hashed c.open_layer.new.store.first W.passes W.tells W.wanted x depth end most over nodes cache chart end 0 how) inv.stays.walker_origin is.advances in
+    let stopped = stopped_by W.place W.room W.origin W.after W.hashed c.open_layer.new.store.first W.passes W.tells W.wanted q depth end most over nodes cache chart end 0 how not x in
     record {
-      surveys = subst (λ (s : Survey). Surveys W.after W.passes W.wanted q c.args.turns c.args.most over c.args.kept c.args.count s) (sym c.of-in_default.ensures) (record {
-        surveyed = record { found = stopped.0.found; charted = stopped.0.charted; noted = λ is. absurd (not is); small = c.open_layer.new.store.small };
-        through = through_by W.place W.room W.origin W.after W.passes W.wanted q depth end most over nodes cache chart end 0 how c.args.turns c.args.most _ not c.loop-depth-test.true
+      surveys = subst (λ (s : Survey). Surveys W.after W.passes W.tells W.wanted q c.args.turns c.args.most over c.args.kept c.args.count s) (sym c.of-in_default.ensures) (record {
+        surveyed = record { found = stopped.0.found; charted = stopped.0.charted; noted = λ is. absurd (not is); left = λ it. stopped.0.left; small = c.open_layer.new.store.small };
+        short = λ is. let lt = c.loop-depth-test.true in short_within W.after q nodes chart.edges (depth + 1) c.args.turns (omega (arith, lt)) (stopped.0.short is);
+        through = through_by W.place W.room W.origin W.after W.hashed c.open_layer.new.store.first W.passes W.tells W.wanted q depth end most over nodes cache chart end 0 how c.args.turns c.args.most _ not c.loop-depth-test.true
             (none-within W.after W.wanted q old depth (length old + 1) c.loop-depth.begin inv.opening.front.explored) inv.stays.same_room x;
         ended = stopped.1;
         same = stays.same;
@@ -187,13 +199,16 @@ returns g c =
     let past = c.loop-depth-test.false in
     let last : c.loop-depth.depth ≡ c.args.turns = search (arith, most, past) in
     record {
-      surveys = subst (λ (s : Survey). Surveys W.after W.passes W.wanted q c.args.turns c.args.most (g.P.Progress.over c.loop-depth.progress) c.args.kept c.args.count s) (sym c.of-2.ensures) (record {
+      surveys = subst (λ (s : Survey). Surveys W.after W.passes W.tells W.wanted q c.args.turns c.args.most (g.P.Progress.over c.loop-depth.progress) c.args.kept c.args.count s) (sym c.of-2.ensures) (record {
         surveyed = record {
-          found = subst (λ n. AreFound W.after q n nodes) last (found_of W.after q W.wanted nodes c.loop-depth.depth c.loop-depth.begin x inv.opening.front.before.apart);
+          found = subst (λ n. AreFound W.after q n nodes) last (found_here W.after q W.wanted nodes c.loop-depth.depth (length nodes + 1) c.loop-depth.begin x);
           charted = inv.opening.charting.charted;
-          noted = λ is. subst (λ n. AreNoted W.after W.passes q nodes c.loop-depth.chart.marks.items n 0) (sym opened) inv.opening.charting.noted;
+          noted = λ is. subst (λ n. AreNoted W.after W.tells q nodes c.loop-depth.chart.marks.items n 0) (sym opened) inv.opening.charting.noted;
+          left = λ not. absurd (not refl);
           small = c.loop-depth.store.small;
         };
+        short = λ is. short_within W.after q nodes c.loop-depth.chart.edges c.loop-depth.depth c.args.turns inv.within
+            (short_passed W.after q nodes c.loop-depth.chart.edges c.loop-depth.depth c.loop-depth.begin (inv.opening.charting.early is) inv.passed);
         through = subst (λ n. IsThrough W.after W.wanted q c.args.turns nodes c.args.turns n) (sym opened)
             (through_last W.after q W.wanted nodes c.loop-depth.depth c.loop-depth.begin c.args.turns last x inv.passed);
         ended = tt;

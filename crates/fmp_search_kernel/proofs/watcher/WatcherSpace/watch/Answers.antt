@@ -1,10 +1,9 @@
-use Rattle.std.proofs.Common.{◌≡◌, map, subst}
+use Rattle.std.proofs.Common.{◌≡◌, subst}
 use Rattle.std.specs.Prelude.{IfOk}
 use Rattle.std.proofs.lemmas.Result.{IfOk-weaker}
-use Rattle.fmp_search.specs.Runs.{Watches}
-use Rattle.fmp_search_pattern.specs.Lasting.{is_so}
-use Rattle.fmp_search_orders.specs.Lasting.{step_test}
-use Rattle.fmp_search_orders.specs.Watched.{bits_of, origin_at, watched, watched_after, watched_passes}
+use Rattle.fmp_search.specs.Runs.{told_of, Watches}
+use Rattle.fmp_search_orders.specs.Made.{watched_number}
+use Rattle.fmp_search_orders.specs.Watched.{origin_at, watched, watched_after, watched_passes}
 use Rattle.fmp_search_kernel.specs.Walked.{Watching}
 use Rattle.fmp_search_kernel.proofs.Watching.{origin_kept, watches_watched}
 use Rattle.fmp_search_kernel.proofs.watcher.WatcherSpace.watch.Goals as goal
@@ -15,8 +14,8 @@ returns-clause-goes c =
     let step = c.args.step in
     let w = s.walker.place in
     let v = c.watch_for.new.self.place in
-    subst (λ (x : Watching). IfOk c.watch_for.result (λ report. Watches (watched_after x.place step) (watched_passes x.place step) report (watched s.lasting.now v))) c.self.view_is
-    (IfOk-weaker c.watch_for.result _ _ (λ report is. watches_watched s.lasting.now w v step (bits_of (map (λ l. step_test (is_so l) w step) s.lasting.now)) report is) c.watch_for.ensures.goes)
+    subst (λ (x : Watching). IfOk c.watch_for.result (λ report. Watches (watched_after x.place step) (told_of watched_passes watched_number x.place step) report (watched s.lasting.now v))) c.self.view_is
+    (IfOk-weaker c.watch_for.result _ _ (λ report is. watches_watched s.lasting.now w v step _ report is) c.watch_for.ensures.goes)
 
 pub returns-clause-origin : goal.returns-clause-origin
 returns-clause-origin c =
