@@ -91,7 +91,13 @@ pub fn note_stayed<N: Notes + Progress>(
         }
         Staying::Never => tell_never(notes, about, stayed, request),
         Staying::NotWithin(lines) => {
-            tell_extent(notes, about, stayed.extent, reach_of(lines, request), request);
+            tell_extent(
+                notes,
+                about,
+                stayed.extent,
+                reach_of(lines, request),
+                request,
+            );
         }
         Staying::Wanting(_) => {
             tell_extent(notes, about, stayed.extent, Reach::Wanting, request);

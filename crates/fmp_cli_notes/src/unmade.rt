@@ -6,7 +6,8 @@ use fmp_cli_hints_config::{is_misplaced, put_misplaced};
 use fmp_codes::{Event, NameKind, Proc};
 use fmp_out::Text;
 use fmp_ranges::Bounds;
-use fmp_run_explore::{Met, Orders, Outcome, is_made};
+use fmp_run_explore::{Finding, Met, Orders, Outcome, Progress, is_made};
+use fmp_run_forever::calls_made;
 use fmp_trace::put_event;
 use std::alloc::{AllocError, Global};
 
@@ -149,10 +150,49 @@ pub(crate) fn note_calls_unmade<N: Notes>(
     }
 }
 
-/// Likewise of what a search found.
-pub fn note_unmade<N: Notes>(notes: &mut N, about: About<'_>, outcome: &Outcome, bounds: Bounds) {
-    if outcome.extent.is_some() {
-        let orders = outcome.searched.orders();
+/// Whether a search that looks for nothing may tell which calls are made, where the one for the question does not. One that was ended, or left without
+/// memory, is not tried again, and where the room was used up for a question of one step without `without`, both go through the same places.
+fn may_know(outcome: &Outcome) -> bool {
+    match outcome.finding {
+        Finding::Never => true,
+        Finding::NotWithin(_) => match outcome.searched.question().steps() {
+            [step] => step.without.is_some(),
+            _ => true,
+        },
+        _ => false,
+    }
+}
+
+/// Which calls are made, by a search that looks for nothing: one for a question with `without` leaves out orders.
+fn calls_met<P: Progress>(
+    alloc: Global,
+    outcome: &Outcome,
+    bounds: Bounds,
+    progress: &mut P,
+) -> Option<Met> {
+    if !may_know(outcome) || progress.is_over() {
+        return None;
+    }
+    let found = calls_made(alloc, &outcome.searched.orders(), progress, bounds);
+    progress.end();
+    found.ok()?
+}
+
+/// Likewise of what a search found. It says nothing of calls that is not found in time.
+pub fn note_unmade<N: Notes + Progress>(
+    notes: &mut N,
+    about: About<'_>,
+    outcome: &Outcome,
+    bounds: Bounds,
+) {
+    if outcome.extent.is_none() {
+        return;
+    }
+    let orders = outcome.searched.orders();
+    if outcome.met.is_some() {
         note_calls_unmade(notes, about, orders, outcome.met.as_ref(), bounds);
+    } else {
+        let met = calls_met(about.alloc, outcome, bounds, notes);
+        note_calls_unmade(notes, about, orders, met.as_ref(), bounds);
     }
 }

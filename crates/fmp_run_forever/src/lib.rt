@@ -12,4 +12,5 @@ mod staying;
 mod writing;
 
 pub use run::run_forever;
+pub use searching::calls_made;
 pub use staying::{Stayed, Staying};

@@ -1,9 +1,9 @@
 //! The search through all orders of one machine and its scripts for what stays.
-ghost use Rattle.std.specs.Prelude.{◌≡◌, ◌≤◌, ◌<◌, ◌-◌, Bool, false, List, [], length, IfOk, IfSome, IsTrue, if◌then◌else◌};
+ghost use Rattle.std.specs.Prelude.{◌≡◌, ◌≤◌, ◌<◌, ◌-◌, Bool, false, List, [], None, length, IfOk, IfSome, IsTrue, if◌then◌else◌};
 ghost use Rattle.fmp_search.specs.declared.nodes.Node.{Node};
 ghost use Rattle.fmp_run_forever.specs.Gone.{IsGone};
 ghost use Rattle.fmp_run_forever.specs.Stayed.{Finds, IsLeast};
-ghost use Rattle.fmp_run_forever.specs.Told.{TellsCalls};
+ghost use Rattle.fmp_run_forever.specs.Told.{IsNotKnown, TellsCalls};
 ghost use Rattle.fmp_run_explore.specs.Made.{SaysMade};
 ghost use Rattle.fmp_search.specs.Extents.{HasGone, WentForEver};
 ghost use Rattle.fmp_search.specs.Forever.{SaysForEver};
@@ -116,6 +116,26 @@ fn answered<P: Progress>(
         tests,
         NUMBERS as usize,
     )
+}
+
+/// Which calls of the scripts are made in orders of at most as many lines as the bounds say, where nothing is asked of these. None only where the room
+/// for places was used up before, or `progress` ended the search. The error is want of memory, for places too.
+pub fn calls_made<P: Progress>(
+    alloc: Global,
+    orders: &Orders<'_>,
+    progress: &mut P,
+    bounds: Bounds,
+) -> Result<Option<Met>, AllocError>
+    ensures made { IfOk result (λ o. IfSome o (SaysMade orders.now.config.now orders.now.scripts.now orders.now.rules bounds.turns.count)) }
+    ensures none { IfOk result (λ o. o ≡ None → IsNotKnown orders.now.config.now orders.now.scripts.now orders.now.rules bounds.turns.count
+        (bounds.places.count - 1) (P.over progress.new)) }
+{
+    let none = Question::new(Vec::new(alloc));
+    let (stay, _, met) = answered(alloc, orders, &none, &[], progress, bounds)?;
+    match stay {
+        Stay::Wanting(_) => Err(AllocError),
+        _ => Ok(met),
+    }
 }
 
 /// What is known of a trace of so many lines from whose end on what is asked under this number stays: it is the shortest, or not.

@@ -11,4 +11,4 @@ returns-then-lets_pass-clause-says c =
     let rules = c.args.orders.now.rules in
     let question = c.args.question.now in
     says_calls after number_at (origin config scripts rules question) config scripts rules c.args._bounds.turns.count
-    ((c.made_answer.ensures config scripts rules c.names-_names.ensures.valid).asked question (sym c.lets_pass.ensures ∙ c.if-lets_pass.true)) c.args.met c.requires
+    ((c.made_answer.ensures config scripts rules c.names-names.ensures.valid).asked question (sym c.lets_pass.ensures ∙ c.if-lets_pass.true)) c.args.met c.requires

@@ -36,5 +36,5 @@ returns-clause-calls g c =
     let turns = c.args.bounds.turns.count in
     let q = watched c.args.lasting.now (origin config scripts rules []) in
     let meets = subst (λ (w : Watched). IfOk c.stayed.result (λ r. IfSome r.2 (Meets watched_after watched_number w turns 65536))) (ap origin_at c.in_ok-walkers.ensures.first) c.stayed.ensures.met in
-    let law = (c.made_answer.ensures config scripts rules c.names-_names.ensures.valid).watched_so c.args.lasting.now in
+    let law = (c.made_answer.ensures config scripts rules c.names-names.ensures.valid).watched_so c.args.lasting.now in
     IfOk-weaker c.stayed.result _ _ (λ r met. says_calls watched_after watched_number q config scripts rules turns law r.2 met) meets

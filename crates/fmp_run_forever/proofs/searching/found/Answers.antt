@@ -43,6 +43,6 @@ returns-in-Shortest-clause-gone g c = IfOk-weaker c.report_along.result _ _ (λ 
 pub returns-in-Found-clause-gone : goal.returns-in-Found-clause-gone
 returns-in-Found-clause-gone g c = IfOk-weaker c.report_along-in-Found.result _ _ (λ r gone. gone (g.P.Progress.over c.answered.new.progress)) c.report_along-in-Found.ensures.gone
 
-pub returns-in_ok-never-in-Never-clause-tells : goal.returns-in_ok-never-in-Never-clause-tells
-returns-in_ok-never-in-Never-clause-tells g c =
+pub returns-in-Never-clause-tells : goal.returns-in-Never-clause-tells
+returns-in-Never-clause-tells g c =
     record { says = c.in_ok-stay.ensures.calls; beside = subst (λ s. IsMetBesideStay c.args.bounds.turns.count s c.in_ok-stay.met) c.in-Never.is c.in_ok-stay.ensures.beside }

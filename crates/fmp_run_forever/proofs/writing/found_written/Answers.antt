@@ -12,8 +12,8 @@ returns-in-Ok-write_out-clause-written g c = λ known. (
   c.in-Ok-write_out.ensures.ok known ∙ ap (λ (x : List ℕ). bytes_of (g.W.Sink.written c.args.output.now) ++ x) c.as_slice.ensures.value,
 )
 
-pub returns-clause-part : goal.returns-clause-part
-returns-clause-part g c = λ known is. (
+pub returns-in-Err-write_out-clause-part : goal.returns-in-Err-write_out-clause-part
+returns-in-Err-write_out-clause-part g c = λ known is. (
   c.in-Ok.report.text.items,
   c.in-Ok.report.staying,
   subst (λ (l : List Lasting). Finds c.args.asked.now.config c.args.asked.now.scripts c.args.rules l c.args.bounds.turns.count (c.args.bounds.places.count - 1) c.in-Ok.report.text.items
