@@ -1,45 +1,40 @@
--- Reading arguments one after the other, as a loop does.
-use Rattle.std.proofs.Common.{◌≡◌, ℕ, ◌≤◌, ◌<◌, List, [], ◌∷◌, ◌++◌, length, Option, Some, None, refl, sym, ap, ◌∙◌, append_assoc, arith, length-append}
-use Rattle.std.proofs.lemmas.List.{append-nil}
-use Rattle.std.proofs.lemmas.Bool.{le-leb, lt-leb}
-use Rattle.fmp_bytes.specs.Bytes.{cut_at, pieces_of}
-use Rattle.fmp_bytes.proofs.Cutting.{pieces_left, pieces_of-cut}
-use Rattle.fmp_text.specs.Argument.{◌>>=◌, token_in, tokens_in, at_most}
+-- Going over the arguments of a call one after the other, as a loop does.
+use Rattle.std.proofs.Common.{◌≡◌, ℕ, ◌+◌, ◌≤◌, ◌<◌, List, [], ◌∷◌, ◌++◌, length, get_or, drop, Result, Ok, Err, refl, sym, ap, ◌∙◌, append_assoc}
+use Rattle.std.proofs.lemmas.List.{append-nil, drop_more, drop_all}
+use Rattle.fmp_bytes.specs.Results.{◌>>=◌}
+use Rattle.fmp_codes.specs.declared.calls.Call.{Call}
+use Rattle.fmp_codes.specs.declared.kinds.ArgumentKind.{ArgumentKind}
+use Rattle.fmp_text.specs.Places.{Place, start, argument, arguments}
 
--- what was read before, and what is still read
-abbrev pub with_prefix : List (List ℕ) → Option (List (List ℕ)) → Option (List (List ℕ))
-with_prefix prefix tokens = tokens >>= λ list. Some (prefix ++ list)
+-- where arguments were found to begin, and what is still found
+abbrev pub with_prefix : List (List ℕ) → Result (List (List ℕ) × List ℕ) Place → Result (List (List ℕ) × List ℕ) Place
+with_prefix prefix read = read >>= λ r. Ok (prefix ++ r.0, r.1)
 
 -- one argument more
-stepped : (prefix : List (List ℕ)) (token : List ℕ) (tokens : Option (List (List ℕ))) → with_prefix prefix (tokens >>= λ list. Some (token ∷ list)) ≡ with_prefix (prefix ++ token ∷ []) tokens
-stepped prefix token (Some list) = ap (λ (ts : List (List ℕ)). Some ts) (simp append_assoc)
-stepped prefix token None = refl
+stepped : (prefix : List (List ℕ)) (first : List ℕ) (read : Result (List (List ℕ) × List ℕ) Place) → with_prefix prefix (read >>= λ r. Ok (first ∷ r.0, r.1)) ≡ with_prefix (prefix ++ first ∷ []) read
+stepped prefix first (Ok read) = let same : prefix ++ (first ∷ read.0) ≡ (prefix ++ first ∷ []) ++ read.0 = simp append_assoc in ap (λ (ts : List (List ℕ)). Ok (ts, read.1)) same
+stepped prefix first (Err e) = refl
 
-too_many : (most : ℕ) (prefix : List (List ℕ)) (tokens : Option (List (List ℕ))) → most < length prefix → at_most most (with_prefix prefix tokens) ≡ None
-too_many most prefix (Some list) lt =
-    let test = lt-leb (length (prefix ++ list)) most (omega (arith, length-append prefix list)) in
-    rw test refl
-too_many most prefix None lt = refl
+module _ (call : Call) (kinds : List ArgumentKind) (total : Result (List (List ℕ) × List ℕ) Place) where
+  pub goes_on : (prefix : List (List ℕ)) (n : ℕ) (k : ArgumentKind) (text first rest : List ℕ) → n < length kinds → start call n text ≡ Ok first → argument call (get_or kinds n k) first ≡ Ok rest
+      → with_prefix prefix (arguments call n (drop n kinds) text) ≡ total → with_prefix (prefix ++ first ∷ []) (arguments call (n + 1) (drop (n + 1) kinds) rest) ≡ total
+  goes_on prefix n k text first rest lt begins fits so_far =
+      let one : with_prefix prefix (arguments call n (drop n kinds) text) ≡ with_prefix (prefix ++ first ∷ []) (arguments call (n + 1) (drop (n + 1) kinds) rest) = rw (drop_more kinds n k lt, begins, fits) (stepped prefix first (arguments call (n + 1) (drop (n + 1) kinds) rest)) in
+      sym one ∙ so_far
 
-pub goes_on : (most : ℕ) (prefix : List (List ℕ)) (text token : List ℕ) (total : Option (List (List ℕ))) → token_in (cut_at 44 text).0 ≡ Some token
-    → at_most most (with_prefix prefix (tokens_in (pieces_of 44 text))) ≡ total → at_most most (with_prefix (prefix ++ token ∷ []) (tokens_in (pieces_left 44 (cut_at 44 text).1))) ≡ total
-goes_on most prefix text token total here so_far =
-    let one : with_prefix prefix (tokens_in (pieces_of 44 text)) ≡ with_prefix (prefix ++ token ∷ []) (tokens_in (pieces_left 44 (cut_at 44 text).1)) = rw (pieces_of-cut 44 text, here) (stepped prefix token (tokens_in (pieces_left 44 (cut_at 44 text).1))) in
-    ap (at_most most) (sym one) ∙ so_far
+  pub no_start : (prefix : List (List ℕ)) (n : ℕ) (k : ArgumentKind) (text : List ℕ) (place : Place) → n < length kinds → start call n text ≡ Err place
+      → with_prefix prefix (arguments call n (drop n kinds) text) ≡ total → total ≡ Err place
+  no_start prefix n k text place lt begins so_far =
+      let one : with_prefix prefix (arguments call n (drop n kinds) text) ≡ Err place = rw (drop_more kinds n k lt, begins) refl in
+      sym so_far ∙ one
 
-pub ends : (most : ℕ) (prefix : List (List ℕ)) (text : List ℕ) (total : Option (List (List ℕ))) → token_in (cut_at 44 text).0 ≡ None → at_most most (with_prefix prefix (tokens_in (pieces_of 44 text))) ≡ total → None ≡ total
-ends most prefix text total here so_far =
-    let one : at_most most (with_prefix prefix (tokens_in (pieces_of 44 text))) ≡ None = rw (pieces_of-cut 44 text, here) refl in
-    sym one ∙ so_far
+  pub no_argument : (prefix : List (List ℕ)) (n : ℕ) (k : ArgumentKind) (text first : List ℕ) (place : Place) → n < length kinds → start call n text ≡ Ok first → argument call (get_or kinds n k) first ≡ Err place
+      → with_prefix prefix (arguments call n (drop n kinds) text) ≡ total → total ≡ Err place
+  no_argument prefix n k text first place lt begins fits so_far =
+      let one : with_prefix prefix (arguments call n (drop n kinds) text) ≡ Err place = rw (drop_more kinds n k lt, begins, fits) refl in
+      sym so_far ∙ one
 
-pub is_full : (most : ℕ) (prefix : List (List ℕ)) (text token : List ℕ) (total : Option (List (List ℕ))) → token_in (cut_at 44 text).0 ≡ Some token → most ≤ length prefix
-    → at_most most (with_prefix prefix (tokens_in (pieces_of 44 text))) ≡ total → None ≡ total
-is_full most prefix text token total here le so_far =
-    let more = goes_on most prefix text token total here so_far in
-    sym (too_many most (prefix ++ token ∷ []) (tokens_in (pieces_left 44 (cut_at 44 text).1)) (omega (arith, length-append prefix (token ∷ [])))) ∙ more
-
-pub is_done : (most : ℕ) (prefix : List (List ℕ)) (total : Option (List (List ℕ))) → length prefix ≤ most → at_most most (with_prefix prefix (Some [])) ≡ total → Some prefix ≡ total
-is_done most prefix total few so_far =
-    let test = le-leb (length (prefix ++ [])) most (omega (arith, length-append prefix [])) in
-    let one : at_most most (with_prefix prefix (Some [])) ≡ Some prefix = rw test (ap (λ (ts : List (List ℕ)). Some ts) (append-nil prefix)) in
-    sym one ∙ so_far
+  pub is_done : (prefix : List (List ℕ)) (n : ℕ) (text : List ℕ) → length kinds ≤ n → with_prefix prefix (arguments call n (drop n kinds) text) ≡ total → total ≡ Ok (prefix, text)
+  is_done prefix n text le so_far =
+      let one : with_prefix prefix (arguments call n (drop n kinds) text) ≡ Ok (prefix, text) = rw (drop_all n kinds le) (ap (λ (ts : List (List ℕ)). Ok (ts, text)) (append-nil prefix)) in
+      sym so_far ∙ one

@@ -57,7 +57,7 @@ unfolding is_argument
 token_bytes token h = elim (or_cases (is_identifier token) _ h) [ inl t ↦ identifier_bytes token t | inr t ↦ number_bytes token t ]
 
 -- an argument does not begin with a blank
-token_first : (token rest : List ℕ) → AreOfArgument token → prefix_len (is_of Blank) (token ++ rest) ≡ 0
+pub token_first : (token rest : List ℕ) → AreOfArgument token → prefix_len (is_of Blank) (token ++ rest) ≡ 0
 token_first [] rest bytes = absurd (omega (arith, bytes.0))
 token_first (b ∷ token) rest bytes = stops-cons (is_of Blank) b (token ++ rest) (not_blank-argument b (and_parts (is_of Argument b) (list_all (is_of Argument) token) bytes.1).0)
 

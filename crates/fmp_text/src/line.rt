@@ -2,9 +2,13 @@
 ghost use Rattle.std.specs.Prelude.{◌≡◌, ◌≤◌};
 ghost use Rattle.std.specs.Option.{option_copied};
 ghost use Rattle.fmp_text.specs.Lines as spec;
+ghost use Rattle.fmp_text.specs.Places as places;
+ghost use Rattle.fmp_text.specs.Places.{Gives, without_place};
 
 use crate::call::call_at;
 use crate::fault::TextKind;
+use crate::form::ending;
+use crate::misfit::{Misfit, Wanted};
 use fmp_bytes::{Class, all_of, are_digits, following, is_zero_led, magnitude, skip, split_prefix};
 use fmp_codes::{Event, Proc};
 use fmp_names::Names;
@@ -54,51 +58,52 @@ pub fn processor_in(names: &Names, word: &[u8]) -> Result<Proc, TextKind>
     processor_numbered(names, digits).ok_or(TextKind::NumberOutOfRange)
 }
 
-/// The event, where only blanks follow it. Anything else is wrong arguments.
-fn alone(event: Event, rest: &[u8]) -> Result<Event, TextKind>
-    ensures { result ≡ spec.alone event rest.now }
-{
-    if all_of(Class::Blank, rest) {
-        Ok(event)
-    } else {
-        Err(TextKind::WrongArguments)
-    }
-}
-
 /// The event on this processor that a text with no blanks before it says: `tick`, `ipi` or a call.
-#[tactic(auto, unfolding(crate::specs::Lines::event_of))]
-fn event_of(names: &Names, processor: Proc, text: &[u8]) -> Result<Event, TextKind>
-    ensures { result ≡ spec.event_of names.now processor text.now }
+#[tactic(auto, unfolding(crate::specs::Places::event_of))]
+fn event_of<'a>(names: &Names, processor: Proc, text: &'a [u8]) -> Result<Event, Misfit<'a>>
+    ensures { Gives (λ event. event) result (places.event_of names.now processor text.now) }
 {
     let (word, rest) = split_prefix(Class::Word, text);
     if word == b"tick".as_slice() {
-        return alone(Event::Tick(processor), rest);
+        ending(Wanted::LineEnd, rest)?;
+        return Ok(Event::Tick(processor));
     }
     if word == b"ipi".as_slice() {
-        return alone(Event::Ipi(processor), rest);
+        ending(Wanted::LineEnd, rest)?;
+        return Ok(Event::Ipi(processor));
     }
     Ok(Event::Call(processor, call_at(names, text)?))
 }
 
 /// The event of a line with no blanks before it: its processor, and after blanks what happens there.
-#[tactic(auto, unfolding(crate::specs::Lines::event_at))]
-fn event_at(names: &Names, text: &[u8]) -> Result<Event, TextKind>
-    ensures { result ≡ spec.event_at names.now text.now }
+#[tactic(auto, unfolding(crate::specs::Places::event_at))]
+fn event_at<'a>(names: &Names, text: &'a [u8]) -> Result<Event, Misfit<'a>>
+    ensures { Gives (λ event. event) result (places.event_at names.now text.now) }
 {
     let (word, rest) = split_prefix(Class::Word, text);
-    let processor = processor_in(names, word)?;
-    event_of(names, processor, skip(Class::Blank, rest))
+    match processor_in(names, word) {
+        Ok(processor) => event_of(names, processor, skip(Class::Blank, rest)),
+        Err(kind) => Err(Misfit {
+            kind,
+            rest: text,
+            wanted: Wanted::Processor,
+        }),
+    }
 }
 
 /// The event of a line that is not skipped, with blanks around. The fault of a byte that may not stand in a line comes first.
-#[tactic(auto, unfolding(crate::specs::Lines::event_in))]
-fn event_in(names: &Names, line: &[u8]) -> Result<Event, TextKind>
-    ensures { result ≡ spec.event_in names.now line.now }
+#[tactic(auto, unfolding(crate::specs::Places::event_in))]
+fn event_in<'a>(names: &Names, line: &'a [u8]) -> Result<Event, Misfit<'a>>
+    ensures { Gives (λ event. event) result (places.event_in names.now line.now) }
 {
     if all_of(Class::Line, line) {
         event_at(names, skip(Class::Blank, line))
     } else {
-        Err(TextKind::BadByte)
+        Err(Misfit {
+            kind: TextKind::BadByte,
+            rest: skip(Class::Line, line),
+            wanted: Wanted::LineByte,
+        })
     }
 }
 
@@ -123,14 +128,25 @@ pub fn without_return(line: &[u8]) -> &[u8]
     }
 }
 
-/// The event of a whole line without its line feed, if it has one.
-#[tactic(auto, unfolding(crate::specs::Lines::line_event))]
-pub fn line_event(names: &Names, line: &[u8]) -> Result<Option<Event>, TextKind>
-    ensures { result ≡ spec.line_event names.now line.now }
+/// The event of a whole line without its line feed, if it has one, or where and why the line is refused.
+#[tactic(auto, unfolding(crate::specs::Places::line_event, crate::specs::Lines::line_event))]
+pub fn event_or_misfit<'a>(names: &Names, line: &'a [u8]) -> Result<Option<Event>, Misfit<'a>>
+    ensures place { Gives (λ event. event) result (places.line_event names.now line.now) }
+    ensures kind { without_place result ≡ spec.line_event names.now line.now }
 {
     let line = without_return(line);
     if is_skipped(line) {
         return Ok(None);
     }
     Ok(Some(event_in(names, line)?))
+}
+
+/// The event of a whole line without its line feed, if it has one.
+pub fn line_event(names: &Names, line: &[u8]) -> Result<Option<Event>, TextKind>
+    ensures { result ≡ spec.line_event names.now line.now }
+{
+    match event_or_misfit(names, line) {
+        Ok(event) => Ok(event),
+        Err(misfit) => Err(misfit.kind),
+    }
 }
