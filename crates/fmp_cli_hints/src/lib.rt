@@ -1,11 +1,11 @@
 //! What stands beside a fault line: the line of the text, a caret under the first byte at fault, and what is wanted there.
 //!
-//! A [`Walk`] goes over a line as its reader does, and stops where the reader refuses. How far it goes in a line of events is a definition
-//! (`specs/Places`), and the law `places_are_in_their_lines` says that the place is in that line. [`text_spot`] is the place of the caret as
-//! numbers: of a fault of events it is that place (`specs/Texts`). A near name is a nearest one (`specs/Hints`, `specs/Things`).
+//! A [`Walk`] is how far a line is read. In a line of events the reader itself says where it refuses (`event_or_misfit`), and that is the place
+//! (`specs/Places`); the law `places_are_in_their_lines` says that it is in that line. [`text_spot`] is the place of the caret as numbers: of a fault of
+//! events it is that place (`specs/Texts`). A near name is a nearest one (`specs/Hints`, `specs/Things`).
 //!
-//! The texts that are told, the places in the lines of other texts, and that the caret is where the reader refuses are only tested. Begin at [`text_context`]. What stands beside a fault of a configuration is `fmp_cli_hints_config`, and
-//! of a question `fmp_cli_hints_question`.
+//! The texts that are told, the places in the lines of other texts, and that the caret there is where the reader refuses are only tested. Begin at
+//! [`text_context`]. What stands beside a fault of a configuration is `fmp_cli_hints_config`, and of a question `fmp_cli_hints_question`.
 #![tactic(auto)]
 
 mod event;

@@ -12,7 +12,7 @@ use crate::likeness::{put_text_likeness, without_mark};
 use crate::line::line_after;
 use crate::partial::partial_place;
 use crate::trace::trace_place;
-use crate::walk::{Walk, after_name, ending};
+use crate::walk::{Walk, ending};
 use crate::wanted::{Wanted, put_wanted};
 use crate::way::{barred_place, line_place, word_place};
 use fmp_bytes::{Class, all_of, is_identifier, skip, split_prefix};
@@ -21,7 +21,7 @@ use fmp_cli_diagnostics::Spot;
 use fmp_cli_help::put_text_advice;
 use fmp_codes::{ArgumentKind, ObjectKind};
 use fmp_out::Text;
-use fmp_text::{Names, TextFault, TextKind, without_return};
+use fmp_text::{Names, TextFault, TextKind, call_after, without_return};
 use std::alloc::{AllocError, Global};
 
 /// The texts that are read beside a configuration.
@@ -51,11 +51,14 @@ pub(crate) fn step_place<'a>(names: &Names, text: &'a [u8]) -> Walk<'a> {
         return function_place(skip(Class::Blank, rest));
     }
     if word == b"end".as_slice() {
-        return ending(Wanted::LineEnd, Walk::going(rest));
+        return ending(Wanted::LineEnd, rest);
     }
-    match find_call(word) {
-        Some(call) => after_name(names, call, rest),
-        None => Walk::stuck(text, Wanted::Step),
+    let Some(call) = find_call(word) else {
+        return Walk::stuck(text, Wanted::Step);
+    };
+    match call_after(names, call, rest) {
+        Ok(_call) => Walk::going(&[]),
+        Err(misfit) => Walk::refused(misfit),
     }
 }
 

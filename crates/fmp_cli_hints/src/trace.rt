@@ -4,13 +4,13 @@ ghost use Rattle.std.specs.Option.{option_copied, option_map_or};
 ghost use Rattle.fmp_bytes.specs.Bytes.{cut_at};
 
 use crate::partial::is_told;
-use crate::walk::{Walk, after_name};
-use crate::wanted::Wanted;
+use crate::walk::Walk;
+use crate::wanted::{Wanted, wanted_of};
 use fmp_bytes::{Class, cut, following, skip, split_prefix};
 use fmp_calls::{find_call, form};
 use fmp_codes::{Call, Event, NameKind, ObjectKind, Proc, Record};
 use fmp_out::Text;
-use fmp_text::{Names, TextKind, processor_in, read_call};
+use fmp_text::{Names, TextKind, call_after, processor_in};
 use fmp_trace::{
     guess_event, put_answer, put_event, put_lost, put_releases, put_requests, put_run_change,
 };
@@ -140,19 +140,17 @@ fn compared<'a>(printed: &[u8], call: Call, written: &[u8], text: &'a [u8]) -> W
     }
 }
 
-/// Goes on over a written call that can be read, where it is printed so.
-fn read_so<'a>(
+/// Goes on over a written call that was read, where it is printed so.
+fn printed_so<'a>(
     alloc: Global,
     names: &Names,
+    call: Call,
     written: &[u8],
     text: &'a [u8],
 ) -> Result<Walk<'a>, AllocError>
     requires { length written.now ≤ length text.now }
     ensures within { IfOk result (λ w. length w.rest ≤ length text.now) }
 {
-    let Ok(call) = read_call(written, names) else {
-        return Ok(Walk::stuck(text, Wanted::Happening));
-    };
     let mut printed = Vec::new(alloc);
     put_event(&mut printed, names, Event::Call(Proc::new(1), call))?;
     Ok(compared(printed.as_slice(), call, written, text))
@@ -168,13 +166,12 @@ fn called<'a>(
     ensures within { IfOk result (λ w. length w.rest ≤ length text.now) }
 {
     let written = call_part(text);
-    let walk = after_name(names, call, skip(Class::Word, written));
-    match walk.wanted() {
-        Some(wanted) => {
-            let place = written.len().saturating_sub(walk.rest().len());
-            Ok(Walk::stuck(&text[place..], wanted))
+    match call_after(names, call, skip(Class::Word, written)) {
+        Ok(call) => printed_so(alloc, names, call, written, text),
+        Err(misfit) => {
+            let place = written.len().saturating_sub(misfit.rest.len());
+            Ok(Walk::stuck(&text[place..], wanted_of(misfit)))
         }
-        None => read_so(alloc, names, written, text),
     }
 }
 

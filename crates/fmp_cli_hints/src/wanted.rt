@@ -1,9 +1,11 @@
 //! What is wanted at a place of a text.
+ghost use Rattle.std.specs.Prelude.{◌≡◌};
+ghost use Rattle.fmp_cli_hints.specs.Places as spec;
 
 use fmp_cli_help::{put_argument, put_call};
 use fmp_codes::{ArgumentKind, Call, Event, Proc};
 use fmp_out::Text;
-use fmp_text::Names;
+use fmp_text::{Misfit, Names, Wanted as EventWanted};
 use fmp_trace::put_event;
 use std::alloc::{AllocError, Global};
 
@@ -82,6 +84,34 @@ pub enum Wanted {
     LogLine,
     /// Fewer lines before this one that may come after it.
     FewUnderWay,
+}
+
+/// What is wanted in place of a byte that may not stand in a line, which begins the text.
+pub(crate) fn byte_wanted(text: &[u8]) -> Wanted
+    ensures { result ≡ spec.byte_wanted text.now }
+{
+    match text {
+        [b';', ..] => Wanted::NoStop,
+        [b'#' | b'/', ..] => Wanted::NoComment,
+        [b'&', ..] => Wanted::NoAddress,
+        [b'<' | b'>' | b'|' | b'+' | b'~', ..] => Wanted::NoSum,
+        _ => Wanted::LineByte,
+    }
+}
+
+/// What is wanted where a line of events, or a call, is refused.
+pub(crate) fn wanted_of(misfit: Misfit<'_>) -> Wanted
+    ensures { result ≡ spec.event_wanted misfit.entry.rest.now misfit.entry.wanted }
+{
+    match misfit.wanted {
+        EventWanted::LineByte => byte_wanted(misfit.rest),
+        EventWanted::Processor => Wanted::Processor,
+        EventWanted::Happening => Wanted::Happening,
+        EventWanted::LineEnd => Wanted::LineEnd,
+        EventWanted::Mark(call, byte) => Wanted::Mark(call, byte),
+        EventWanted::Argument(call, kind) => Wanted::Argument(call, kind),
+        EventWanted::CallEnd(call) => Wanted::CallEnd(call),
+    }
 }
 
 /// What stands before what is wanted.

@@ -1,9 +1,8 @@
 //! Where a line of a script text is at fault that says where its script goes on.
 
-use crate::event::barred;
 use crate::text::step_place;
 use crate::walk::{Walk, ending};
-use crate::wanted::Wanted;
+use crate::wanted::{Wanted, byte_wanted};
 use fmp_bytes::{Class, all_of, following, is_identifier, skip, spelled_number, split_prefix};
 use fmp_codes::Code;
 use fmp_text::Names;
@@ -38,6 +37,11 @@ pub(crate) fn is_code(word: &[u8]) -> bool {
         }
     }
     false
+}
+
+/// From a byte on that may not stand in a line.
+fn barred<'a>(text: &'a [u8]) -> Walk<'a> {
+    Walk::stuck(text, byte_wanted(text))
 }
 
 /// From a byte on that stands in no line of a script text: one of those with which C programs set variables and put statements together, in a line
@@ -102,7 +106,7 @@ pub(crate) fn word_place<'a>(text: &'a [u8]) -> Walk<'a> {
 fn name_place<'a>(text: &'a [u8]) -> Walk<'a> {
     let (name, rest) = split_prefix(Class::Word, text);
     if is_identifier(name) && !is_taken(name) {
-        ending(Wanted::LineEnd, Walk::going(rest))
+        ending(Wanted::LineEnd, rest)
     } else {
         Walk::stuck(text, Wanted::LabelName)
     }

@@ -153,7 +153,7 @@ gone_over call n (kind ∷ kinds) text read tail least e closed =
     let s = bind_parts (start call n text) (λ first. argument call kind first >>= λ rest. arguments call (n + 1) kinds rest >>= λ others. Ok (first ∷ others.0, others.1)) read e in
     let a = bind_parts (argument call kind s.0) (λ rest. arguments call (n + 1) kinds rest >>= λ others. Ok (s.0 ∷ others.0, others.1)) read s.2 in
     let o = bind_parts (arguments call (n + 1) kinds a.0) (λ others. Ok (s.0 ∷ others.0, others.1)) read a.2 in
-    subst (λ (r : List (List ℕ) × List ℕ). r.1 ≡ prefix Blank r.1 ++ (41 ∷ tail) → AfterPieces (tokens_of r.0) text (41 ∷ tail) × (length r.0 ≡ suc (length kinds))) (ok_is (s.0 ∷ o.0.0, o.0.1) read o.2)
+    subst (λ (r : List (List ℕ) × List ℕ). r.1 ≡ prefix Blank r.1 ++ (41 ∷ tail) → AfterPieces (tokens_of r.0) text (41 ∷ tail) × (length r.0 ≡ suc (length kinds))) {x = (s.0 ∷ o.0.0, o.0.1)} (ok_is (s.0 ∷ o.0.0, o.0.1) read o.2)
     (λ closed. with_first s.0 a.0 o.0 (start_parts call n text s.0 least s.1) (argument_parts call kind s.0 a.0 a.1) (gone_over call (n + 1) kinds a.0 o.0 tail (omega arith) o.1 closed)) closed
   where
     with_first : (first rest : List ℕ) (others : List (List ℕ) × List ℕ) → ((inner : List ℕ) × (text ≡ prefix Blank text ++ (44 ∷ inner)) × (inner ≡ prefix Blank inner ++ first))
@@ -181,7 +181,7 @@ inner_parts call [] text read tail e closed =
 inner_parts call (kind ∷ kinds) text read tail e closed =
     let a = bind_parts (argument call kind (after Blank text)) (λ rest. arguments call 1 kinds rest >>= λ others. Ok (after Blank text ∷ others.0, others.1)) read e in
     let o = bind_parts (arguments call 1 kinds a.0) (λ others. Ok (after Blank text ∷ others.0, others.1)) read a.2 in
-    subst (λ (r : List (List ℕ) × List ℕ). r.1 ≡ prefix Blank r.1 ++ (41 ∷ tail) → (inner : List ℕ) × AreArguments (tokens_of r.0) inner × (text ≡ inner ++ (41 ∷ tail)) × (length r.0 ≡ suc (length kinds)))
+    subst (λ (r : List (List ℕ) × List ℕ). r.1 ≡ prefix Blank r.1 ++ (41 ∷ tail) → (inner : List ℕ) × AreArguments (tokens_of r.0) inner × (text ≡ inner ++ (41 ∷ tail)) × (length r.0 ≡ suc (length kinds))) {x = (after Blank text ∷ o.0.0, o.0.1)}
     (ok_is (after Blank text ∷ o.0.0, o.0.1) read o.2)
     (λ closed. with_first a.0 o.0 (argument_parts call kind (after Blank text) a.0 a.1) (gone_over call 1 kinds a.0 o.0 tail (omega arith) o.1 closed)) closed
   where

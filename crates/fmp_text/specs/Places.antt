@@ -36,8 +36,6 @@ abbrev pub faults_at : {A : Type 0} → List ℕ → Wanted → Result A TextKin
 faults_at rest wanted (Ok x) = Ok x
 faults_at rest wanted (Err kind) = Err (fault_at kind rest wanted)
 
--- ---- the form of a call
-
 -- blanks, and a byte
 unfoldable pub mark : Call → ℕ → List ℕ → Result (List ℕ) Place
 mark call byte text = ok_or (following byte (after Blank text)) (fault_at WrongArguments (after Blank text) (wants.Mark call byte))
@@ -79,8 +77,6 @@ enclosed call kinds text = do
 unfoldable pub formed : Call → List ℕ → Result (List (List ℕ)) Place
 formed call text = if is_bare call then (ending (wants.CallEnd call) text >>= λ end. Ok []) else enclosed call (kinds_of call) text
 
--- ---- a call
-
 -- the value of the argument that begins a text
 unfoldable pub value : NameLists → Call → ArgumentKind → List ℕ → Result Value Place
 value names call kind text = faults_at text (wants.Argument call kind) (value_at names kind (prefix Argument text))
@@ -106,8 +102,6 @@ unfoldable pub call_at : NameLists → List ℕ → Result Call Place
 call_at names text = do
   call ← ok_or (named (prefix Word text)) (fault_at BadWord text wants.Happening)
   call_after names call (after Word text)
-
--- ---- a line
 
 -- an event without arguments, with what follows its word
 abbrev pub alone : Event → List ℕ → Result Event Place
@@ -135,8 +129,6 @@ unfoldable pub line_event : NameLists → List ℕ → Result (Option Event) Pla
 line_event names line =
     if is_skipped (without_return line) then Ok None
     else (event_in names (without_return line) >>= λ event. Ok (Some event))
-
--- ---- what a function returns
 
 abbrev pub place_of : Misfit → Place
 place_of misfit = fault_at misfit.kind misfit.rest.now misfit.wanted

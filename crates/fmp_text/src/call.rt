@@ -27,8 +27,8 @@ fn value<'a>(
     let (token, _rest) = split_prefix(Class::Argument, text);
     match value_at(names, kind, token) {
         Ok(value) => Ok(value),
-        Err(kind_of_fault) => Err(Misfit {
-            kind: kind_of_fault,
+        Err(fault) => Err(Misfit {
+            kind: fault,
             rest: text,
             wanted: Wanted::Argument(call, kind),
         }),
