@@ -4,7 +4,8 @@ use Rattle.std.specs.Prelude.{map}
 use Rattle.std.specs.List.{list_all}
 use Rattle.fmp_names.specs.Names.{AreValid}
 use Rattle.fmp_rules.specs.Arrivals.{numbered}
-use Rattle.fmp_search_lines.specs.Answers.{SaysOrders}
+use Rattle.fmp_kernel_order.specs.Queues.{listed}
+use Rattle.fmp_search_lines.specs.Answers.{FillsRoom, SaysOrders}
 use Rattle.fmp_search_lines.specs.Lasts.{last_at, must_at}
 use Rattle.fmp_search_lines.specs.declared.searching.Orders.{Orders}
 use Rattle.fmp_search_lines.specs.declared.searching.Orders.TheVariants as orders
@@ -13,13 +14,13 @@ use Rattle.fmp_text.specs.Limits.{most_events}
 use Rattle.fmp_text.specs.declared.fault.TextFault.{TextFault}
 use Rattle.fmp_text.specs.declared.fault.TextKind.TheVariants.{TooMany}
 use Rattle.fmp_trace_orders.specs.Lines.{AreLinesOf, lasts_from, lines_of, must_of}
-use Rattle.fmp_trace_orders.specs.Playing.{at_booted, plays}
+use Rattle.fmp_trace_orders.specs.Playing.{at_boot, at_booted, plays}
 use Rattle.fmp_trace_orders.specs.declared.lines.Lines.{Lines}
 use Rattle.fmp_trace_partial.specs.declared.telling.Said.{Said}
 use Rattle.fmp_trace_partial.proofs.SaidTexts.{read_says}
 use Rattle.fmp_run_partial.specs.Following.{is_plain}
 use Rattle.fmp_run_partial.specs.Partials.{IsOfOrders}
-use Rattle.fmp_run_partial.specs.Verdicts.{JudgesOrders, SaysOfOrders, StandsSo}
+use Rattle.fmp_run_partial.specs.Verdicts.{most_places, JudgesOrders, SaysOfOrders, StandsSo}
 use Rattle.fmp_run_partial.specs.declared.verdict.Found.{Found}
 use Rattle.fmp_run_partial.specs.declared.verdict.Found.TheVariants as found
 
@@ -41,6 +42,14 @@ module _ (c : Setup) (text : List ℕ) (lines : Lines) (are : AreLinesOf c.names
       subst (λ (n : ℕ). SaysOrders (plays numbered) (last_at (lasts_from 0 are.said)) n (must_at (map must_of are.said)) (at_booted c (lines_of text)) o) long
       (subst (λ (xs : List ℕ). SaysOrders (plays numbered) (last_at xs) (length lines.lasts.items) (must_at (map must_of are.said)) (at_booted c (lines_of text)) o) lasts
       (subst (λ (bs : List Bool). SaysOrders (plays numbered) (last_at lines.lasts.items) (length lines.lasts.items) (must_at bs) (at_booted c (lines_of text)) o) musts says))
+
+  full_of_said : (room : ℕ) (o : Orders) → FillsRoom (plays listed) (last_at lines.lasts.items) (length lines.lasts.items) (at_boot c (lines_of text)) room o
+      → FillsRoom (plays listed) (last_at (lasts_from 0 are.said)) (length are.said) (at_boot c (lines_of text)) room o
+  full_of_said room o full =
+      let lasts = are.so.lasts in
+      let long : length lines.lasts.items ≡ length are.said = ap (λ (xs : List ℕ). length xs) lasts ∙ length-lasts_from 0 are.said in
+      subst (λ (n : ℕ). FillsRoom (plays listed) (last_at (lasts_from 0 are.said)) n (at_boot c (lines_of text)) room o) long
+      (subst (λ (xs : List ℕ). FillsRoom (plays listed) (last_at xs) (length lines.lasts.items) (at_boot c (lines_of text)) room o) lasts full)
 
   few_lines : AreValid c.names → length lines.lasts.items ≤ most_events
   few_lines valid =
@@ -67,8 +76,10 @@ module _ (c : Setup) (text : List ℕ) (lines : Lines) (are : AreLinesOf c.names
         let told = subst (SaysOrders (plays numbered) (last_at (lasts_from 0 are.said)) (length are.said) (must_at (map must_of are.said)) (at_booted c (lines_of text))) is (says_of_said o says) in
         judges (found.No (n + 1)) order.items (n, refl, told.0, told.1, told.2)
 
-    pub not_known : (order : List ℕ) → order ≡ [] → JudgesOrders c text found.NotKnown order
-    not_known order none = judges found.NotKnown order none
+    pub not_known : (o : Orders) (order : List ℕ) → o ≡ orders.NotKnown → order ≡ []
+        → FillsRoom (plays listed) (last_at lines.lasts.items) (length lines.lasts.items) (at_boot c (lines_of text)) most_places o → JudgesOrders c text found.NotKnown order
+    not_known o order is none full =
+        judges found.NotKnown order (none, subst (FillsRoom (plays listed) (last_at (lasts_from 0 are.said)) (length are.said) (at_boot c (lines_of text)) most_places) is (full_of_said most_places o full))
 
   pub crowded_fault : (o : Orders) (j : ℕ) (fault : TextFault) → o ≡ orders.Crowded j → fault ≡ record { kind = TooMany; line = j + 1 }
       → SaysOrders (plays numbered) (last_at lines.lasts.items) (length lines.lasts.items) (must_at lines.musts.items) (at_booted c (lines_of text)) o → IsOfOrders c.names text fault

@@ -9,6 +9,7 @@ use Rattle.fmp_names.specs.Names.{AreValid}
 use Rattle.fmp_setup.specs.Setup.{Setup}
 use Rattle.fmp_text.specs.Limits.{most_events}
 use Rattle.fmp_text.specs.declared.fault.TextFault.{TextFault}
+use Rattle.fmp_search_lines.proofs.Runs.{few_within}
 use Rattle.fmp_trace_orders.specs.Lines.{AreLinesOf, lines_of}
 use Rattle.fmp_trace_orders.specs.Playing.{line_from}
 use Rattle.fmp_trace_orders.specs.declared.lines.Lines.{Lines}
@@ -22,7 +23,6 @@ use Rattle.fmp_run_partial.specs.Verdicts.{JudgesLines}
 use Rattle.fmp_run_partial.specs.declared.telling.Told.{Told}
 use Rattle.fmp_run_partial.specs.declared.verdict.Found.{Found}
 use Rattle.fmp_run_partial.specs.declared.verdict.Found.TheVariants as found
-use Rattle.fmp_run_partial.proofs.Few.{few_within}
 
 ok_same : (a b : List Said) → ◌≡◌ {A = Result (List Said) TextFault} (Ok a) (Ok b) → a ≡ b
 ok_same a b e = cc
@@ -112,4 +112,4 @@ module _ (c : Setup) (text : List ℕ) where
       let few = few_said valid judges.said judges.read in
       let within = few_within _ _ order judges.says.4.within in
       omega (arith, few, within)
-  has_few valid found.NotKnown (Some order) judges = let none : length order ≡ 0 = ap length judges.says in omega (arith, none)
+  has_few valid found.NotKnown (Some order) judges = let none : length order ≡ 0 = ap length judges.says.0 in omega (arith, none)

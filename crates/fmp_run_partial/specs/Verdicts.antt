@@ -10,9 +10,11 @@ use Rattle.fmp_trace_check.specs.declared.checking.Verdict.TheVariants.{Yes, No}
 use Rattle.fmp_rules.specs.Arrivals.{numbered}
 use Rattle.fmp_rules.specs.Boot.{booted}
 use Rattle.fmp_rules.specs.Step.{answers}
+use Rattle.fmp_kernel_order.specs.Queues.{listed}
 use Rattle.fmp_names.specs.Names.{NameLists}
 use Rattle.fmp_search_lines.specs.Lasts.{last_at, must_at}
 use Rattle.fmp_search_lines.specs.Orders.{IsFirstWithout, IsRight}
+use Rattle.fmp_search_lines.specs.Places.{HasMorePlaces}
 use Rattle.fmp_setup.specs.Setup.{Setup}
 use Rattle.fmp_run_partial.specs.Endings.{IsBody}
 use Rattle.fmp_run_partial.specs.Following.{is_plain}
@@ -25,7 +27,7 @@ use Rattle.fmp_run_partial.specs.declared.showing.Shown.{Shown}
 use Rattle.fmp_run_partial.specs.Showing.{events_of, IsShown}
 use Rattle.fmp_run_partial.specs.Written.{verdict_to}
 use Rattle.fmp_trace_orders.specs.Lines.{is_open, lasts_from, lines_of, must_of}
-use Rattle.fmp_trace_orders.specs.Playing.{at_booted, plays}
+use Rattle.fmp_trace_orders.specs.Playing.{at_boot, at_booted, plays}
 use Rattle.fmp_trace.specs.Fits.{FitsNames}
 use Rattle.fmp_text.specs.Limits.{most_bytes, most_events}
 use Rattle.fmp_trace_partial.specs.Partial.{kept_text}
@@ -100,6 +102,10 @@ FollowedSays c text followed.Yes = StandsSo c text true × JudgesPartly c text Y
 FollowedSays c text (followed.No k) = StandsSo c text true × JudgesPartly c text (No k)
 FollowedSays c text followed.Ordered = StandsSo c text false
 
+-- for how many places of a search for an order there is room besides the first
+abbrev pub most_places : ℕ
+most_places = 4000000
+
 -- what was found of the orders of the lines, which say this, and an order that bears it out: within their bounds it has each line that has to be taken, and
 -- each of its lines is the machine's own for the events of that order; or it has those of the first lines, so many less one, and with the next there is none
 abbrev pub SaysOfOrders : Setup → List ℕ → List Said → Found → List ℕ → Type 0
@@ -108,7 +114,8 @@ SaysOfOrders c text said found.Yes order =
 SaysOfOrders c text said (found.No k) order = (n : ℕ) × (k ≡ n + 1) × (n < length said)
     × IsFirstWithout (plays numbered) (last_at (lasts_from 0 said)) (length said) (must_at (map must_of said)) (at_booted c (lines_of text)) n
     × IsRight (plays numbered) (last_at (lasts_from 0 said)) (length said) (must_at (map must_of said)) n (at_booted c (lines_of text)) order
-SaysOfOrders c text said found.NotKnown order = order ≡ []
+SaysOfOrders c text said found.NotKnown order =
+    (order ≡ []) × HasMorePlaces (plays listed) (last_at (lasts_from 0 said)) (length said) (at_boot c (lines_of text)) most_places
 
 -- the verdict on lines of which some say something of orders, by an order of them
 pub record JudgesOrders (c : Setup) (text : List ℕ) (v : Found) (order : List ℕ) : Type 0 where

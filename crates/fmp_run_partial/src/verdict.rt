@@ -37,7 +37,7 @@ pub enum PartialVerdict {
     YesTo(u32),
     /// This line is the first that is not, or with which there is no such order.
     No(u32),
-    /// Not known: there are more orders than there was room for. No clause says when this is the verdict.
+    /// Not known: the orders lead to more places than there is room for.
     NotKnown,
 }
 

@@ -100,7 +100,7 @@ module _ {S : Type 0} (plays : S → ℕ → Option S) (h : Held S) where
       run (after plays (last_at h.lasts) h.count) p (s ∷ ss) ≡ Some q
   run_more s ss p t q goes leads = rw goes leads
 
-  to_place : (steps : List ℕ) (p : Place S) (r : Held S) → run (next plays) (with_place h p) steps ≡ Some r →
+  pub to_place : (steps : List ℕ) (p : Place S) (r : Held S) → run (next plays) (with_place h p) steps ≡ Some r →
       (q : Place S) × (run (after plays (last_at h.lasts) h.count) p steps ≡ Some q) × (with_place h q ≡ r)
   to_place [] p r e = (p, refl, same_some _ _ e)
   to_place (s ∷ ss) p r e =

@@ -1,5 +1,5 @@
 -- What a search for the lines before a goal says.
-use Rattle.std.proofs.Common.{◌≡◌, ℕ, ◌<◌, Bool, Option, List, [], length, refl, sym, subst, arith}
+use Rattle.std.proofs.Common.{◌≡◌, ℕ, ◌+◌, ◌<◌, Bool, Option, List, [], length, refl, sym, subst, arith}
 use Rattle.std.proofs.lemmas.Bool.{cases_lt}
 use Rattle.fmp_search.specs.declared.exploring.Answer.{Answer}
 use Rattle.fmp_search.specs.declared.exploring.Answer.TheVariants as answer
@@ -9,6 +9,7 @@ use Rattle.fmp_search_lines.specs.Held.{Held, held, is_reached, next, TakersSay}
 use Rattle.fmp_search_lines.specs.Lasts.{last_at, must_at}
 use Rattle.fmp_search_lines.specs.Orders.{HasAll, IsBeginning, IsRight}
 use Rattle.fmp_search_lines.specs.Places.{lines_of}
+use Rattle.fmp_search_lines.proofs.Filled.{is_full}
 use Rattle.fmp_search_lines.proofs.Held.{takers_say}
 use Rattle.fmp_search_lines.proofs.Sets.{either, not_both}
 
@@ -45,21 +46,22 @@ module _ {S : Type 0} (plays : S → ℕ → Option S) (lasts : List ℕ) (musts
     all = has_less (must_at musts) goal end ends is.order is.all;
   }
 
-  pub says_goal : (turns room : ℕ) (a : Answer) → Says (next plays) is_reached (held lasts musts (length lasts) end 0 [] s) turns room a →
-      SaysGoal plays (last_at lasts) (length lasts) (must_at musts) s goal a
-  says_goal turns room (answer.Found steps) h =
+  pub says_goal : (turns room : ℕ) (a : Answer) → turns ≡ length lasts + 1 → Says (next plays) is_reached (held lasts musts (length lasts) end 0 [] s) turns room a →
+      SaysGoal plays (last_at lasts) (length lasts) (must_at musts) s goal room a
+  says_goal turns room (answer.Found steps) long h =
       right_goal (lines_of (last_at lasts) (length lasts) steps.items) (say.found steps.items h.1.place h.1.leads h.1.is_wanted)
-  says_goal turns room answer.Never none = λ few begins. say.never few none (beginning_end begins)
-  says_goal turns room (answer.NotWithin n) h = tt
-  says_goal turns room (answer.Wanting n) h = tt
-  says_goal turns room (answer.Ended n) h = tt
+  says_goal turns room answer.Never long none = λ few begins. say.never few none (beginning_end begins)
+  says_goal turns room (answer.NotWithin n) long h =
+      is_full plays (held lasts musts (length lasts) end 0 [] s) s turns room n long h.1
+  says_goal turns room (answer.Wanting n) long h = tt
+  says_goal turns room (answer.Ended n) long h = tt
 
 -- what a search of one who begins there says
 pub told_goal : {S : Type 0} (plays : S → ℕ → Option S) (lasts : List ℕ) (musts : List Bool) (goal end : ℕ) (s : S) → EndsMusts (must_at musts) goal end →
-    (h : Held S) → h ≡ held lasts musts (length lasts) end 0 [] s → (turns room : ℕ) (a : Answer) → Says (next plays) is_reached h turns room a →
-    SaysGoal plays (last_at lasts) (length lasts) (must_at musts) s goal a
-told_goal plays lasts musts goal end s ends h e turns room a said =
-    says_goal plays lasts musts goal end s ends turns room a (subst (λ (q : Held _). Says (next plays) is_reached q turns room a) e said)
+    (h : Held S) → h ≡ held lasts musts (length lasts) end 0 [] s → (turns room : ℕ) (a : Answer) → turns ≡ length lasts + 1 →
+    Says (next plays) is_reached h turns room a → SaysGoal plays (last_at lasts) (length lasts) (must_at musts) s goal room a
+told_goal plays lasts musts goal end s ends h e turns room a long said =
+    says_goal plays lasts musts goal end s ends turns room a long (subst (λ (q : Held _). Says (next plays) is_reached q turns room a) e said)
 
 -- the order without a line
 pub starts : {S : Type 0} (plays : S → ℕ → Option S) (last : ℕ → ℕ) (count : ℕ) (must : ℕ → Bool) (s : S) → IsRight plays last count must 0 s []

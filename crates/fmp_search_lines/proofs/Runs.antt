@@ -11,6 +11,7 @@ use Rattle.fmp_search_lines.specs.Places.{lines_from, lines_of, top_after, pendi
 use Rattle.fmp_search_lines.proofs.Sets.{either, has-nil, has-here, has-later, has-cases, has-append, has-left, has-right, has-numbers, numbers-have}
 use Rattle.fmp_search_lines.proofs.Sets.{length-numbers, may_pass-all, all-may_pass, without-less, less-without, at-has, has-at, not_both, to_false}
 use Rattle.fmp_search_lines.proofs.Sets.{length-without, apart-without, apart-append}
+use Rattle.fmp_search_lines.proofs.Crowds.{no_more}
 
 some_same : {A : Type 0} (a b : A) → Some a ≡ Some b → a ≡ b
 some_same a b h = search rules
@@ -213,6 +214,20 @@ module _ {S : Type 0} (play : S → ℕ → Option S) (last : ℕ → ℕ) (coun
       let first = takes taken q one.0 s stands one.1 in
       takes_first taken q one.0 r s ss first (takes_all ss (first.line ∷ taken) one.0 r first.stands one.2)
 
+  -- each step of a run takes a line
+  as_long : (steps : List ℕ) (taken : List ℕ) (q r : Place S) → Stands last count taken q.top q.pending → run (after play last count) q steps ≡ Some r →
+      length (lines_from last count q.top q.pending steps) ≡ length steps
+  unfolding lines_from
+  as_long [] taken q r stands h = refl
+  as_long (s ∷ ss) taken q r stands h =
+      let one = first_step (after play last count q s) r ss h in
+      let first = takes taken q one.0 s stands one.1 in
+      let rest = as_long ss (first.line ∷ taken) one.0 r first.stands one.2 in
+      let lines : lines_from last count q.top q.pending (s ∷ ss) ≡ first.line ∷ lines_from last count one.0.top one.0.pending ss =
+      rw (first.is_line, first.top, first.pending) refl in
+      let long = ap (λ (xs : List ℕ). length xs) lines in
+      omega (arith, long, rest)
+
   -- a pending list that is short, without a line twice
   record Neat (pending : List ℕ) : Type 0 where
     short : length pending ≤ most
@@ -352,6 +367,24 @@ took-has (j ∷ js) taken i h = took-has js (j ∷ taken) i (either
     (λ b. inr (has-later j i taken b))
     h)
 
+-- lines that were taken, and those of an order after them, are no more than there are
+few_taken : (last : ℕ → ℕ) (count : ℕ) (taken order : List ℕ) → AreApart taken → ((i : ℕ) → has taken i ≡ true → i < count) → AreWithin last count taken order →
+    length taken + length order ≤ count
+few_taken last count taken [] apart low within =
+    let few = no_more taken (numbers_from 0 count) apart (λ i t. let under = low i t in numbers-have 0 count i (omega arith) (omega (arith, under))) in
+    let long = length-numbers 0 count in
+    omega (arith, few, long)
+few_taken last count taken (j ∷ js) apart low within =
+    let rest = few_taken last count (j ∷ taken) js (within.0.new, apart)
+    (λ i t. either (λ e. subst (λ (x : ℕ). x < count) e within.0.line) (λ there. low i there) (has-cases j i taken t)) within.1 in
+    omega (arith, rest)
+
+-- an order of lines has no more of them than there are
+pub few_within : (last : ℕ → ℕ) (count : ℕ) (order : List ℕ) → AreWithin last count [] order → length order ≤ count
+few_within last count order within =
+    let few = few_taken last count [] order tt (λ i t. absurd (has-nil i t)) within in
+    omega (arith, few)
+
 at_origin : (last : ℕ → ℕ) (count : ℕ) → Stands last count [] 0 []
 at_origin last count = record {
   few = omega arith;
@@ -372,6 +405,13 @@ module _ {S : Type 0} (play : S → ℕ → Option S) (last : ℕ → ℕ) (coun
         all = λ i under free. either (λ a. a) (λ b. absurd (has-nil i b)) (has-took order [] i (all.stands.all i under free));
         no_more = λ i t. all.stands.gone i (took-has order [] i (inl t));
       }
+
+  -- no run has more steps than there are lines
+  pub short_run : (steps : List ℕ) (r : Place S) → run (after play last count) (origin s) steps ≡ Some r → length steps ≤ count
+  short_run steps r h =
+      let long = as_long play last count steps [] (origin s) r (at_origin last count) h in
+      let few = few_within last count (lines_of last count steps) (is_taken steps r h).within in
+      omega (arith, long, few)
 
   pub places_say : PlacesSay play last count s
   places_say = record {

@@ -4,6 +4,7 @@ use Rattle.std.specs.Prelude.{length, slice_get, if◌then◌else◌}
 use Rattle.std.specs.Option.{option_map, option_and_then}
 use Rattle.fmp_search.specs.Runs.{run}
 use Rattle.fmp_search.specs.Answers.{NoneEver}
+use Rattle.fmp_search.specs.Meeting.{IsFull}
 use Rattle.fmp_search_lines.specs.Orders.{has, most, numbers_from, AreWithin, FewOpen, IsBeginning, IsRight}
 
 -- the lines before the top were taken, but for those that are pending, and this is the state after them
@@ -98,6 +99,10 @@ pub record PlacesSay {S : Type 0} (play : S → ℕ → Option S) (last : ℕ �
   pub complete : FewOpen last count → (order : List ℕ) (t : S) → AreWithin last count [] order → run play s order ≡ Some t →
       (steps : List ℕ) × (r : Place S) × (run (after play last count) (origin s) steps ≡ Some r) × (r.state ≡ t) ×
       ((i : ℕ) → has order i ≡ true → (i < r.top) × (has r.pending i ≡ false))
+
+-- orders of right lines lead to so many places besides the first, no two of them the same, and to one more
+abbrev pub HasMorePlaces : {S : Type 0} → (S → ℕ → Option S) → (ℕ → ℕ) → ℕ → S → ℕ → Type 0
+HasMorePlaces play last count s room = IsFull (after play last count) (origin s) (count + 1) room
 
 -- ---- verdicts
 

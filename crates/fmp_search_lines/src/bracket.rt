@@ -1,8 +1,5 @@
 //! Goals between which the last one lies that is reached.
-ghost use Rattle.std.specs.Prelude.{◌≡◌, ◌<◌, ◌+◌, ◌-◌, true};
-ghost use Rattle.fmp_search_lines.specs.Goals.{Narrows};
-
-use fmp_search::Answer;
+ghost use Rattle.std.specs.Prelude.{◌≡◌, ◌<◌, ◌+◌, ◌-◌};
 
 /// Two goals, of which the low one is reached and the high one is not, and where to try next.
 #[derive(Clone, Copy)]
@@ -52,24 +49,27 @@ impl Bracket {
         self.stride.min((self.high - self.low) / 2)
     }
 
-    /// Takes in what a search for a goal between the two says. Where it does not know it says no.
-    pub(crate) fn narrow(&mut self, goal: u32, answer: &Answer) -> bool
+    /// Takes in that a goal between the two is reached.
+    pub(crate) fn rise(&mut self, goal: u32)
         requires above { self.old.low < goal }
         requires below { goal < self.old.high }
-        ensures { result ≡ true → Narrows answer.now goal self.old self.new }
+        ensures low { self.new.low ≡ goal }
+        ensures high { self.new.high ≡ self.old.high }
     {
-        match answer {
-            Answer::Found(_) => {
-                self.low = goal;
-                self.guess = goal + self.step();
-            }
-            Answer::Never => {
-                self.high = goal;
-                self.guess = goal - self.step();
-            }
-            Answer::NotWithin(_) | Answer::Wanting(_) | Answer::Ended(_) => return false,
-        }
+        self.low = goal;
+        self.guess = goal + self.step();
         self.stride = self.stride.saturating_mul(2);
-        true
+    }
+
+    /// Takes in that a goal between the two is never reached.
+    pub(crate) fn sink(&mut self, goal: u32)
+        requires above { self.old.low < goal }
+        requires below { goal < self.old.high }
+        ensures low { self.new.low ≡ self.old.low }
+        ensures high { self.new.high ≡ goal }
+    {
+        self.high = goal;
+        self.guess = goal - self.step();
+        self.stride = self.stride.saturating_mul(2);
     }
 }

@@ -86,7 +86,7 @@ pub(crate) fn search_goal<P: Player + Drop>(
 ) -> Result<(Answer, u32), AllocError>
     requires { length lasts.now ≤ 1000000 }
     ensures { IfOk result
-        (λ r. SaysGoal P.plays (last_at lasts.now) (length lasts.now) (must_at musts.now) (P.begins player.now) goal r.0) }
+        (λ r. SaysGoal P.plays (last_at lasts.now) (length lasts.now) (must_at musts.now) (P.begins player.now) goal most r.0) }
 {
     let end = last_must(musts, goal);
     let walker = taker_of(player, lasts, musts, end)?;

@@ -1,6 +1,6 @@
 //! The search for a right order of lines.
 ghost use Rattle.std.specs.Prelude.{◌≡◌, ◌≤◌, ◌<◌, ◌^◌, length, IfOk};
-ghost use Rattle.fmp_search_lines.specs.Answers.{SaysOrders};
+ghost use Rattle.fmp_search_lines.specs.Answers.{FillsRoom, SaysOrders};
 ghost use Rattle.fmp_search_lines.specs.Lasts.{last_at, must_at};
 ghost use Rattle.fmp_search_lines.specs.Orders.{FewOpen, IsBeginning};
 ghost use Rattle.fmp_search_lines.specs.Places.{lines_of};
@@ -22,7 +22,7 @@ pub enum Orders {
     Without(u32, Vec<u32>),
     /// At this line more than 16 lines before it may still come after it, and it is the first such line. Counted from 0.
     Crowded(u32),
-    /// Not known: there are more places than there is room or memory for. No clause says when this is the answer.
+    /// Not known: there are more places than there is room for.
     NotKnown,
 }
 
@@ -57,18 +57,22 @@ fn first_without<P: Player + Drop>(
     requires many { length lasts.now ≤ 1000000 }
     requires few { FewOpen (last_at lasts.now) (length lasts.now) }
     requires none { IsBeginning P.plays (last_at lasts.now) (length lasts.now) (must_at musts.now) (length lasts.now) (P.begins player.now) → ⊥ }
-    ensures { IfOk result (SaysOrders P.plays (last_at lasts.now) (length lasts.now) (must_at musts.now) (P.begins player.now)) }
+    ensures says { IfOk result (SaysOrders P.plays (last_at lasts.now) (length lasts.now) (must_at musts.now) (P.begins player.now)) }
+    ensures full { IfOk result (FillsRoom P.plays (last_at lasts.now) (length lasts.now) (P.begins player.now) most) }
 {
     let mut bracket = Bracket::up_to(lasts.len() as u32, guess);
     let mut before = Vec::new(alloc);
     while bracket.low + 1 < bracket.high {
         let goal = bracket.goal();
         let (answer, _reached) = search_goal(alloc, player, lasts, musts, goal, most)?;
-        if !bracket.narrow(goal, &answer) {
-            return Ok(Orders::NotKnown);
-        }
-        if let Answer::Found(steps) = &answer {
-            before = order_of(alloc, lasts, steps)?;
+        match &answer {
+            Answer::Found(steps) => {
+                before = order_of(alloc, lasts, steps)?;
+                bracket.rise(goal);
+            }
+            Answer::Never => bracket.sink(goal),
+            Answer::NotWithin(_) => return Ok(Orders::NotKnown),
+            Answer::Wanting(_) | Answer::Ended(_) => return Err(AllocError),
         }
     }
     Ok(Orders::Without(bracket.low, before))
@@ -85,7 +89,8 @@ pub fn search_orders<P: Player + Drop>(
     most: u32,
 ) -> Result<Orders, AllocError>
     requires { length lasts.now ≤ 1000000 }
-    ensures { IfOk result (SaysOrders P.plays (last_at lasts.now) (length lasts.now) (must_at musts.now) (P.begins player.now)) }
+    ensures says { IfOk result (SaysOrders P.plays (last_at lasts.now) (length lasts.now) (must_at musts.now) (P.begins player.now)) }
+    ensures full { IfOk result (FillsRoom P.plays (last_at lasts.now) (length lasts.now) (P.begins player.now) most) }
 {
     if let Some(line) = first_crowded(lasts) {
         return Ok(Orders::Crowded(line));
@@ -95,6 +100,7 @@ pub fn search_orders<P: Player + Drop>(
     match answer {
         Answer::Found(steps) => Ok(Orders::Right(order_of(alloc, lasts, &steps)?)),
         Answer::Never => first_without(alloc, player, lasts, musts, reached, most),
-        Answer::NotWithin(_) | Answer::Wanting(_) | Answer::Ended(_) => Ok(Orders::NotKnown),
+        Answer::NotWithin(_) => Ok(Orders::NotKnown),
+        Answer::Wanting(_) | Answer::Ended(_) => Err(AllocError),
     }
 }

@@ -8,7 +8,7 @@ use Rattle.fmp_setup.specs.Valid.{IsValid}
 use Rattle.fmp_rules.specs.Arrivals.{numbered}
 use Rattle.fmp_kernel_order.specs.Queues.{Queues, listed}
 use Rattle.fmp_text.specs.Limits.{most_events}
-use Rattle.fmp_search_lines.specs.Answers.{SaysOrders}
+use Rattle.fmp_search_lines.specs.Answers.{FillsRoom, SaysOrders}
 use Rattle.fmp_search_lines.specs.declared.searching.Orders.{Orders}
 use Rattle.fmp_trace_orders.specs.Lines.{AreLinesOf, lines_of}
 use Rattle.fmp_trace_orders.specs.Playing.{Playing, at_boot, at_booted, lines_from, line_from, plays}
@@ -43,3 +43,10 @@ judged c text lines w last count must answer valid names_valid known there says 
     answer_over (plays listed) (plays numbered) (at_boot c (lines_of text)) (at_booted c (lines_of text)) last count must
     (orders_match c (lines_of text) valid names_valid (few_lines c.names text known.said names_valid known.read)) answer
     (subst (λ (x : Playing Queues). SaysOrders (plays listed) last count must x answer) begins says)
+
+pub filled : (c : Setup) (text : List ℕ) (lines : Lines) (w : Playing Queues) (last : ℕ → ℕ) (count room : ℕ) (answer : Orders) → AreLinesOf c.names text lines →
+    w ≡ at_boot c (lines_from text lines.starts.items) → FillsRoom (plays listed) last count (begun w) room answer →
+    FillsRoom (plays listed) last count (at_boot c (lines_of text)) room answer
+filled c text lines w last count room answer known there full =
+    let begins : begun w ≡ at_boot c (lines_of text) = ap begun there ∙ ap (at_boot c) known.starts in
+    subst (λ (x : Playing Queues). FillsRoom (plays listed) last count x room answer) begins full
