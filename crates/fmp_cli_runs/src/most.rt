@@ -36,8 +36,8 @@ pub fn search_most<R: Source, S: Source, W: Sink, P: Progress>(
 
     // What it writes: how far everything goes in the orders by these rules. The status says of which orders that is known.
     ensures writes { WritesOut (λ c s old new status. (reach : AnyReach) × (status ≡ spec.status_of reach)
-        × IsTold c s (asked.rules_of request.now) request.now.bounds.turns.count old new reach)
-        (λ c s. IsBegun c s (asked.rules_of request.now) request.now.bounds.turns.count) RunFault.Write
+        × IsTold c s (asked.rules_of request.now) request.now.bounds.turns.count (request.now.bounds.places.count - 1) (P.over progress.new) old new reach)
+        (λ c s. IsBegun c s (asked.rules_of request.now) request.now.bounds.turns.count (request.now.bounds.places.count - 1) (P.over progress.new)) RunFault.Write
         (source_ends R.left R.failures config.old config.new) (source_ends S.left S.failures scripts.old scripts.new)
         (sink_ends W.written W.buffered W.failures output.old output.new) result }
 {

@@ -8,3 +8,4 @@ pub mod Same  -- A figure does not look at the order of tasks.
 pub mod Gauging  -- What one knows who gauges figures.
 pub mod Few  -- Numbers that are told apart.
 pub mod Listed  -- The figures of a configuration.
+pub mod Nearest  -- Orders of fewer lines, and then of a few more, until the room for places does not do.

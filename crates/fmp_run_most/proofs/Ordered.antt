@@ -81,3 +81,9 @@ module _ (c : Setup) (scripts : List Steps) (rules : Rules) (few turns : ℕ) (f
   most_nearer Whole so = record { as_many = so.as_many; most = λ k f at. later f (slice_index bounds k) (so.most k f at).0 }
   most_nearer Within so = record { as_many = so.as_many; most = λ k f at. later f (slice_index bounds k) (so.most k f at).0 }
   most_nearer Part so = record { as_many = so.as_many; most = λ k f at. later f (slice_index bounds k) (so.most k f at) }
+
+  -- what is known of all orders, or of all of so many lines, is known of all of so many
+  pub most_within : (reach : Reach) → (reach ≡ Part → ⊥) → AreMost c scripts rules few reach figures bounds → AreMost c scripts rules few Within figures bounds
+  most_within Whole known so = record { as_many = so.as_many; most = λ k f at. let is = so.most k f at in (is.0, λ h order short. is.1 h order) }
+  most_within Within known so = so
+  most_within Part known so = absurd (known refl)

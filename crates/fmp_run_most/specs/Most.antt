@@ -1,11 +1,12 @@
 -- How far a figure goes in all orders, and what is known of it.
-use Rattle.std.specs.Prelude.{◌≡◌, ℕ, ◌≤◌, false, List, length, Some, slice_get, slice_index}
+use Rattle.std.specs.Prelude.{◌≡◌, ℕ, ◌+◌, ◌/◌, ◌<◌, ◌≤◌, Bool, false, List, length, Some, slice_get, slice_index}
 use Rattle.fmp_codes.specs.declared.records.Record.{Record}
 use Rattle.fmp_setup.specs.Setup.{Setup}
 use Rattle.fmp_text_scripts.specs.Scripts.{Steps}
 use Rattle.fmp_smp_histories.specs.Histories.{state_after}
 use Rattle.fmp_search_orders.specs.declared.rules.Rules.{Rules}
 use Rattle.fmp_search_orders.specs.Orders.{IsOrder}
+use Rattle.fmp_search_orders.specs.Unknown.{IsNotKnown}
 use Rattle.fmp_run_texts.specs.declared.status.Status.{Status}
 use Rattle.fmp_run_texts.specs.declared.status.Status.TheVariants.{Done, Limit}
 use Rattle.fmp_run_most.specs.declared.figure.Figure.{Figure}
@@ -39,6 +40,22 @@ IsMost c scripts rules turns Part f n = IsReached c scripts rules turns f n
 pub record AreMost (c : Setup) (scripts : List Steps) (rules : Rules) (turns : ℕ) (reach : Reach) (figures : List Figure) (bounds : List ℕ) : Type 0 where
   pub as_many : length bounds ≡ length figures
   pub most : (k : ℕ) (f : Figure) → slice_get figures k ≡ Some f → IsMost c scripts rules turns reach f (slice_index bounds k)
+
+-- where not all orders of at most so many lines were gone through, the numbers are of all those of fewer, if all those of a line were; and not all those of a few lines
+-- more were, at most a quarter more and one
+pub record IsNearest (c : Setup) (scripts : List Steps) (rules : Rules) (turns room : ℕ) (over : Bool) (figures : List Figure) (bounds : List ℕ) : Type 0 where
+  pub lines : ℕ
+  pub most : 0 < lines → AreMost c scripts rules lines Within figures bounds
+  pub next : ℕ
+  pub more : lines < next
+  pub near : next ≤ lines + 1 + lines / 4
+  pub asked : next ≤ turns
+  pub stopped : IsNotKnown c scripts rules next room over
+
+-- how far figures go, and why no more is known, where that is of some orders
+pub record IsSettled (c : Setup) (scripts : List Steps) (rules : Rules) (turns room : ℕ) (over : Bool) (reach : Reach) (figures : List Figure) (bounds : List ℕ) : Type 0 where
+  pub most : AreMost c scripts rules turns reach figures bounds
+  pub part : reach ≡ Part → IsNearest c scripts rules turns room over figures bounds
 
 -- how the program ends after it
 abbrev pub status_of : Reach → Status

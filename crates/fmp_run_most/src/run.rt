@@ -5,7 +5,7 @@ ghost use Rattle.fmp_run_texts.specs.Owed.{OwesTexts, WritesOut};
 ghost use Rattle.fmp_run_texts.specs.Texts.{FirstConfigFault, FirstScriptFault};
 ghost use Rattle.fmp_run_most.specs.Runs.{IsBegun, IsTable, IsTold};
 
-use crate::settling::{Reach, settled, settled_nearer};
+use crate::settling::{Reach, settled};
 use crate::sizing::Sizing;
 use crate::table::table;
 use crate::things::figures_of;
@@ -28,7 +28,7 @@ fn told<P: Progress>(
     bounds: Bounds,
     progress: &mut P,
 ) -> Result<(Vec<u8>, Reach), AllocError>
-    ensures { IfOk result (λ r. IsTable config.now scripts.now rules bounds.turns.count r.0.items r.1) }
+    ensures { IfOk result (λ r. IsTable config.now scripts.now rules bounds.turns.count (bounds.places.count - 1) (P.over progress.new) r.0.items r.1) }
 {
     let none = Question::new(Vec::new(alloc));
     let figures = figures_of(alloc, config)?;
@@ -40,7 +40,6 @@ fn told<P: Progress>(
         figures: &figures,
     };
     let (most, reach) = settled(alloc, &sizing, progress, bounds)?;
-    let most = settled_nearer(alloc, &sizing, most, reach, progress, bounds)?;
     let text = table(
         alloc,
         config,
@@ -73,7 +72,8 @@ pub fn run_most<R: Source, S: Source, W: Sink, P: Progress>(
         (sink_ends W.written W.buffered W.failures output.old output.new) result result }
 
     // What it writes: the table of the one text's machine, by the other's scripts.
-    ensures writes { WritesOut (λ c s. IsTold c s rules bounds.turns.count) (λ c s. IsBegun c s rules bounds.turns.count) RunFault.Write
+    ensures writes { WritesOut (λ c s. IsTold c s rules bounds.turns.count (bounds.places.count - 1) (P.over progress.new))
+        (λ c s. IsBegun c s rules bounds.turns.count (bounds.places.count - 1) (P.over progress.new)) RunFault.Write
         (source_ends R.left R.failures config.old config.new) (source_ends S.left S.failures scripts.old scripts.new)
         (sink_ends W.written W.buffered W.failures output.old output.new) result }
 {

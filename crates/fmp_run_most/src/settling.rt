@@ -1,11 +1,12 @@
 //! The search for how far each figure goes.
-ghost use Rattle.std.specs.Prelude.{◌≡◌, ◌*◌, [], IfOk, IfSome, length, map, if◌then◌else◌};
+ghost use Rattle.std.specs.Prelude.{◌≡◌, ◌+◌, ◌-◌, ◌*◌, ◌/◌, ◌<◌, ◌≤◌, [], None, IfOk, IfSome, length, map, if◌then◌else◌};
 ghost use Rattle.fmp_search.specs.Meeting.{Meets};
 ghost use Rattle.fmp_search_orders.specs.Places as places;
+ghost use Rattle.fmp_search_orders.specs.Unknown.{IsNotKnown};
 ghost use Rattle.fmp_run_most.specs.Figures.{value};
 ghost use Rattle.fmp_run_most.specs.Gauged as spec;
 ghost use Rattle.fmp_run_most.specs.Most as known;
-ghost use Rattle.fmp_run_most.specs.Most.{AreMost};
+ghost use Rattle.fmp_run_most.specs.Most.{AreMost, IsSettled};
 
 use crate::gauge::{Gauge, SPAN};
 use crate::raising::raise;
@@ -13,7 +14,7 @@ use crate::sizing::Sizing;
 use crate::things::at_boot;
 use fmp_ranges::{Bounds, Turns};
 use fmp_run_texts::Status;
-use fmp_search::{Met, Progress, Space, meet};
+use fmp_search::{Met, Progress, meet};
 use std::alloc::{AllocError, Global};
 
 /// Of which orders something is known.
@@ -46,34 +47,6 @@ impl Reach {
     }
 }
 
-/// What `meet` gives, by these two pairs, for numbers below a count. It is of any space, since in a function of walkers, which borrow what they are asked, the
-/// check of these borrows takes minutes.
-fn met<W: Space + Drop, P: Progress>(
-    alloc: Global,
-    walkers: (W, W),
-    others: (W, W),
-    progress: &mut P,
-    within: Bounds,
-    count: usize,
-) -> Result<Option<Met>, AllocError>
-    requires origins { (W.origin walkers.1 ≡ W.origin walkers.0) × (W.origin others.0 ≡ W.origin walkers.0) × (W.origin others.1 ≡ W.origin walkers.0) }
-    ensures { IfOk result (λ o. IfSome o (Meets W.after W.tells (W.origin walkers.0) within.turns.count count)) }
-{
-    let (mut walker, mut base) = walkers;
-    let (mut other, mut trunk) = others;
-    meet(
-        alloc,
-        &mut walker,
-        &mut base,
-        &mut other,
-        &mut trunk,
-        progress,
-        within.turns.count,
-        within.places.count - 1,
-        count,
-    )
-}
-
 /// Two who gauge figures, where all runs begin.
 fn two_gauges<'a>(
     sizing: &Sizing<'a>,
@@ -90,7 +63,7 @@ fn two_gauges<'a>(
     Ok((first, second))
 }
 
-/// Which figures are beyond their bounds after events, the first after each.
+/// Which figures are beyond their bounds after events, the first after each. None only where the room for places was used up, or `progress` ended the search.
 fn beyond_met<P: Progress>(
     alloc: Global,
     sizing: &Sizing<'_>,
@@ -99,18 +72,28 @@ fn beyond_met<P: Progress>(
     within: Bounds,
 ) -> Result<Option<Met>, AllocError>
     requires { length bounds.now ≡ length sizing.now.figures.now }
-    ensures { IfOk result (λ o. IfSome o (Meets spec.gauged_after spec.gauged_number
+    ensures meets { IfOk result (λ o. IfSome o (Meets spec.gauged_after spec.gauged_number
         (spec.gauged sizing.now.figures.now bounds.now (places.origin sizing.now.config.now sizing.now.scripts.now sizing.now.rules [])) within.turns.count
         (length sizing.now.figures.now * spec.span))) }
+    ensures none { IfOk result (λ o. o ≡ None → IsNotKnown sizing.now.config.now sizing.now.scripts.now sizing.now.rules within.turns.count
+        (within.places.count - 1) (P.over progress.new)) }
 {
     let walkers = two_gauges(sizing, bounds)?;
     let others = two_gauges(sizing, bounds)?;
     let count = sizing.figures.len() * SPAN as usize;
-    met(alloc, walkers, others, progress, within, count)
+    meet(
+        alloc,
+        walkers,
+        others,
+        progress,
+        within.turns.count,
+        within.places.count - 1,
+        count,
+    )
 }
 
-/// Moves the bounds of figures, which are their numbers at boot, to how far the figures go, and tells of which orders that is. The error is want of
-/// memory.
+/// Moves the bounds of figures, which are their numbers at boot, to how far the figures go, and tells of which orders that is: of some only where the room
+/// for places was used up, or `progress` ended the search. The error is want of memory.
 fn settle<P: Progress>(
     alloc: Global,
     sizing: &Sizing<'_>,
@@ -119,7 +102,9 @@ fn settle<P: Progress>(
     within: Bounds,
 ) -> Result<Reach, AllocError>
     requires begin { bounds.old ≡ map (value (places.origin sizing.now.config.now sizing.now.scripts.now sizing.now.rules []).machine) sizing.now.figures.now }
-    ensures { IfOk result (λ reach. AreMost sizing.now.config.now sizing.now.scripts.now sizing.now.rules within.turns.count reach sizing.now.figures.now bounds.new) }
+    ensures most { IfOk result (λ reach. AreMost sizing.now.config.now sizing.now.scripts.now sizing.now.rules within.turns.count reach sizing.now.figures.now bounds.new) }
+    ensures part { IfOk result (λ reach. reach ≡ Reach.Part → IsNotKnown sizing.now.config.now sizing.now.scripts.now sizing.now.rules within.turns.count
+        (within.places.count - 1) (P.over progress.new)) }
 {
     let _names = sizing.config.names();
     let mut whole = true;
@@ -137,48 +122,79 @@ fn settle<P: Progress>(
 }
 
 /// How far the figures go, and of which orders that is, likewise.
-pub(crate) fn settled<P: Progress>(
+fn settled_within<P: Progress>(
     alloc: Global,
     sizing: &Sizing<'_>,
     progress: &mut P,
     within: Bounds,
 ) -> Result<(Vec<u16>, Reach), AllocError>
-    ensures { IfOk result (λ r. AreMost sizing.now.config.now sizing.now.scripts.now sizing.now.rules within.turns.count r.1 sizing.now.figures.now r.0.items) }
+    ensures most { IfOk result (λ r. AreMost sizing.now.config.now sizing.now.scripts.now sizing.now.rules within.turns.count r.1 sizing.now.figures.now r.0.items) }
+    ensures part { IfOk result (λ r. r.1 ≡ Reach.Part → IsNotKnown sizing.now.config.now sizing.now.scripts.now sizing.now.rules within.turns.count
+        (within.places.count - 1) (P.over progress.new)) }
 {
     let mut bounds = at_boot(alloc, sizing.config, sizing.figures)?;
     let reach = settle(alloc, sizing, &mut bounds, progress, within)?;
     Ok((bounds, reach))
 }
 
-/// Where the room for places did not do, how far they go in orders of fewer lines, as many as it does for, by steps that grow. What is known already is given, and stays
-/// where more is not known. The error is want of memory.
-pub(crate) fn settled_nearer<P: Progress>(
+/// How many lines are tried after so many: a quarter more and one, or as many as are asked for.
+fn more_lines(lines: u32, most: u32) -> u32
+    requires { (lines < most) × (most ≤ 1000000) }
+    ensures more { lines < result }
+    ensures near { result ≤ lines + 1 + lines / 4 }
+    ensures asked { result ≤ most }
+{
+    let more = lines + 1 + lines / 4;
+    if more < most { more } else { most }
+}
+
+/// How far they go in orders of fewer lines, as many as there is room for, by steps that grow. What is known of some orders is given, and stays where more
+/// is not known. The error is want of memory.
+fn settled_nearer<P: Progress>(
     alloc: Global,
     sizing: &Sizing<'_>,
     known: Vec<u16>,
-    reach: Reach,
     progress: &mut P,
     within: Bounds,
-) -> Result<Vec<u16>, AllocError>
-    requires known { AreMost sizing.now.config.now sizing.now.scripts.now sizing.now.rules within.turns.count reach sizing.now.figures.now known.items }
-    ensures { IfOk result (λ v. AreMost sizing.now.config.now sizing.now.scripts.now sizing.now.rules within.turns.count reach sizing.now.figures.now v.items) }
+) -> Result<(Vec<u16>, Reach), AllocError>
+    requires known { AreMost sizing.now.config.now sizing.now.scripts.now sizing.now.rules within.turns.count Reach.Part sizing.now.figures.now known.items }
+    ensures { IfOk result (λ r. IsSettled sizing.now.config.now sizing.now.scripts.now sizing.now.rules within.turns.count (within.places.count - 1)
+        (P.over progress.new) r.1 sizing.now.figures.now r.0.items) }
 {
-    if !matches!(reach, Reach::Part) {
-        return Ok(known);
-    }
     let mut best = known;
-    let mut lines = 1;
+    let mut reach = Reach::Part;
+    let mut lines = 0;
     while lines < within.turns.count {
+        let next = more_lines(lines, within.turns.count);
         let fewer = Bounds {
-            turns: Turns { count: lines },
+            turns: Turns { count: next },
             places: within.places,
         };
-        let (bounds, nearer) = settled(alloc, sizing, progress, fewer)?;
-        if matches!(nearer, Reach::Part) {
-            return Ok(best);
+        let (bounds, nearer) = settled_within(alloc, sizing, progress, fewer)?;
+        match nearer {
+            Reach::Part => return Ok((best, Reach::Part)),
+            _ => reach = nearer,
         }
         best = bounds;
-        lines += 1 + lines / 4;
+        lines = next;
     }
-    Ok(best)
+    Ok((best, reach))
+}
+
+/// How far the figures go, and of which orders that is: of all, or of those of at most as many lines as the bounds say. Where the room for places does not
+/// do for these, or `progress` ends the search, it is of those of fewer lines.
+pub(crate) fn settled<P: Progress>(
+    alloc: Global,
+    sizing: &Sizing<'_>,
+    progress: &mut P,
+    within: Bounds,
+) -> Result<(Vec<u16>, Reach), AllocError>
+    ensures { IfOk result (λ r. IsSettled sizing.now.config.now sizing.now.scripts.now sizing.now.rules within.turns.count (within.places.count - 1)
+        (P.over progress.new) r.1 sizing.now.figures.now r.0.items) }
+{
+    let (known, reach) = settled_within(alloc, sizing, progress, within)?;
+    match reach {
+        Reach::Part => settled_nearer(alloc, sizing, known, progress, within),
+        _ => Ok((known, reach)),
+    }
 }

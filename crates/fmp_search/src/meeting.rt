@@ -35,11 +35,8 @@ pub(crate) fn met_of(survey: Survey) -> Option<Met>
     }
 }
 
-/// Goes through all places, up to so many steps from where all runs begin and with room for so many besides the first, and tells which numbers below a
-/// count are told of steps: of those of all runs, or of those of at most so many steps. None only where the room does not do, the search is ended
-/// before, or a place is met that is looked for.
-/// The error is want of memory.
-pub fn meet<W: Space + Drop, P: Progress>(
+/// What `meet` gives, by these four.
+fn met_by<W: Space + Drop, P: Progress>(
     alloc: Global,
     walker: &mut W,
     base: &mut W,
@@ -62,4 +59,37 @@ pub fn meet<W: Space + Drop, P: Progress>(
         Layer::Wanting => Err(AllocError),
         _ => Ok(met_of(survey)),
     }
+}
+
+/// Goes through all places, up to so many steps from where all runs begin and with room for so many besides the first, and tells which numbers below a
+/// count are told of steps: of those of all runs, or of those of at most so many steps. None only where the room does not do, the search is ended
+/// before, or a place is met that is looked for. It takes two pairs whose runs begin at the same place, and keeps no steps.
+/// The error is want of memory.
+pub fn meet<W: Space + Drop, P: Progress>(
+    alloc: Global,
+    walkers: (W, W),
+    others: (W, W),
+    progress: &mut P,
+    turns: u32,
+    most: u32,
+    count: usize,
+) -> Result<Option<Met>, AllocError>
+    requires origins { (W.origin walkers.1 ≡ W.origin walkers.0) × (W.origin others.0 ≡ W.origin walkers.0) × (W.origin others.1 ≡ W.origin walkers.0) }
+    requires turns { turns < 2 ^ 31 }
+    ensures meets { IfOk result (λ o. IfSome o (Meets W.after W.tells (W.origin walkers.0) turns count)) }
+    ensures none { IfOk result (λ o. o ≡ None → IsLeftOpen W.after W.wanted (W.origin walkers.0) turns most (P.over progress.new)) }
+{
+    let (mut walker, mut base) = walkers;
+    let (mut other, mut trunk) = others;
+    met_by(
+        alloc,
+        &mut walker,
+        &mut base,
+        &mut other,
+        &mut trunk,
+        progress,
+        turns,
+        most,
+        count,
+    )
 }

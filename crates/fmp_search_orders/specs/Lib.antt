@@ -7,3 +7,4 @@ pub mod Begun  -- Orders that go on from a history, the steps of the runs that d
 pub mod Lasting  -- What stays for ever: it is at the last record of an order, and at each record after it in every order that goes on from there.
 pub mod Watched  -- Places of all orders with what is asked of every event from one on.
 pub mod Made  -- Which calls of the scripts are made in some order.
+pub mod Unknown  -- Why not all orders of so many lines are known.

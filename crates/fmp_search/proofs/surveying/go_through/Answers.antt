@@ -51,7 +51,7 @@ returns-then-is_wanted g c =
         same = blank.same;
         marks = ap (λ (bs : List Bool). length bs) blank.marks ∙ length-replicate c.args.count false;
       });
-      origin = refl;
+      origin = refl {a = q};
     }
 
 pub loop-depth-init : goal.loop-depth-init

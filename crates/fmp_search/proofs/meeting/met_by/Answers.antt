@@ -9,7 +9,7 @@ use Rattle.fmp_search.specs.Meeting.{IsLeftOpen, Meets}
 use Rattle.fmp_search.specs.Surveys.{met_by, GoesSo}
 use Rattle.fmp_search.proofs.Farther.{stops_full}
 use Rattle.fmp_search.proofs.Told.{says}
-use Rattle.fmp_search.proofs.meeting.meet.Goals as goal
+use Rattle.fmp_search.proofs.meeting.met_by.Goals as goal
 
 -- a search that did not go through all places was ended by what it met, by the room or by who may end it
 left_open : {P : Type 0} (after : P → ℕ → Option P) (wanted : P → Bool) (q : P) (turns room : ℕ) (nodes : List Node) (n opened : ℕ) (over : Bool) (how : Layer) →
