@@ -1,24 +1,17 @@
--- Why nothing is known of calls.
-use Rattle.std.proofs.Common.{◌≡◌, ◌⊎◌, inl, inr, ℕ, Bool, true, false, Option, None, refl, subst, arith}
-use Rattle.std.proofs.lemmas.Bool.{false≢true}
-use Rattle.fmp_search.specs.declared.meeting.Met.{Met}
-use Rattle.fmp_search.specs.declared.staying.Stay.{Stay}
-use Rattle.fmp_search.specs.declared.staying.Stay.TheVariants as stay
-use Rattle.fmp_search.specs.Forever.{SaysForEver}
-use Rattle.fmp_search.specs.Meeting.{IsFull, IsMet, IsMetBesideStay, IsOfAll}
-use Rattle.fmp_search_orders.specs.Watched.{Watched, watched_after, watched_passes}
+-- Why not all calls are known that are made.
+use Rattle.std.proofs.Common.{ℕ, Bool, false, List, [], refl, ap}
+use Rattle.fmp_setup.specs.Setup.{Setup}
+use Rattle.fmp_text_scripts.specs.Scripts.{Steps}
+use Rattle.fmp_search.specs.Meeting.{IsLeftOpen}
+use Rattle.fmp_search.proofs.Viewed.{open_viewed}
+use Rattle.fmp_search_pattern.specs.Lasting.{Lasting}
+use Rattle.fmp_search_orders.specs.declared.rules.Rules.{Rules}
+use Rattle.fmp_search_orders.specs.Places.{after, origin}
+use Rattle.fmp_search_orders.specs.Unknown.{IsNotKnown}
+use Rattle.fmp_search_orders.specs.Watched.{Watched, watched, watched_after}
 
--- no place is looked for, so none was met
-ended : (q : Watched) (turns room : ℕ) (over : Bool) → IsMet watched_after (λ w. false) q ⊎ (over ≡ true) → IsFull watched_after q turns room ⊎ (over ≡ true)
-ended q turns room over (inl met) = absurd (false≢true met.1.is_wanted)
-ended q turns room over (inr is) = inr is
-
--- where nothing is looked for, and nothing is asked that may stay, the room was used up, or who may end the search did
-pub not_known : (q : Watched) (turns room : ℕ) (over : Bool) (s : Stay) (m : Option Met)
-    → SaysForEver watched_after watched_passes (λ w. false) q 0 turns room over s → IsMetBesideStay turns s m → ((n : ℕ) → s ≡ stay.Wanting n → ⊥) → m ≡ None → IsFull watched_after q turns room ⊎ (over ≡ true)
-not_known q turns room over (stay.Shortest test steps) m says beside some none = absurd (omega (arith, says.0))
-not_known q turns room over (stay.Found test steps) m says beside some none = absurd (omega (arith, says.0))
-not_known q turns room over stay.Never m says beside some none = absurd (subst IsOfAll none beside)
-not_known q turns room over (stay.NotKnown n) m says beside some none = inl (n, beside none, says.1 (beside none))
-not_known q turns room over (stay.Wanting n) m says beside some none = absurd (some n refl)
-not_known q turns room over (stay.Ended n) m says beside some none = ended q turns room over says.1
+-- what is known of places with what is asked of events is known of places
+pub not_known : (c : Setup) (scripts : List Steps) (rules : Rules) (lasting : List Lasting) (turns room : ℕ) (over : Bool)
+    → IsLeftOpen watched_after (λ w. false) (watched lasting (origin c scripts rules [])) turns room over → IsNotKnown c scripts rules turns room over
+not_known c scripts rules lasting turns room over =
+    open_viewed after watched_after (watched lasting) (λ p s. refl) (λ a b same. ap (λ (w : Watched). w.place) same) (origin c scripts rules []) turns room over

@@ -1,13 +1,11 @@
 -- Which calls of the scripts are made, beside what stays.
-use Rattle.std.specs.Prelude.{◌≡◌, ◌⊎◌, ℕ, ◌<◌, Bool, true, List, [], Option, None, IfSome}
+use Rattle.std.specs.Prelude.{◌≡◌, ℕ, ◌<◌, List, Option, None, IfSome}
 use Rattle.fmp_setup.specs.Setup.{Setup}
 use Rattle.fmp_text_scripts.specs.Scripts.{Steps}
 use Rattle.fmp_search.specs.declared.meeting.Met.{Met}
-use Rattle.fmp_search.specs.Meeting.{IsFull, IsOfAll}
+use Rattle.fmp_search.specs.Meeting.{IsOfAll}
 use Rattle.fmp_search_orders.specs.declared.rules.Rules.{Rules}
-use Rattle.fmp_search_orders.specs.Watched.{watched_after}
 use Rattle.fmp_run_explore.specs.Made.{SaysMade}
-use Rattle.fmp_run_forever.specs.Gone.{begin_of}
 use Rattle.fmp_run_forever.specs.declared.staying.Staying.{Staying}
 use Rattle.fmp_run_forever.specs.declared.staying.Staying.TheVariants as staying
 
@@ -24,8 +22,3 @@ IsMetBeside turns (staying.Ended n) m = Unit {0}
 pub record TellsCalls (c : Setup) (scripts : List Steps) (rules : Rules) (turns : ℕ) (found : Staying) (m : Option Met) : Type 0 where
   pub says : IfSome m (SaysMade c scripts rules turns)
   pub beside : IsMetBeside turns found m
-
--- why nothing may be known of calls where all orders are gone through for them alone: the room for places was used up by fewer lines than were asked for,
--- or who may end the search did
-abbrev pub IsNotKnown : Setup → List Steps → Rules → ℕ → ℕ → Bool → Type 0
-IsNotKnown c scripts rules turns room over = IsFull watched_after (begin_of c scripts rules []) turns room ⊎ (over ≡ true)

@@ -3,19 +3,20 @@ ghost use Rattle.std.specs.Prelude.{◌≡◌, ◌≤◌, ◌<◌, ◌-◌, Bool
 ghost use Rattle.fmp_search.specs.declared.nodes.Node.{Node};
 ghost use Rattle.fmp_run_forever.specs.Gone.{IsGone};
 ghost use Rattle.fmp_run_forever.specs.Stayed.{Finds, IsLeast};
-ghost use Rattle.fmp_run_forever.specs.Told.{IsNotKnown, TellsCalls};
+ghost use Rattle.fmp_run_forever.specs.Told.{TellsCalls};
 ghost use Rattle.fmp_run_explore.specs.Made.{SaysMade};
 ghost use Rattle.fmp_search.specs.Extents.{HasGone, WentForEver};
 ghost use Rattle.fmp_search.specs.Forever.{SaysForEver};
 ghost use Rattle.fmp_search.specs.Meeting.{IsMetBesideStay, Meets};
 ghost use Rattle.fmp_search_orders.specs.Places as places;
+ghost use Rattle.fmp_search_orders.specs.Unknown.{IsNotKnown};
 ghost use Rattle.fmp_search_orders.specs.Watched as watched;
 ghost use Rattle.fmp_text_scripts.specs.Scripts.{AreInBits};
 
 use crate::staying::Staying;
 use fmp_ranges::Bounds;
 use fmp_run_explore::{Orders, never, not_within, trace_along};
-use fmp_search::{Extent, Met, Progress, Space, Stay, for_ever};
+use fmp_search::{Extent, Met, Progress, Space, Stay, for_ever, meet};
 use fmp_search_kernel::{NUMBERS, Watcher};
 use fmp_search_orders::{made_answer, watched_answer};
 use fmp_search_pattern::{Moment, Question};
@@ -118,8 +119,38 @@ fn answered<P: Progress>(
     )
 }
 
+/// What `calls_made` gives, by those who watch for something. It makes no difference what that is.
+fn calls_met<P: Progress>(
+    alloc: Global,
+    orders: &Orders<'_>,
+    none: &Question,
+    lasting: &[Moment],
+    progress: &mut P,
+    bounds: Bounds,
+) -> Result<Option<Met>, AllocError>
+    requires none { none.now ≡ [] }
+    requires few { length lasting.now ≤ 64 }
+    ensures made { IfOk result (λ o. IfSome o (SaysMade orders.now.config.now orders.now.scripts.now orders.now.rules bounds.turns.count)) }
+    ensures none { IfOk result (λ o. o ≡ None → IsNotKnown orders.now.config.now orders.now.scripts.now orders.now.rules bounds.turns.count
+        (bounds.places.count - 1) (P.over progress.new)) }
+{
+    let _names = orders.config.names();
+    made_answer();
+    let walkers = two_watchers(orders, none, lasting)?;
+    let others = two_watchers(orders, none, lasting)?;
+    meet(
+        alloc,
+        walkers,
+        others,
+        progress,
+        bounds.turns.count,
+        bounds.places.count - 1,
+        NUMBERS as usize,
+    )
+}
+
 /// Which calls of the scripts are made in orders of at most as many lines as the bounds say, where nothing is asked of these. None only where the room
-/// for places was used up before, or `progress` ended the search. The error is want of memory, for places too.
+/// for places was used up before, or `progress` ended the search. It keeps no steps. The error is want of memory, for places too.
 pub fn calls_made<P: Progress>(
     alloc: Global,
     orders: &Orders<'_>,
@@ -131,11 +162,7 @@ pub fn calls_made<P: Progress>(
         (bounds.places.count - 1) (P.over progress.new)) }
 {
     let none = Question::new(Vec::new(alloc));
-    let (stay, _, met) = answered(alloc, orders, &none, &[], progress, bounds)?;
-    match stay {
-        Stay::Wanting(_) => Err(AllocError),
-        _ => Ok(met),
-    }
+    calls_met(alloc, orders, &none, &[], progress, bounds)
 }
 
 /// What is known of a trace of so many lines from whose end on what is asked under this number stays: it is the shortest, or not.
