@@ -1,14 +1,17 @@
 //! All processors, and what may run on them.
 ghost use Rattle.std.specs.Prelude.{◌≡◌, ◌≤◌, ◌<◌, ◌++◌, ◌∷◌, [], length, replicate, true, false};
+ghost use Rattle.fmp_kernel_parts.specs.Digests.{seed, told};
 ghost use Rattle.fmp_rules.specs.World.{first, rest, no_processor};
 ghost use Rattle.fmp_dispatch.specs.Dispatching.{idle, processor_in, with_processor_in, due_on, with_due_on, with_lock_in, added_dispatching};
 
 use crate::due::{Due, nothing_due};
 use arrayvec::ArrayVec;
 use fmp_codes::{Proc, Runner};
+use fmp_interned::{Value, part_hash};
 use fmp_kernel_parts::{Digest, Part, add_all, are_same, copy_all};
 use fmp_kernel_same::{add_each, are_equal};
 use fmp_rules::Processor;
+use std::alloc::AllocError;
 use std::marker::Model;
 
 /// The processors in the order of their numbers, with the handlers that are due on each. There are at most 8.
@@ -166,5 +169,23 @@ impl Part for Dispatch {
     fn add_to(&self, digest: &mut Digest) {
         add_each(self.processors.as_slice(), digest);
         add_all(self.due.as_slice(), digest);
+    }
+}
+
+impl Value for Dispatch {
+    ghost hashed = { λ d. told (added_dispatching d seed) };
+
+    fn is_same(&self, other: &Self) -> bool {
+        Part::is_same(self, other)
+    }
+
+    fn hash(&self) -> u64 {
+        part_hash(self)
+    }
+
+    fn another(&self) -> Result<Self, AllocError> {
+        let mut other = Dispatch::new(self.count() as u8);
+        other.copy_from(self);
+        Ok(other)
     }
 }

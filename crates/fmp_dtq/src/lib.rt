@@ -9,7 +9,7 @@
 
 ghost use Rattle.std.specs.Prelude.{◌≡◌, ◌↔◌, ◌≤◌, ◌<◌, ◌++◌, ◌∷◌, [], length, map, slice_get, ℤ, Some, IfOk, IsTrue};
 ghost use Rattle.fmp_rules.specs.World.{first, rest};
-ghost use Rattle.fmp_kernel_parts.specs.Digests.{added_all};
+ghost use Rattle.fmp_kernel_parts.specs.Digests.{added_all, seed, told};
 ghost use Rattle.fmp_kernel_parts.specs.Tasks.{AreDistinct};
 ghost use Rattle.fmp_waitq.specs.Queue.{task_of, has_waiter, left_by, joined_by, waiter_of};
 ghost use Rattle.fmp_dtq.specs.DataQueue.{added_value, added_queue, sender, receiver};
@@ -20,6 +20,7 @@ mod operations;
 use arrayvec::ArrayVec;
 use circular_buffer::HeapCircularBuffer;
 use fmp_codes::{Pri, Task};
+use fmp_interned::{Value, part_hash};
 use fmp_kernel_parts::{Digest, Part};
 use fmp_kernel_same::Same;
 use fmp_rules::{DataQueueSetup, Order};
@@ -244,5 +245,23 @@ impl Part for Dtq {
         add_values(back, digest);
         self.senders.add_to(digest);
         self.receivers.add_to(digest);
+    }
+}
+
+impl Value for Dtq {
+    ghost hashed = { λ q. told (added_queue q seed) };
+
+    fn is_same(&self, other: &Self) -> bool {
+        Part::is_same(self, other)
+    }
+
+    fn hash(&self) -> u64 {
+        part_hash(self)
+    }
+
+    fn another(&self) -> Result<Self, AllocError> {
+        let mut other = Dtq::new(*self.values.allocator(), self.setup)?;
+        other.copy_from(self);
+        Ok(other)
     }
 }

@@ -7,6 +7,7 @@
 #![tactic(auto)]
 
 ghost use Rattle.std.specs.Prelude.{◌≡◌, List, map, []};
+ghost use Rattle.fmp_kernel_parts.specs.Digests.{seed, told};
 ghost use Rattle.fmp_kernel_parts.specs.Tasks.{AreDistinct};
 ghost use Rattle.fmp_waitq.specs.Queue.{task_of, has_waiter, left_by, joined_by, waiter_of};
 ghost use Rattle.fmp_flag.specs.Eventflags.{added_eventflag, waiter, with_pattern, WaitsUnmet};
@@ -18,10 +19,12 @@ mod wanted;
 
 use arrayvec::ArrayVec;
 use fmp_codes::{Pri, Task};
+use fmp_interned::{Value, part_hash};
 use fmp_kernel_parts::{Digest, Part};
 use fmp_kernel_same::Same;
 use fmp_rules::{Eventflag, EventflagSetup};
 use fmp_waitq::WaitQueue;
+use std::alloc::AllocError;
 use std::marker::Model;
 pub use wanted::Wanted;
 
@@ -126,5 +129,23 @@ impl Part for Flag {
     fn add_to(&self, digest: &mut Digest) {
         digest.add(u64::from(self.pattern));
         self.queue.add_to(digest);
+    }
+}
+
+impl Value for Flag {
+    ghost hashed = { λ f. told (added_eventflag f seed) };
+
+    fn is_same(&self, other: &Self) -> bool {
+        Part::is_same(self, other)
+    }
+
+    fn hash(&self) -> u64 {
+        part_hash(self)
+    }
+
+    fn another(&self) -> Result<Self, AllocError> {
+        let mut other = Flag::new(self.setup);
+        other.copy_from(self);
+        Ok(other)
     }
 }

@@ -13,6 +13,7 @@ ghost use Rattle.fmp_law_lists.specs.Stands.{Stands};
 ghost use Rattle.fmp_law_lists.specs.Laws.{ListsAreRight};
 ghost use Rattle.fmp_kernel_machine.specs.Alike.{AreAlike};
 ghost use Rattle.fmp_kernel.specs.Hashed.{hashed};
+ghost use Rattle.fmp_kernel.specs.Kept.{IsKept};
 
 use fmp_codes::{Answer, Event, Record};
 use fmp_kernel_machine::KernelMachine;
@@ -121,6 +122,7 @@ impl Kernel {
 
     /// What holds of every kernel, for proofs: its state is safe, and its lists are right. It does nothing.
     pub fn validity(&self)
+        ensures kept { IsKept self.now }
         ensures safe { Safe listed self.now }
         ensures lists { ListsAreRight self.now }
     {
@@ -132,6 +134,15 @@ impl Kernel {
         ensures { result.now ≡ self.now }
     {
         &self.machine
+    }
+
+    /// Takes another machine between two events, and gives its own for it.
+    pub fn exchange(&mut self, machine: &mut Box<KernelMachine>)
+        requires { IsKept machine.old.value }
+        ensures taken { self.new ≡ machine.old.value }
+        ensures given { machine.new.value ≡ self.old }
+    {
+        std::mem::swap(&mut self.machine, machine);
     }
 
     /// Whether it is the same as another kernel, so that both answer all events alike.

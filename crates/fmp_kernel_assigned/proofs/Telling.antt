@@ -14,11 +14,12 @@ use Rattle.fmp_rules.specs.declared.machine.Alarm.{Alarm}
 use Rattle.fmp_rules.specs.World.{no_task}
 use Rattle.fmp_time.specs.Left.{Left, ticks_of}
 use Rattle.fmp_time.specs.Shown.{table}
-use Rattle.fmp_time.specs.Times.{Times, AreWaits}
+use Rattle.fmp_time.specs.Times.{Times, AreWaits, no_times}
+use Rattle.fmp_time.specs.Words.{made_from, words_of}
 use Rattle.fmp_time.proofs.Tables.{at-table, length-table}
 use Rattle.fmp_kernel_assigned.specs.Assignments.{assignments_of, lefts, blank_cyclic, blank_alarm}
 use Rattle.fmp_kernel_assigned.specs.Counting.{IsAt, IsUnseen, AreInStep}
-use Rattle.fmp_kernel_assigned.specs.Telling.{left_with, left_at, wait_in, times_in}
+use Rattle.fmp_kernel_assigned.specs.Telling.{left_with, left_at, wait_in, times_in, IsTold}
 use Rattle.fmp_kernel_assigned.proofs.Lefts.{length-lefts, lefts-at}
 
 abbrev the : Proc → ℕ → Option Left
@@ -90,6 +91,14 @@ module _ (timer : Timer) (tasks : List TaskRecord) (cyclics : List Cyclic) (alar
     where
       times : List (Option Left) → Times
       times l = record { left = l; waits = m.waits }
+
+  -- what is shown tells all
+  pub told : made_from no_times (words_of m) ≡ m → IsTold (assignments_of timer tasks cyclics alarms m)
+  told back = record {
+    all = ap (assignments_of timer tasks cyclics alarms) times_told;
+    step = subst (λ (n : Times). AreInStep tasks cyclics alarms n.left) (sym times_told) s;
+    back = subst (λ (n : Times). made_from no_times (words_of n) ≡ n) (sym times_told) back;
+  }
 
 -- where the same is shown the timers are the same
 pub times_same : (t u : Timer) (ts us : List TaskRecord) (cs ds : List Cyclic) (xs ys : List Alarm) (m n : Times) → AreInStep ts cs xs m.left → AreInStep us ds ys n.left → AreWaits m → AreWaits n →

@@ -1,17 +1,19 @@
 -- The timers of what is shown: nothing else is kept of them.
-use Rattle.std.specs.Prelude.{ℕ, ◌-◌, nat_lt, Option, None, Some, length, slice_index_or, option_map, if◌then◌else◌}
+use Rattle.std.specs.Prelude.{◌≡◌, ℕ, ◌-◌, nat_lt, Option, None, Some, length, slice_index_or, option_map, if◌then◌else◌}
 use Rattle.fmp_codes.specs.declared.numbers.Proc.{Proc}
 use Rattle.fmp_rules.specs.World.{no_task}
 use Rattle.fmp_kernel_parts.specs.Digests.{added, added_all}
 use Rattle.fmp_kernel_parts.specs.Tasks.{task_at, has_task}
 use Rattle.fmp_time.specs.Left.{Left}
 use Rattle.fmp_time.specs.Shown.{table}
-use Rattle.fmp_time.specs.Times.{Times}
+use Rattle.fmp_time.specs.Times.{Times, no_times}
+use Rattle.fmp_time.specs.Words.{made_from, words_of}
 use Rattle.fmp_time.specs.Mixed.{added_times}
 use Rattle.fmp_kernel_same.specs.Digests.{added_record}
 use Rattle.fmp_rules.specs.declared.machine.Cyclic.{Cyclic}
 use Rattle.fmp_rules.specs.declared.machine.Alarm.{Alarm}
-use Rattle.fmp_kernel_assigned.specs.Assignments.{Assignments, blank_cyclic, blank_alarm}
+use Rattle.fmp_kernel_assigned.specs.Assignments.{Assignments, assignments_of, blank_cyclic, blank_alarm}
+use Rattle.fmp_kernel_assigned.specs.Counting.{AreInStep}
 
 -- so many ticks left on a processor
 abbrev pub left_with : Proc → Option ℕ → Option Left
@@ -43,3 +45,9 @@ added_alarm a sum = added sum a.assigned.number
 -- what a digest is after what is assigned was added
 unfoldable pub added_assignments : Assignments → ℕ → ℕ
 added_assignments a sum = added_times (times_in a) (added_all added_alarm a.alarms (added_all added_cyclic a.cyclics (added_all added_record a.tasks sum)))
+
+-- nothing but this is kept, and the numbers that tell the timers tell them again
+pub record IsTold (a : Assignments) : Type 0 where
+  pub all : assignments_of a.timer a.tasks a.cyclics a.alarms (times_in a) ≡ a
+  pub step : AreInStep a.tasks a.cyclics a.alarms (times_in a).left
+  pub back : made_from no_times (words_of (times_in a)) ≡ times_in a

@@ -1,5 +1,5 @@
 //! What is assigned to processors.
-ghost use Rattle.std.specs.Prelude.{◌≡◌, ◌≤◌, ◌&&◌, None, [], false, is_none, length, map, true};
+ghost use Rattle.std.specs.Prelude.{◌≡◌, ◌≤◌, ◌++◌, ◌&&◌, None, [], false, is_none, length, map, true, IfOk};
 ghost use Rattle.std.specs.List.{list_all};
 ghost use Rattle.fmp_codes.specs.declared.numbers.Task.{Task as AnyTask};
 ghost use Rattle.fmp_rules.specs.Boot.{phase_left};
@@ -8,23 +8,27 @@ ghost use Rattle.fmp_rules.specs.Tick.{lowered, expired, tasks_expired};
 ghost use Rattle.fmp_rules.specs.World.{item, with_item, no_task, resting};
 ghost use Rattle.fmp_kernel_parts.specs.Tasks.{has_task, without};
 ghost use Rattle.fmp_kernel_order.specs.Queues.{timed_by};
-ghost use Rattle.fmp_kernel_assigned.specs.Assignments.{cyclic_in, alarm_in, IsNextDue};
-ghost use Rattle.fmp_kernel_assigned.specs.Telling.{added_assignments};
+ghost use Rattle.fmp_time.specs.Times.{no_times};
+ghost use Rattle.fmp_time.specs.Words.{made_from, words_of};
+ghost use Rattle.fmp_kernel_assigned.specs.Assignments.{assignments_of, cyclic_in, alarm_in, IsNextDue};
+ghost use Rattle.fmp_kernel_assigned.specs.Counting.{AreInStep};
+ghost use Rattle.fmp_kernel_assigned.specs.Telling.{added_assignments, times_in, IsTold};
 ghost use Rattle.fmp_kernel_assigned.specs.Starting.{first_cyclic, first_alarm};
 
 use crate::counting::{count_down, follow, least, set_left, shown};
 use crate::expired::{objects_among, tasks_among};
 use crate::handlers::{
-    assign_alarm_at, assign_cyclic_at, copy_alarms, copy_cyclics, first_alarms, first_cyclics,
-    first_timers,
+    copy_alarms, copy_cyclics, first_alarms, first_cyclics, first_timers, put_alarm, put_cyclic,
 };
 use arrayvec::ArrayVec;
 use fmp_codes::{Object, Proc, Task};
+use fmp_interned::Words;
 use fmp_kernel_parts::{Digest, Part};
 use fmp_kernel_same::{Same, add_each, are_equal};
 use fmp_rules::{Alarm, Config, Cyclic, TaskRecord, Timer};
 use fmp_task::Tasks;
 use fmp_time::{Item, Timers};
+use std::alloc::AllocError;
 use std::marker::Model;
 
 /// The tasks, the cyclic handlers and the alarms, with the ticks that each has left.
@@ -79,6 +83,27 @@ impl Assigned {
         ensures { result ≡ self.now.timer }
     {
         self.timer
+    }
+
+    /// The records of the tasks, in the order of their numbers.
+    pub fn tasks(&self) -> &[TaskRecord]
+        ensures { result.now ≡ self.now.tasks }
+    {
+        self.tasks.as_slice()
+    }
+
+    /// The cyclic handlers, in the order of their numbers.
+    pub fn cyclics(&self) -> &[Cyclic]
+        ensures { result.now ≡ self.now.cyclics }
+    {
+        self.cyclics.as_slice()
+    }
+
+    /// The alarms, in the order of their numbers.
+    pub fn alarms(&self) -> &[Alarm]
+        ensures { result.now ≡ self.now.alarms }
+    {
+        self.alarms.as_slice()
     }
 
     /// The record of a task.
@@ -218,8 +243,14 @@ impl Assigned {
     pub fn assign_cyclic(&mut self, c: Object, p: Proc)
         ensures { self.new ≡ record self.old { cyclics = with_item self.old.cyclics c.number (record (cyclic_in self.old.cyclics c) { assigned = p }) } }
     {
-        assign_cyclic_at(&mut self.cyclics, c.index(), p);
-        self.timers.move_to(Item::Cyclic(c), p);
+        let cyclic = self.cyclic(c);
+        self.set_cyclic(
+            c,
+            Cyclic {
+                assigned: p,
+                ..cyclic
+            },
+        );
     }
 
     /// Starts an alarm with so many ticks left, or stops it.
@@ -236,8 +267,49 @@ impl Assigned {
     pub fn assign_alarm(&mut self, a: Object, p: Proc)
         ensures { self.new ≡ record self.old { alarms = with_item self.old.alarms a.number (record (alarm_in self.old.alarms a) { assigned = p }) } }
     {
-        assign_alarm_at(&mut self.alarms, a.index(), p);
-        self.timers.move_to(Item::Alarm(a), p);
+        let alarm = self.alarm(a);
+        self.set_alarm(
+            a,
+            Alarm {
+                assigned: p,
+                ..alarm
+            },
+        );
+    }
+
+    // ---- all that counts
+
+    /// Adds the numbers that tell what counts. The error is want of memory: only some of the numbers were added then.
+    pub fn add_words(&self, words: &mut Words) -> Result<(), AllocError>
+        ensures added { IfOk result (λ done. words.new ≡ words.old ++ words_of (times_in self.now)) }
+        ensures told { IsTold self.now }
+    {
+        self.timers.know_waits();
+        self.timers.add_words(words)
+    }
+
+    /// What counts becomes as these numbers tell, where it is on the processors to which things are assigned.
+    pub fn become_words(&mut self, words: &[u32])
+        requires { AreInStep self.old.tasks self.old.cyclics self.old.alarms (made_from no_times words.now).left }
+        ensures { self.new ≡ assignments_of self.old.timer self.old.tasks self.old.cyclics self.old.alarms (made_from no_times words.now) }
+    {
+        self.timers.become_words(words);
+    }
+
+    /// Changes a cyclic handler. Where it counts, it goes on with the ticks that it has left.
+    pub fn set_cyclic(&mut self, c: Object, changed: Cyclic)
+        ensures { self.new ≡ record self.old { cyclics = with_item self.old.cyclics c.number changed } }
+    {
+        put_cyclic(&mut self.cyclics, c.index(), changed);
+        self.timers.move_to(Item::Cyclic(c), changed.assigned);
+    }
+
+    /// Changes an alarm. Where it counts, it goes on with the ticks that it has left.
+    pub fn set_alarm(&mut self, a: Object, changed: Alarm)
+        ensures { self.new ≡ record self.old { alarms = with_item self.old.alarms a.number changed } }
+    {
+        put_alarm(&mut self.alarms, a.index(), changed);
+        self.timers.move_to(Item::Alarm(a), changed.assigned);
     }
 
     // ---- ticks

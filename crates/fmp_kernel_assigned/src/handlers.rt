@@ -1,10 +1,9 @@
 //! The handlers at boot, and where they are assigned.
 ghost use Rattle.std.specs.Prelude.{◌≡◌, ℕ, ◌≤◌, ◌<◌, None, [], length, map, slice_index_or, slice_set};
-ghost use Rattle.fmp_kernel_assigned.specs.Assignments.{blank_cyclic, blank_alarm};
 ghost use Rattle.fmp_kernel_assigned.specs.Starting.{first_cyclic, first_alarm, started_at};
 
 use arrayvec::ArrayVec;
-use fmp_codes::{Object, Proc};
+use fmp_codes::Object;
 use fmp_rules::{Alarm, AlarmSetup, Cyclic, CyclicSetup};
 use fmp_time::{Item, Timers};
 
@@ -55,21 +54,21 @@ pub(crate) fn first_timers(cyclics: &[Cyclic]) -> Timers
     timers
 }
 
-/// Assigns the cyclic handler at a place to a processor, if there is one.
-pub(crate) fn assign_cyclic_at(cyclics: &mut ArrayVec<Cyclic, 32>, index: usize, p: Proc)
-    ensures { cyclics.new.items ≡ slice_set cyclics.old.items index (record (slice_index_or cyclics.old.items index blank_cyclic) { assigned = p }) }
+/// Changes the cyclic handler at a place, if there is one.
+pub(crate) fn put_cyclic(cyclics: &mut ArrayVec<Cyclic, 32>, index: usize, changed: Cyclic)
+    ensures { cyclics.new.items ≡ slice_set cyclics.old.items index changed }
 {
     if let Some(cyclic) = cyclics.get_mut(index) {
-        cyclic.assigned = p;
+        *cyclic = changed;
     }
 }
 
-/// Assigns the alarm at a place to a processor, if there is one.
-pub(crate) fn assign_alarm_at(alarms: &mut ArrayVec<Alarm, 32>, index: usize, p: Proc)
-    ensures { alarms.new.items ≡ slice_set alarms.old.items index (record (slice_index_or alarms.old.items index blank_alarm) { assigned = p }) }
+/// Changes the alarm at a place, if there is one.
+pub(crate) fn put_alarm(alarms: &mut ArrayVec<Alarm, 32>, index: usize, changed: Alarm)
+    ensures { alarms.new.items ≡ slice_set alarms.old.items index changed }
 {
     if let Some(alarm) = alarms.get_mut(index) {
-        alarm.assigned = p;
+        *alarm = changed;
     }
 }
 

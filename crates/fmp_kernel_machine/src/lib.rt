@@ -10,6 +10,7 @@
 
 mod machine;
 mod object_words;
+mod parts;
 mod places;
 mod views;
 mod words;

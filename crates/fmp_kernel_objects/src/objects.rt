@@ -1,5 +1,7 @@
 //! The list of all objects of a kind, each with the tasks that wait for it.
 ghost use Rattle.std.specs.Prelude.{◌≡◌, ◌≤◌, ◌<◌, ℕ, ◌-◌, List, [], length, map, option_copied, slice_get, slice_index_or, unwrap_or, IfOk};
+ghost use Rattle.fmp_interned.specs.Parts.{AreNumbersOf};
+ghost use Rattle.fmp_kernel_objects.specs.Fitting.{AreFitting};
 ghost use Rattle.fmp_kernel_parts.specs.Digests.{added_all};
 ghost use Rattle.fmp_setup.specs.declared.setup.Order.{Order};
 ghost use Rattle.fmp_rules.specs.World.{first, item, with_item};
@@ -7,6 +9,7 @@ ghost use Rattle.fmp_waitq.specs.Queue.{Waiter, task_of, left_by, joined_by, wai
 
 use arrayvec::ArrayVec;
 use fmp_codes::{Object, Pri, Task};
+use fmp_interned::{Interned, Value};
 use fmp_kernel_parts::{Digest, Part, add_all, are_same, copy_all};
 use std::alloc::{AllocError, Global};
 use std::marker::Model;
@@ -96,6 +99,19 @@ impl<T: Kind> Objects<T> {
         ensures blank { unwrap_or (option_copied result) T.blank ≡ item T.blank self.now o.number }
     {
         self.items.get(o.index())
+    }
+
+    /// All become as those are that have these numbers among others, as many as there are here.
+    pub(crate) fn become_kept(&mut self, kept: &Interned<T>, numbers: &[u32])
+    where
+        T: Value,
+        requires long { length numbers.now ≡ length self.old }
+        requires kept { (xs : List T) × AreNumbersOf kept.now numbers.now xs × AreFitting T.Part.fits self.old xs }
+        ensures { (xs : List T) → AreNumbersOf kept.now numbers.now xs → self.new ≡ xs }
+    {
+        for at in 0..numbers.len() {
+            self.items[at].copy_from(kept.get(numbers[at]));
+        }
     }
 
     /// The task that waits first for one.

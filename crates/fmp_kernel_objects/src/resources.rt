@@ -4,8 +4,9 @@ ghost use Rattle.std.specs.List.{position};
 ghost use Rattle.fmp_rules.specs.Objects.{blank_semaphore, blank_eventflag, no_data_queue, blank_pool};
 ghost use Rattle.fmp_rules.specs.World.{first, rest, item, with_item};
 ghost use Rattle.fmp_waitq.specs.Queue.{task_of, left_by, joined_by, waiter_of};
+ghost use Rattle.fmp_interned.specs.Parts.{AreNumbersOf, HasNumbers};
 ghost use Rattle.fmp_kernel_order.specs.Queues.{queue, place_of, place_in, changed};
-ghost use Rattle.fmp_kernel_objects.specs.Digests.{added_objects};
+ghost use Rattle.fmp_kernel_objects.specs.Digests.{added_objects, semaphores_in, eventflags_in, queues_in, pools_in};
 ghost use Rattle.fmp_kernel_objects.specs.Kinds.{is_handed_in};
 ghost use Rattle.fmp_kernel_objects.specs.Objects.{blank_objects, order_for, AreAlike};
 
@@ -15,6 +16,7 @@ use arrayvec::ArrayVec;
 use fmp_codes::{Object, Pri, Task};
 use fmp_dtq::Dtq;
 use fmp_flag::Flag;
+use fmp_interned::Interned;
 use fmp_kernel_parts::{Digest, Part};
 use fmp_mpf::Mpf;
 use fmp_rules::{Config, DataQueueSetup, Eventflag, Order, Pool, QueueKind, Semaphore, Wait};
@@ -318,6 +320,91 @@ impl Resources {
             self.new ≡ record self.old { pools = with_item self.old.pools m.number (record pool { handed = slice_set pool.handed block handed }) } }
     {
         self.pools.set_handed(m, block, handed);
+    }
+
+    // ---- whole objects
+
+    /// The semaphores with those who wait for each, in the order of their numbers.
+    pub fn semaphores(&self) -> &[Sem]
+        ensures value { result.now ≡ semaphores_in self.now }
+        ensures columns { (map (λ x. x.semaphore) result.now ≡ self.now.semaphores) × (map (λ x. x.waiters) result.now ≡ self.now.waits.semaphores) }
+    {
+        self.semaphores.items.as_slice()
+    }
+
+    /// The semaphores become as those are that have these numbers among others, as many as there are here.
+    pub fn become_semaphores(&mut self, kept: &Interned<Sem>, numbers: &[u32])
+        requires long { length numbers.now ≡ length self.old.semaphores }
+        requires kept { HasNumbers kept.now numbers.now }
+        ensures { (xs : _) → AreNumbersOf kept.now numbers.now xs → self.new ≡ record self.old {
+          semaphores = map (λ x. x.semaphore) xs;
+          waits = record self.old.waits { semaphores = map (λ x. x.waiters) xs };
+        } }
+    {
+        self.semaphores.become_kept(kept, numbers);
+    }
+
+    /// The eventflags with those who wait for each, in the order of their numbers.
+    pub fn eventflags(&self) -> &[Flag]
+        ensures value { result.now ≡ eventflags_in self.now }
+        ensures columns { (map (λ x. x.eventflag) result.now ≡ self.now.eventflags) × (map (λ x. x.waiters) result.now ≡ self.now.waits.eventflags) }
+    {
+        self.eventflags.items.as_slice()
+    }
+
+    /// The eventflags become as those are that have these numbers among others, as many as there are here.
+    pub fn become_eventflags(&mut self, kept: &Interned<Flag>, numbers: &[u32])
+        requires long { length numbers.now ≡ length self.old.eventflags }
+        requires kept { HasNumbers kept.now numbers.now }
+        ensures { (xs : _) → AreNumbersOf kept.now numbers.now xs → self.new ≡ record self.old {
+          eventflags = map (λ x. x.eventflag) xs;
+          waits = record self.old.waits { eventflags = map (λ x. x.waiters) xs };
+        } }
+    {
+        self.eventflags.become_kept(kept, numbers);
+    }
+
+    /// The pools with those who wait for each, in the order of their numbers.
+    pub fn pools(&self) -> &[Mpf]
+        ensures value { result.now ≡ pools_in self.now }
+        ensures columns { (map (λ x. x.pool) result.now ≡ self.now.pools) × (map (λ x. x.waiters) result.now ≡ self.now.waits.pools) }
+    {
+        self.pools.items.as_slice()
+    }
+
+    /// The pools become as those are that have these numbers among others, as many as there are here.
+    pub fn become_pools(&mut self, kept: &Interned<Mpf>, numbers: &[u32])
+        requires long { length numbers.now ≡ length self.old.pools }
+        requires kept { HasNumbers kept.now numbers.now }
+        ensures { (xs : _) → AreNumbersOf kept.now numbers.now xs → self.new ≡ record self.old {
+          pools = map (λ x. x.pool) xs;
+          waits = record self.old.waits { pools = map (λ x. x.waiters) xs };
+        } }
+    {
+        self.pools.become_kept(kept, numbers);
+    }
+
+    /// The data queues with those who wait for each, in the order of their numbers.
+    pub fn data_queues(&self) -> &[Dtq]
+        ensures value { result.now ≡ queues_in self.now }
+        ensures columns { (map (λ q. q.setup) result.now ≡ self.now.data_queues) × (map (λ q. q.values) result.now ≡ self.now.contents) }
+        ensures waiters { (map (λ q. q.senders) result.now ≡ self.now.waits.senders) × (map (λ q. q.receivers) result.now ≡ self.now.waits.receivers) }
+    {
+        self.data_queues.items.as_slice()
+    }
+
+    /// The data queues become as those are that have these numbers among others, of each of which the configuration says the same.
+    pub fn become_data_queues(&mut self, kept: &Interned<Dtq>, numbers: &[u32])
+        requires kept { (xs : _) × AreNumbersOf kept.now numbers.now xs × (map (λ q. q.setup) xs ≡ self.old.data_queues) }
+        ensures { (xs : _) → AreNumbersOf kept.now numbers.now xs → self.new ≡ record self.old {
+          contents = map (λ q. q.values) xs;
+          waits = record self.old.waits {
+            senders = map (λ q. q.senders) xs;
+            receivers = map (λ q. q.receivers) xs;
+          };
+        } }
+    {
+        self.data_queues.become_kept(kept, numbers);
     }
 }
 

@@ -7,6 +7,7 @@
 #![tactic(auto)]
 
 ghost use Rattle.std.specs.Prelude.{◌≡◌, ◌≤◌, ◌≤ℤ◌, IfSome, pos, IsTrue, false, [], map, replicate, slice_set};
+ghost use Rattle.fmp_kernel_parts.specs.Digests.{seed, told};
 ghost use Rattle.fmp_kernel_parts.specs.Tasks.{AreDistinct};
 ghost use Rattle.fmp_waitq.specs.Queue.{task_of, has_waiter, left_by, joined_by, waiter_of};
 ghost use Rattle.fmp_mpf.specs.MemoryPool.{added_pool, free_block, is_handed, waiter};
@@ -18,11 +19,13 @@ mod operations;
 use crate::marks::{all_marks, first_free, is_marked, no_marks, with_mark};
 use arrayvec::ArrayVec;
 use fmp_codes::{Pri, Task};
+use fmp_interned::{Value, part_hash};
 use fmp_kernel_parts::{Digest, Part};
 use fmp_kernel_same::Same;
 use fmp_rules::{Pool, PoolSetup};
 use fmp_waitq::WaitQueue;
 pub use operations::Given;
+use std::alloc::AllocError;
 use std::marker::Model;
 
 /// A memory pool with its blocks, and the tasks that wait for one.
@@ -155,5 +158,23 @@ impl Part for Mpf {
     fn add_to(&self, digest: &mut Digest) {
         digest.add(self.handed);
         self.queue.add_to(digest);
+    }
+}
+
+impl Value for Mpf {
+    ghost hashed = { λ m. told (added_pool m seed) };
+
+    fn is_same(&self, other: &Self) -> bool {
+        Part::is_same(self, other)
+    }
+
+    fn hash(&self) -> u64 {
+        part_hash(self)
+    }
+
+    fn another(&self) -> Result<Self, AllocError> {
+        let mut other = Mpf::new(self.setup);
+        other.copy_from(self);
+        Ok(other)
     }
 }

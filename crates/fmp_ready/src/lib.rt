@@ -10,6 +10,7 @@
 #![tactic(auto)]
 
 ghost use Rattle.std.specs.Prelude.{◌≡◌, ℕ, ◌+◌, ◌-◌, ◌*◌, ◌<◌, ◌≤◌, ◌==◌, false, true, Option, Some, None, [], length, replicate, slice_index, slice_set, if◌then◌else◌};
+ghost use Rattle.fmp_kernel_parts.specs.Digests.{seed, told};
 ghost use Rattle.std.specs.Int.{bit_at};
 ghost use Rattle.fmp_codes.specs.Numbers.{task_number};
 ghost use Rattle.fmp_codes.specs.declared.numbers.Pri.{Pri as AnyPri};
@@ -21,7 +22,9 @@ ghost use Rattle.fmp_ready.specs.Kept.{tasks_of, IsKept};
 
 use arrayvec::ArrayVec;
 use fmp_codes::{Pri, Proc, Task};
+use fmp_interned::{Value, part_hash};
 use fmp_kernel_parts::{Digest, Links, Part};
+use std::alloc::AllocError;
 use std::marker::Model;
 
 /// A list of tasks for each processor and priority. No task stands in two lists. In TOPPERS/FMP: ready_queue of each PCB.
@@ -165,6 +168,24 @@ impl Part for ReadyQueues {
 
     fn add_to(&self, digest: &mut Digest) {
         self.links.add_to(digest);
+    }
+}
+
+impl Value for ReadyQueues {
+    ghost hashed = { λ q. told (added_lists q.lists seed) };
+
+    fn is_same(&self, other: &Self) -> bool {
+        Part::is_same(self, other)
+    }
+
+    fn hash(&self) -> u64 {
+        part_hash(self)
+    }
+
+    fn another(&self) -> Result<Self, AllocError> {
+        let mut other = ReadyQueues::new();
+        other.copy_from(self);
+        Ok(other)
     }
 }
 

@@ -7,6 +7,7 @@
 #![tactic(auto)]
 
 ghost use Rattle.std.specs.Prelude.{◌≡◌, map, []};
+ghost use Rattle.fmp_kernel_parts.specs.Digests.{seed, told};
 ghost use Rattle.fmp_kernel_parts.specs.Tasks.{AreDistinct};
 ghost use Rattle.fmp_waitq.specs.Queue.{task_of, has_waiter, left_by, joined_by, waiter_of};
 ghost use Rattle.fmp_sem.specs.Semaphores.{added_semaphore, waiter, WaitsAtZero};
@@ -15,11 +16,13 @@ mod operations;
 
 use arrayvec::ArrayVec;
 use fmp_codes::{Pri, Task};
+use fmp_interned::{Value, part_hash};
 use fmp_kernel_parts::{Digest, Part};
 use fmp_kernel_same::Same;
 use fmp_rules::{Semaphore, SemaphoreSetup};
 use fmp_waitq::WaitQueue;
 pub use operations::Signal;
+use std::alloc::AllocError;
 use std::marker::Model;
 
 /// A semaphore, and the tasks that wait for it in the order that its setup says.
@@ -123,5 +126,23 @@ impl Part for Sem {
     fn add_to(&self, digest: &mut Digest) {
         digest.add(u64::from(self.count));
         self.queue.add_to(digest);
+    }
+}
+
+impl Value for Sem {
+    ghost hashed = { λ s. told (added_semaphore s seed) };
+
+    fn is_same(&self, other: &Self) -> bool {
+        Part::is_same(self, other)
+    }
+
+    fn hash(&self) -> u64 {
+        part_hash(self)
+    }
+
+    fn another(&self) -> Result<Self, AllocError> {
+        let mut other = Sem::new(self.setup);
+        other.copy_from(self);
+        Ok(other)
     }
 }

@@ -1,7 +1,7 @@
 //! All spin locks.
 ghost use Rattle.std.specs.Prelude.{◌≡◌, ◌≤◌, Some, None, length, map, replicate};
 ghost use Rattle.std.specs.List.{list_any};
-ghost use Rattle.fmp_kernel_parts.specs.Digests.{added_all};
+ghost use Rattle.fmp_kernel_parts.specs.Digests.{added_all, seed, told};
 ghost use Rattle.fmp_kernel_same.specs.Digests.{added_option, added_proc};
 ghost use Rattle.fmp_rules.specs.World.{item, with_item};
 ghost use Rattle.fmp_rules.specs.Processors.{is_at};
@@ -10,8 +10,10 @@ ghost use Rattle.fmp_spin.specs.Locks.{freed};
 use crate::holder::{all_free, free_all, is_at};
 use arrayvec::ArrayVec;
 use fmp_codes::{Object, Proc};
+use fmp_interned::{Value, part_hash};
 use fmp_kernel_parts::{Digest, Part};
 use fmp_kernel_same::{add_each, are_equal};
+use std::alloc::AllocError;
 use std::marker::Model;
 
 /// The spin locks, in the order of their numbers, with the processor that holds each. There are at most 32.
@@ -100,5 +102,23 @@ impl Part for Spins {
 
     fn add_to(&self, digest: &mut Digest) {
         add_each(self.holders.as_slice(), digest);
+    }
+}
+
+impl Value for Spins {
+    ghost hashed = { λ holders. told (added_all (added_option added_proc) holders seed) };
+
+    fn is_same(&self, other: &Self) -> bool {
+        Part::is_same(self, other)
+    }
+
+    fn hash(&self) -> u64 {
+        part_hash(self)
+    }
+
+    fn another(&self) -> Result<Self, AllocError> {
+        let mut other = Spins::new(0);
+        other.copy_from(self);
+        Ok(other)
     }
 }

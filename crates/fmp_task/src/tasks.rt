@@ -59,6 +59,13 @@ impl Tasks {
             .unwrap_or(TaskRecord::default())
     }
 
+    /// The records, in the order of the tasks' numbers.
+    pub fn as_slice(&self) -> &[TaskRecord]
+        ensures { result.now ≡ self.now }
+    {
+        self.records.as_slice()
+    }
+
     /// Changes the record of a task, if there is one of its number.
     pub fn set(&mut self, t: Task, changed: TaskRecord)
         ensures { self.new ≡ with_item self.old t.number changed }

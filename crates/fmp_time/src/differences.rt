@@ -113,7 +113,7 @@ impl Differences {
     }
 
     /// The list in which an item stands, and its ticks left.
-    fn at(&self, item: usize) -> Option<(usize, u64)>
+    pub fn at(&self, item: usize) -> Option<(usize, u64)>
         requires { item < 128 }
         ensures left { left_in self.now item ≡ option_map left_by result }
         ensures list_in { IfSome result (λ at. at.0 < 8) }

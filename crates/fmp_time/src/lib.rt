@@ -14,6 +14,7 @@ mod differences;
 mod item;
 mod serving;
 mod timers;
+mod words;
 
 pub use item::Item;
 pub use timers::Timers;

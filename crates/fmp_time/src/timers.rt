@@ -1,19 +1,24 @@
 //! The timers. The kernel does not call `tick`, which is this part's own surface: the rule of a tick
 //! stands in `fmp_rules/specs`.
-ghost use Rattle.std.specs.Prelude.{◌≡◌, None, [], false, true, filter, is_some};
+ghost use Rattle.std.specs.Prelude.{◌≡◌, ◌<◌, ◌++◌, None, [], false, true, filter, is_some, IfOk};
+ghost use Rattle.std.specs.List.{flat_map};
 ghost use Rattle.std.specs.Option.{option_map};
 ghost use Rattle.fmp_time.specs.declared.item.Item.{Item as AnyItem};
 ghost use Rattle.fmp_time.specs.Mixed.{added_times};
 ghost use Rattle.fmp_time.specs.Left.{is_over, ticks_of};
 ghost use Rattle.fmp_time.specs.Times.{wait_of, alarm_of, cyclic_of, all_objects, left_of, armed, cancelled, moved_to, renewed, lowered, ticked, served, began, ended};
 ghost use Rattle.fmp_time.specs.Times.{IsLeastOn, AreWaits, no_times};
+ghost use Rattle.fmp_time.specs.Words.{words_at, wait_places, handler_places, words_of, armed_by, made_from};
 
 use crate::differences::Differences;
 use crate::item::Item;
 use crate::serving::{marked_objects, marked_waits, marks_of, serve_handlers, serve_waits};
+use crate::words::add_left;
 use arrayvec::ArrayVec;
 use fmp_codes::{Object, Proc, Task};
+use fmp_interned::Words;
 use fmp_kernel_parts::{Digest, Part, TaskList};
+use std::alloc::AllocError;
 use std::marker::Model;
 
 /// For each item that counts its processor and its ticks left, and the waits that count in the order in which they began.
@@ -176,6 +181,72 @@ impl Timers {
                 items
             }
             None => ArrayVec::new(),
+        }
+    }
+}
+
+impl Timers {
+    /// Adds what tells the item of a place.
+    fn add_item(&self, words: &mut Words, place: usize) -> Result<(), AllocError>
+        requires { place < 128 }
+        ensures { IfOk result (λ done. words.new ≡ words.old ++ words_at self.now place) }
+    {
+        add_left(words, place, self.differences.at(place))
+    }
+
+    /// Adds what tells the waits that count, in the order in which they began.
+    fn add_waits(&self, words: &mut Words) -> Result<(), AllocError>
+        ensures added { IfOk result (λ done. words.new ≡ words.old ++ flat_map (words_at self.now) (wait_places self.now.waits)) }
+        ensures back { made_from no_times (words_of self.now) ≡ self.now }
+    {
+        let waits = self.waits.list();
+        for task in waits.as_slice() {
+            self.add_item(words, task.index())?;
+        }
+        Ok(())
+    }
+
+    /// Adds what tells the alarms and then the cyclics that count, by number.
+    fn add_handlers(&self, words: &mut Words) -> Result<(), AllocError>
+        ensures { IfOk result (λ done. words.new ≡ words.old ++ flat_map (words_at self.now) handler_places) }
+    {
+        for place in 64..128usize {
+            self.add_item(words, place)?;
+        }
+        Ok(())
+    }
+
+    /// Adds the numbers that tell what the timers show: three for each item that counts. `become_words` makes the same of them again, so timers that differ
+    /// have numbers that differ. The error is want of memory: only some of the numbers were added then.
+    pub fn add_words(&self, words: &mut Words) -> Result<(), AllocError>
+        ensures added { IfOk result (λ done. words.new ≡ words.old ++ words_of self.now) }
+        ensures back { made_from no_times (words_of self.now) ≡ self.now }
+    {
+        self.add_waits(words)?;
+        self.add_handlers(words)?;
+        Ok(())
+    }
+
+    /// An item counts as three numbers say.
+    fn arm_by(&mut self, word: u32, low: u32, high: u32)
+        ensures { self.new ≡ armed_by self.old word low high }
+    {
+        let processor = Proc::from_index((word % 8) as usize);
+        let item = Item::at_place((word / 8 % 128) as usize);
+        self.arm(
+            processor,
+            item,
+            u64::from(low) + u64::from(high) * 0x1_0000_0000,
+        );
+    }
+
+    /// Becomes as the timers were of which `add_words` added these numbers.
+    pub fn become_words(&mut self, words: &[u32])
+        ensures { self.new ≡ made_from no_times words.now }
+    {
+        *self = Timers::new();
+        for at in 0..words.len() / 3 {
+            self.arm_by(words[3 * at], words[3 * at + 1], words[3 * at + 2]);
         }
     }
 }

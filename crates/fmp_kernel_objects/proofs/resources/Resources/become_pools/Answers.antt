@@ -1,0 +1,13 @@
+use Rattle.std.proofs.Common.{ap, sym, ◌∙◌, length}
+use Rattle.std.proofs.lemmas.List.{length-map}
+use Rattle.fmp_mpf.specs.MemoryPool.{MemoryPool}
+use Rattle.fmp_kernel_objects.specs.Objects.{AllObjects}
+use Rattle.fmp_kernel_objects.proofs.Numbered.{all_fitting}
+use Rattle.fmp_kernel_objects.proofs.resources.Resources.become_pools.Goals as goal
+
+pub become_kept-requires-clause-kept : goal.become_kept-requires-clause-kept
+become_kept-requires-clause-kept c =
+    let kept = c.requires.kept in
+    let xs = c.self.inside.pools in
+    let long = c.requires.long ∙ sym (ap (λ (a : AllObjects). length a.pools) c.self.view_is) ∙ length-map xs (λ (x : MemoryPool). x.pool) in
+    (kept.0, kept.1, all_fitting _ c.args.kept.now c.args.numbers.now xs kept.0 (λ a b. tt) long kept.1)
