@@ -24,8 +24,9 @@ use std::alloc::Global;
 /// Reads a configuration and scripts, goes through every order of what may happen by the rules of the request, and writes whether one of them shows
 /// what its question asks.
 ///
-/// It looks at orders of at most as many lines as the request says, and has room for as many places, each of which takes 24 to 32 bytes. Where the
-/// room does not do it says for how many lines it did, and all of it was used. It tells `progress` how far it has come, which may end it.
+/// It looks at orders of at most as many lines as the request says, and has room for as many places, each of which takes 24 to 32 bytes and what no place
+/// before it has of its parts. Where the room does not do it says for how many lines it did, and all of it was used. It tells `progress` how far it has
+/// come, which may end it.
 pub fn run_explore<R: Source, S: Source, W: Sink, P: Progress>(
     alloc: Global,
     config: &mut R,

@@ -45,17 +45,16 @@ pub fn two_walkers<'a>(
     Ok((first, second))
 }
 
-/// What `explore` gives, by these two pairs. It is of any space, since in a function of walkers, which borrow what they are asked, the check of these
+/// What `explore` gives, by these two. It is of any space, since in a function of walkers, which borrow what they are asked, the check of these
 /// borrows takes minutes.
 fn explored<W: Space + Drop, P: Progress>(
     alloc: Global,
     walkers: (W, W),
-    others: (W, W),
     progress: &mut P,
     bounds: Bounds,
     count: usize,
 ) -> Result<(Answer, Option<Extent>, Option<Met>), AllocError>
-    requires origins { (W.origin walkers.1 ≡ W.origin walkers.0) × (W.origin others.0 ≡ W.origin walkers.0) × (W.origin others.1 ≡ W.origin walkers.0) }
+    requires origin { W.origin walkers.1 ≡ W.origin walkers.0 }
     ensures says { IfOk result (λ r. Says W.after W.wanted (W.origin walkers.0) bounds.turns.count (bounds.places.count - 1) r.0) }
     ensures went { IfOk result (λ r. Went W.after (W.origin walkers.0) r.0 r.1) }
     ensures met { IfOk result (λ r. IfSome r.2 (Meets W.after W.tells (W.origin walkers.0) bounds.turns.count count)) }
@@ -63,13 +62,10 @@ fn explored<W: Space + Drop, P: Progress>(
     ensures ended { IfOk result (λ r. IsAnswerEndedBy (P.over progress.new) r.0) }
 {
     let (mut walker, mut base) = walkers;
-    let (mut other, mut trunk) = others;
     explore(
         alloc,
         &mut walker,
         &mut base,
-        &mut other,
-        &mut trunk,
         progress,
         bounds.turns.count,
         bounds.places.count - 1,
@@ -94,8 +90,7 @@ fn answered<P: Progress>(
     ensures ended { IfOk result (λ r. IsAnswerEndedBy (P.over progress.new) r.0) }
 {
     let walkers = two_walkers(orders, question)?;
-    let others = two_walkers(orders, question)?;
-    explored(alloc, walkers, others, progress, bounds, NUMBERS as usize)
+    explored(alloc, walkers, progress, bounds, NUMBERS as usize)
 }
 
 /// Which calls are made in orders, where the search for a question tells which are made by its runs.

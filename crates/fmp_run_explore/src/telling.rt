@@ -5,7 +5,6 @@ ghost use Rattle.fmp_search_orders.specs.Places as places;
 ghost use Rattle.fmp_trace.specs.Lines.{lines_from};
 
 use crate::orders::Orders;
-use fmp_search::Space;
 use fmp_search_kernel::Walker;
 use fmp_search_pattern::Question;
 use fmp_trace::put_line;
@@ -26,7 +25,7 @@ pub fn trace_along(
 {
     let names = orders.config.names();
     let mut walker = Walker::new(orders.config, orders.scripts, orders.rules, question)?;
-    walker.restart()?;
+    walker.start_over()?;
     let mut out = Vec::new(alloc);
     let mut n: u32 = 0;
     for step in steps {

@@ -13,7 +13,7 @@ ghost use Rattle.fmp_run_explore_from.specs.declared.begun.BegunFault.TheVariant
 use fmp_codes::Event;
 use fmp_names::Names;
 use fmp_run_explore::Orders;
-use fmp_search::{Choice, Space};
+use fmp_search::Choice;
 use fmp_search_kernel::{Walker, choice_of};
 use fmp_search_pattern::Question;
 use fmp_trace::{event_of, is_line, next_line};
@@ -100,7 +100,7 @@ pub(crate) fn begun_choices(
     names.validity();
     let nothing = Question::new(Vec::new(alloc));
     let mut walker = Walker::new(orders.config, orders.scripts, orders.rules, &nothing)?;
-    walker.restart()?;
+    walker.start_over()?;
     let mut scratch = Vec::new(alloc);
     let mut choices = Vec::new(alloc);
     let mut number: u32 = 1;

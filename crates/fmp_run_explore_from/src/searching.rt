@@ -21,26 +21,22 @@ use fmp_search_orders::begun_answer;
 use fmp_search_pattern::Question;
 use std::alloc::{AllocError, Global};
 
-/// What `explore_along` gives, by these two pairs. It is of any space, since in a function of walkers, which borrow what they are asked, the check of
+/// What `explore_along` gives, by these two. It is of any space, since in a function of walkers, which borrow what they are asked, the check of
 /// these borrows takes minutes.
 fn explored_along<W: Space + Drop, P: Progress>(
     alloc: Global,
     walkers: (W, W),
-    others: (W, W),
     choices: &[Choice],
     progress: &mut P,
     bounds: Bounds,
 ) -> Result<Answer, AllocError>
-    requires origins { (W.origin walkers.1 ≡ W.origin walkers.0) × (W.origin others.0 ≡ W.origin walkers.0) × (W.origin others.1 ≡ W.origin walkers.0) }
+    requires origin { W.origin walkers.1 ≡ W.origin walkers.0 }
     ensures says { IfOk result (λ answer. SaysAlong W.after W.wanted (W.origin walkers.0) choices.now bounds.turns.count (bounds.places.count - 1) answer) }
     ensures ended { IfOk result (IsAnswerEndedBy (P.over progress.new)) }
 {
     let (walker, base) = walkers;
-    let (other, trunk) = others;
     let (turns, more) = (bounds.turns.count, bounds.places.count - 1);
-    explore_along(
-        alloc, walker, base, other, trunk, choices, progress, turns, more,
-    )
+    explore_along(alloc, walker, base, choices, progress, turns, more)
 }
 
 /// What is known of all runs over places that begin with a step of each of these choices, as far as the bounds say.
@@ -58,8 +54,7 @@ fn answered_along<P: Progress>(
         (bounds.places.count - 1) answer) }
 {
     let walkers = two_walkers(orders, question)?;
-    let others = two_walkers(orders, question)?;
-    explored_along(alloc, walkers, others, choices, progress, bounds)
+    explored_along(alloc, walkers, choices, progress, bounds)
 }
 
 /// What is known of all orders that go on from the one whose events have these choices, and the text that tells it. The error is

@@ -49,18 +49,17 @@ fn two_watchers<'a>(
     Ok((first, second))
 }
 
-/// What `for_ever` gives, by these two pairs. It is of any space, since in a function of walkers, which borrow what they are asked, the check of these
+/// What `for_ever` gives, by these two. It is of any space, since in a function of walkers, which borrow what they are asked, the check of these
 /// borrows takes minutes.
 fn stayed<W: Space + Drop, P: Progress>(
     alloc: Global,
     walkers: (W, W),
-    others: (W, W),
     progress: &mut P,
     bounds: Bounds,
     tests: u8,
     count: usize,
 ) -> Result<(Stay, Extent, Option<Met>), AllocError>
-    requires origins { (W.origin walkers.1 ≡ W.origin walkers.0) × (W.origin others.0 ≡ W.origin walkers.0) × (W.origin others.1 ≡ W.origin walkers.0) }
+    requires origin { W.origin walkers.1 ≡ W.origin walkers.0 }
     requires tests { tests ≤ 64 }
     ensures says { IfOk result (λ r. SaysForEver W.after W.passes W.wanted (W.origin walkers.0) tests bounds.turns.count (bounds.places.count - 1)
         (P.over progress.new) r.0) }
@@ -69,13 +68,10 @@ fn stayed<W: Space + Drop, P: Progress>(
     ensures beside { IfOk result (λ r. IsMetBesideStay bounds.turns.count r.0 r.2) }
 {
     let (mut walker, mut base) = walkers;
-    let (mut other, mut trunk) = others;
     for_ever(
         alloc,
         &mut walker,
         &mut base,
-        &mut other,
-        &mut trunk,
         progress,
         bounds.turns.count,
         bounds.places.count - 1,
@@ -106,17 +102,8 @@ fn answered<P: Progress>(
     let _names = orders.config.names();
     made_answer();
     let walkers = two_watchers(orders, none, lasting)?;
-    let others = two_watchers(orders, none, lasting)?;
     let tests = lasting.len() as u8;
-    stayed(
-        alloc,
-        walkers,
-        others,
-        progress,
-        bounds,
-        tests,
-        NUMBERS as usize,
-    )
+    stayed(alloc, walkers, progress, bounds, tests, NUMBERS as usize)
 }
 
 /// What `calls_made` gives, by those who watch for something. It makes no difference what that is.
@@ -137,11 +124,9 @@ fn calls_met<P: Progress>(
     let _names = orders.config.names();
     made_answer();
     let walkers = two_watchers(orders, none, lasting)?;
-    let others = two_watchers(orders, none, lasting)?;
     meet(
         alloc,
         walkers,
-        others,
         progress,
         bounds.turns.count,
         bounds.places.count - 1,

@@ -1,13 +1,13 @@
 //! One who goes through all orders and tells of each event which figure is beyond its bound after it.
 ghost use Rattle.std.specs.Prelude.{◌≡◌, ◌≤◌, length, IfOk, false};
 ghost use Rattle.fmp_search_orders.specs.Places as places;
-ghost use Rattle.fmp_search_kernel.specs.Hashed.{hashed};
+ghost use Rattle.fmp_search_kernel.specs.Keys.{IsPlaceKey};
 ghost use Rattle.fmp_run_most.specs.Gauged as spec;
 
 use crate::figure::{Figure, is_beyond, value};
 use crate::sizing::Sizing;
 use fmp_search::{Noted, Space};
-use fmp_search_kernel::Walker;
+use fmp_search_kernel::{PlaceTables, Walker};
 use fmp_step_words::Views;
 use std::alloc::AllocError;
 use std::marker::Model;
@@ -64,6 +64,8 @@ impl<'a> Gauge<'a> {
 }
 
 impl<'a> Space for Gauge<'a> {
+    type Tables = PlaceTables;
+
     ghost Place = { spec.Gauged };
 
     ghost place = { λ g. g.place };
@@ -78,16 +80,20 @@ impl<'a> Space for Gauge<'a> {
 
     ghost tells = { spec.gauged_number };
 
-    ghost hashed = { λ g. hashed g.place };
+    ghost IsKey = { λ o t k g. (g.figures ≡ o.figures) × (g.bounds ≡ o.bounds) × IsPlaceKey o.place t k g.place };
 
     ghost room = { λ g. g.left };
 
-    fn another(&self) -> Result<Self, AllocError> {
-        Ok(Gauge {
-            walker: self.walker.another()?,
-            figures: self.figures,
-            bounds: self.bounds,
-        })
+    fn tables(&self) -> Result<PlaceTables, AllocError> {
+        self.walker.tables()
+    }
+
+    fn pack(&self, tables: &mut PlaceTables) -> Result<u64, AllocError> {
+        self.walker.pack(tables)
+    }
+
+    fn unpack(&mut self, tables: &PlaceTables, key: u64) -> Result<(), AllocError> {
+        self.walker.unpack(tables, key)
     }
 
     fn restart(&mut self) -> Result<(), AllocError> {
@@ -113,10 +119,6 @@ impl<'a> Space for Gauge<'a> {
         }))
     }
 
-    fn again(&mut self, step: u8) {
-        self.walker.again(step);
-    }
-
     fn copy_from(&mut self, other: &Self) -> Result<(), AllocError> {
         self.walker.copy_from(&other.walker)
     }
@@ -127,14 +129,5 @@ impl<'a> Space for Gauge<'a> {
 
     fn is_wanted(&self) -> bool {
         false
-    }
-
-    /// The figures and their bounds are the same: the runs of both begin at the same place.
-    fn is_same(&self, other: &Self) -> bool {
-        self.walker.is_same(&other.walker)
-    }
-
-    fn hash(&self) -> u64 {
-        self.walker.hash()
     }
 }

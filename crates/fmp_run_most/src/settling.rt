@@ -79,12 +79,10 @@ fn beyond_met<P: Progress>(
         (within.places.count - 1) (P.over progress.new)) }
 {
     let walkers = two_gauges(sizing, bounds)?;
-    let others = two_gauges(sizing, bounds)?;
     let count = sizing.figures.len() * SPAN as usize;
     meet(
         alloc,
         walkers,
-        others,
         progress,
         within.turns.count,
         within.places.count - 1,

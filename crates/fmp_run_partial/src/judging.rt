@@ -19,7 +19,7 @@ use fmp_text::{MOST_BYTES, TextFault, TextKind};
 use fmp_trace_orders::{judge_orders, read_lines};
 use std::alloc::Global;
 
-/// For how many places of a search for an order there is room besides the first. Each takes 24 to 32 bytes.
+/// For how many places of a search for an order there is room besides the first. Each takes 24 to 32 bytes, and what no place before it has of its parts.
 const MOST_PLACES: u32 = 4_000_000;
 
 /// Judges lines of which some say something of the order of lines: whether an order within their bounds is the machine's.

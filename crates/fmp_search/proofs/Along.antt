@@ -1,6 +1,6 @@
 -- Runs whose first steps are given, and the graph of these.
 use Rattle.std.proofs.Common.{◌≡◌, ℕ, zero, suc, ◌+◌, ◌≤◌, Bool, true, false, ◌&&◌, cond, Option, None, Some, List, [], ◌∷◌, drop, length, refl, ap, sym, subst, ◌∙◌, arith, rules}
-use Rattle.std.specs.Prelude.{nat_lt, is_some}
+use Rattle.std.specs.Prelude.{nat_lt}
 use Rattle.std.proofs.Math.Numerals.{suc-eq-add-one}
 use Rattle.std.proofs.lemmas.Grind.{common_steps}
 use Rattle.std.specs.Option.{option_map, option_and_then}
@@ -100,14 +100,6 @@ module _ {P : Type 0} (after : P → ℕ → Option P) where
       go : (o : Option P) → Goes o made r → Goes (option_map (guide (drop 1 cs)) o) made (guide (drop 1 cs) r)
       go None h = h
       go (Some x) h = (h.0, ap (guide (drop 1 cs)) h.1)
-
-  pub again_guided : (q r : P) (cs : List Choice) (s : ℕ) → is_some (guided_after after (guide cs q) s) ≡ true → after q s ≡ Some r →
-      guided_after after (guide cs q) s ≡ Some (guide (drop 1 cs) r)
-  again_guided q r cs s some to = go (may_choose cs s) refl
-    where
-      go : (b : Bool) → may_choose cs s ≡ b → guided_after after (guide cs q) s ≡ Some (guide (drop 1 cs) r)
-      go true may = rw (may, to) refl
-      go false may = let bad : false ≡ true = subst (λ (b : Bool). is_some (cond b (option_map (guide (drop 1 cs)) (after q s)) None) ≡ true) may some in absurd (search (rules, bad))
 
   -- ---- answers
   module _ (wanted : P → Bool) (q : P) (cs : List Choice) where

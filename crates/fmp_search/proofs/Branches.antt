@@ -19,14 +19,6 @@ use Rattle.fmp_search.proofs.Trees.{run-append, found-root}
 with_path-length : (found : List (List ℕ)) (n : Node) → length (with_path found n) ≡ length found + 1
 with_path-length found n = grind (arith, common_steps)
 
-folded-length : (found : List (List ℕ)) (ns : List Node) → length (fold with_path found ns) ≡ length found + length ns
-folded-length found [] = omega arith
-folded-length found (n ∷ ns) = let l = with_path-length found n in let more = folded-length (with_path found n) ns in grind (arith, common_steps, l, more)
-
-pub paths-length : (ns : List Node) → length (paths ns) ≡ length ns + 1
-unfolding paths
-paths-length ns = let e = folded-length ([] ∷ []) ns in omega (arith, e)
-
 -- the paths that were there stay
 folded-stays : (found : List (List ℕ)) (ns : List Node) (i : ℕ) → i < length found → get_or (fold with_path found ns) i [] ≡ get_or found i []
 folded-stays found [] i lt = refl
@@ -69,7 +61,7 @@ path-step ns k d following lt =
 -- ---- where it leads
 
 abbrev pub nobody : Node
-nobody = record { hash = 0; parent = 0; step = 0 }
+nobody = record { key = 0; parent = 0; step = 0 }
 
 module _ {P : Type 0} (after : P → ℕ → Option P) (q : P) where
   pub tree-following : (ns : List Node) → IsTree after q ns → AreAfter ns
@@ -118,26 +110,6 @@ module _ {P : Type 0} (after : P → ℕ → Option P) (q : P) where
       let count = path_long ns i tree low in
       let long : length (path_at ns i ++ s ∷ []) ≡ length (path_at ns i) + 1 = grind (arith, common_steps) in
       (goes_on (path_at ns i) (s ∷ []) _ _ (path_leads ns i tree low) (one_step _ r s goes), omega (arith, long, count))
-
-  -- a run that passes a place leads on from there
-  leads_between : (xs ys : List ℕ) (p : P) (r : P) → run after q xs ≡ Some p → run after q (xs ++ ys) ≡ Some r → run after p ys ≡ Some r
-  leads_between xs ys p r first all = sym (run-append after q xs ys ∙ ap (option_and_then (λ x. run after x ys)) first) ∙ all
-
-  -- what steps are left from one place to another, where both are on a way
-  pub rest_leads :
-      (ns : List Node) (from at : ℕ) (steps : List ℕ) → IsTree after q ns → from ≤ length ns → at ≤ length ns → path_at ns from ++ steps ≡ path_at ns at →
-      run after (found_at after q ns from).place steps ≡ Some (found_at after q ns at).place
-  rest_leads ns from at steps tree low high is =
-      leads_between (path_at ns from) steps _ _ (path_leads ns from tree low) (ap (run after q) is ∙ path_leads ns at tree high)
-
-  pub rest_long :
-      (ns : List Node) (from at : ℕ) (steps : List ℕ) → IsTree after q ns → from ≤ length ns → at ≤ length ns → path_at ns from ++ steps ≡ path_at ns at →
-      (found_at after q ns from).depth + length steps ≡ (found_at after q ns at).depth
-  rest_long ns from at steps tree low high is =
-      let a = path_long ns from tree low in
-      let b = path_long ns at tree high in
-      let sum : length (path_at ns from) + length steps ≡ length (path_at ns at) = grind (arith, common_steps, is) in
-      omega (arith, a, b, sum)
 
 -- the steps back to the place before one, where the way on is known from that one
 pub walk_back :

@@ -1,29 +1,27 @@
 -- How a layer is opened, step by step.
-use Rattle.std.proofs.Common.{◌≡◌, ◌⊎◌, inl, inr, ℕ, ◌+◌, ◌<◌, ◌≤◌, ◌^◌, Bool, true, false, Option, None, Some, List, [], ◌∷◌, ◌++◌, length, refl, ap, sym, subst, ◌∙◌, arith, rules}
+use Rattle.std.proofs.Common.{◌≡◌, ◌⊎◌, inl, inr, ℕ, ◌+◌, ◌<◌, ◌≤◌, Bool, true, false, Option, None, Some, List, [], ◌∷◌, ◌++◌, length, refl, ap, sym, subst, ◌∙◌, arith, rules}
 use Rattle.std.specs.Prelude.{slice_get}
 use Rattle.std.proofs.Math.Nat.{eq-or-lt_of_le}
 use Rattle.std.proofs.lemmas.Bool.{cases_lt}
 use Rattle.std.proofs.lemmas.Grind.{common_steps}
-use Rattle.fmp_search.specs.declared.cache.Cached.{Cached}
 use Rattle.fmp_search.specs.declared.chart.Chart.{Chart}
 use Rattle.fmp_search.specs.declared.edges.Edge.{Edge}
 use Rattle.fmp_search.specs.declared.layer.Layer.{Layer}
 use Rattle.fmp_search.specs.declared.layer.Layer.TheVariants as layer
 use Rattle.fmp_search.specs.declared.nodes.Node.{Node}
 use Rattle.fmp_search.specs.Answers.{HasMore, IsShortest}
-use Rattle.fmp_search.specs.Cache.{AreNear}
 use Rattle.fmp_search.specs.Charts.{Adds, AreLeft}
 use Rattle.fmp_search.specs.Fronts.{Advances, IsFront, IsOpen, IsStopped, Stays}
 use Rattle.fmp_search.specs.Growth.{AreTried, Extends, IsTried}
 use Rattle.fmp_search.specs.declared.space.Noted.{Noted}
 use Rattle.fmp_search.specs.Runs.{AreClosed, told_of, Watches}
+use Rattle.fmp_interned.specs.Keys.{AreKeptBy}
 use Rattle.fmp_search.specs.Steps.{path_at}
 use Rattle.fmp_search.specs.Trees.{Found, found_at, Has, IsAt, IsNew, IsRunOver, Stands}
 use Rattle.fmp_search.proofs.Branches.{run_over}
 use Rattle.fmp_search.proofs.Charted.{charted_there, charting_more, charting_next, charting_same, edge_is_true, joined_by, none_needed, none_there, not_there, step_there}
 use Rattle.fmp_search.proofs.Growth.{found_here, stepped, tried_at, tried_more}
-use Rattle.fmp_search.proofs.Hashes.{hashed_more}
-use Rattle.fmp_search.proofs.InCache.{cache_stays}
+use Rattle.fmp_search.proofs.Keys.{keyed_later, keyed_more}
 use Rattle.fmp_search.proofs.Layers.{is-shortest}
 use Rattle.fmp_search.proofs.Marking.{none_marked, noted_more, noted_next, not_marked}
 
@@ -31,12 +29,11 @@ one_more : (steps : List ℕ) (s n : ℕ) → length steps ≤ n → length (ste
 one_more steps s n few = grind (arith, common_steps, few)
 
 -- what stays over steps, and over more of them, stays over all
-pub stays_on : {P X : Type 0} (origin : X → P) (q : P) (w b o v a p : X) (most mid room : ℕ) (kept : Bool) (count : ℕ) (between new : Chart) →
-    Stays origin q w b o most mid kept count between → Stays origin (origin w) v a p mid room between.kept (length between.marks.items) new → Stays origin q v a p most room kept count new
-stays_on origin q w b o v a p most mid room kept count between new one two = record {
+pub stays_on : {P X : Type 0} (origin : X → P) (q : P) (w b v a : X) (most mid room : ℕ) (kept : Bool) (count : ℕ) (between new : Chart) →
+    Stays origin q w b most mid kept count between → Stays origin (origin w) v a mid room between.kept (length between.marks.items) new → Stays origin q v a most room kept count new
+stays_on origin q w b v a most mid room kept count between new one two = record {
   walker_origin = two.walker_origin ∙ one.walker_origin;
   base_origin = two.base_origin ∙ one.walker_origin;
-  other_origin = two.other_origin ∙ one.walker_origin;
   same_room = two.same_room ∙ one.same_room;
   same = two.same ∙ one.same;
   marks = two.marks ∙ one.marks;
@@ -60,49 +57,43 @@ module _ {P : Type 0} (after : P → ℕ → Option P) (q : P) where
 
 module _ {P X : Type 0} (place : X → P) (room : X → ℕ) (origin : X → P) (after : P → ℕ → Option P) (q : P) where
   -- one stands at the same place where others were added
-  pub stands_there : (nodes more : List Node) (i : ℕ) (w : X) → Extends after q nodes more → Stands place room origin after q nodes i w → Stands place room origin after q more i w
-  stands_there nodes more i w extends at =
-      let known = at.stands.known in
-      let longer = extends.longer in
-      let stays = extends.stays i at.stands.known in record {
-        same = at.same;
-        stands = record {
-          known = omega (arith, known, longer);
-          there = at.stands.there ∙ sym (ap (λ (f : Found P). f.place) stays);
-          roomy = subst (λ (f : Found P). 2 ^ 31 ≤ room w + f.depth) (sym stays) at.stands.roomy;
-        };
-      }
+  pub stands_there : (nodes more : List Node) (i : ℕ) (w : X) → i ≤ length nodes → Extends after q nodes more → Stands place room origin after q nodes i w → Stands place room origin after q more i w
+  stands_there nodes more i w low extends at = record {
+    same = at.same;
+    there = at.there ∙ sym (ap (λ (f : Found P). f.place) (extends.stays i low));
+    roomy = at.roomy;
+  }
 
-module _ {P X : Type 0} (place : X → P) (room : X → ℕ) (origin : X → P) (after : P → ℕ → Option P) (hashed : P → ℕ) (zeroth : ℕ) (wanted : P → Bool) (q : P) (n first : ℕ) where
-  abbrev Front : List Node → List (Cached X) → ℕ → ℕ → Type 0
-  Front nodes cache at step = IsFront place room origin after hashed zeroth wanted q n first nodes cache at step
+module _ {P : Type 0} (after : P → ℕ → Option P) (IsKey : ℕ → P → Type 0) (zeroth : ℕ) (wanted : P → Bool) (q : P) (n first : ℕ) where
+  abbrev Front : List Node → ℕ → ℕ → Type 0
+  Front nodes at step = IsFront after IsKey zeroth wanted q n first nodes at step
 
-  pub near_of : (nodes : List Node) (cache : List (Cached X)) (at step : ℕ) → n + 1 < 2 ^ 31 → Front nodes cache at step → AreNear place room origin after q nodes cache
-  near_of nodes cache at step lt x = record { tree = x.explored.tree; depths = λ i le. let d = x.explored.depths i le in omega (arith, d, lt); all = x.all }
+  -- there are more keys
+  pub front_later : (later : ℕ → P → Type 0) (nodes : List Node) (at step : ℕ) → AreKeptBy IsKey later → Front nodes at step → IsFront after later zeroth wanted q n first nodes at step
+  front_later later nodes at step kept x = record { explored = x.explored; tried = x.tried; keys = keyed_later after q IsKey later zeroth nodes kept x.keys }
 
   -- a step led to a place that was found before
-  pub front_known : (nodes : List Node) (cache : List (Cached X)) (at step number : ℕ) (r : P) → at < first → after (found_at after q nodes at).place step ≡ Some r → IsAt after q nodes number r →
-      Front nodes cache at step → Front nodes cache at (step + 1) × Extends after q nodes nodes × IsAt after q nodes number r
-  front_known nodes cache at step number r lt made is x =
+  pub front_known : (nodes : List Node) (at step number : ℕ) (r : P) → at < first → after (found_at after q nodes at).place step ≡ Some r → IsAt after q nodes number r →
+      Front nodes at step → Front nodes at (step + 1) × Extends after q nodes nodes × IsAt after q nodes number r
+  front_known nodes at step number r lt made is x =
       let few = x.explored.few in
       let low : at ≤ length nodes = omega (arith, lt, few) in
       let same = extends_same after q nodes in (
         record {
           explored = x.explored;
           tried = tried_more after q nodes nodes at step low same x.tried (tried_at after q nodes nodes at step number r low made same is);
-          all = x.all;
-          hashes = x.hashes;
+          keys = x.keys;
         },
         same,
         is,
       )
 
   -- or to one that was added
-  pub front_more : (next : ℕ) (nodes more : List Node) (cache : List (Cached X)) (at step hash number : ℕ) (r : P) → next ≡ zeroth → at < first → after (found_at after q nodes at).place step ≡ Some r → wanted r ≡ false →
-      IsNew after q nodes r → hash ≡ hashed r → more ≡ nodes ++ record { hash = hash; parent = at; step = step } ∷ [] → number ≡ length more → Front nodes cache at step →
-      IsFront place room origin after hashed next wanted q n first more cache at (step + 1) × Extends after q nodes more × IsAt after q more number r
-  front_more next nodes more cache at step hash number r same lt made clean new of is last x =
-      let node : Node = record { hash = hash; parent = at; step = step } in
+  pub front_more : (next : ℕ) (nodes more : List Node) (at step key number : ℕ) (r : P) → next ≡ zeroth → at < first → after (found_at after q nodes at).place step ≡ Some r → wanted r ≡ false →
+      IsNew after q nodes r → IsKey key r → more ≡ nodes ++ record { key = key; parent = at; step = step } ∷ [] → number ≡ length more → Front nodes at step →
+      IsFront after IsKey next wanted q n first more at (step + 1) × Extends after q nodes more × IsAt after q more number r
+  front_more next nodes more at step key number r same lt made clean new of is last x =
+      let node : Node = record { key = key; parent = at; step = step } in
       let got = stepped after q wanted nodes more n first at node r x.explored lt refl made clean new is in
       let few = x.explored.few in
       let low : at ≤ length nodes = omega (arith, lt, few) in
@@ -110,20 +101,19 @@ module _ {P X : Type 0} (place : X → P) (room : X → ℕ) (origin : X → P) 
         record {
           explored = got.0;
           tried = tried_more after q nodes more at step low got.1 x.tried (tried_at after q nodes more at step _ r low made got.1 got.2);
-          all = cache_stays place room origin after q nodes more node cache is x.all;
-          hashes = hashed_more after hashed q next zeroth nodes more node r same is x.hashes of got.2;
+          keys = keyed_more after q IsKey next zeroth nodes more node r same is x.keys of got.2;
         },
         got.1,
         subst (λ m. IsAt after q more m r) (sym (last ∙ long)) got.2,
       )
 
-module _ {P X : Type 0} (place : X → P) (room : X → ℕ) (origin : X → P) (after : P → ℕ → Option P) (hashed : P → ℕ) (zeroth : ℕ) (passes tells : P → ℕ → ℕ) (wanted : P → Bool) (q : P) (n first : ℕ) where
-  abbrev Open : List Node → List (Cached X) → Chart → ℕ → ℕ → Type 0
-  Open nodes cache chart at step = IsOpen place room origin after hashed zeroth passes tells wanted q n first nodes cache chart at step
+module _ {P : Type 0} (after : P → ℕ → Option P) (IsKey : ℕ → P → Type 0) (zeroth : ℕ) (passes tells : P → ℕ → ℕ) (wanted : P → Bool) (q : P) (n first : ℕ) where
+  abbrev Open : List Node → Chart → ℕ → ℕ → Type 0
+  Open nodes chart at step = IsOpen after IsKey zeroth passes tells wanted q n first nodes chart at step
 
   -- no more steps are tried
-  pub stopped_here : (nodes : List Node) (cache : List (Cached X)) (chart : Chart) (at step : ℕ) → at < first → Open nodes cache chart at step → IsStopped after passes q n nodes chart
-  stopped_here nodes cache chart at step lt x =
+  pub stopped_here : (nodes : List Node) (chart : Chart) (at step : ℕ) → at < first → Open nodes chart at step → IsStopped after passes q n nodes chart
+  stopped_here nodes chart at step lt x =
       let few = x.front.explored.few in
       let opened = x.charting.opened in record {
         found = found_here after q wanted nodes n first at x.front.explored;
@@ -133,17 +123,17 @@ module _ {P X : Type 0} (place : X → P) (room : X → ℕ) (origin : X → P) 
       }
 
   -- what is known where not all steps were tried is the same for later ones
-  pub stops_on : (most : ℕ) (over : Bool) (nodes : List Node) (cache left : List (Cached X)) (chart : Chart) (at step later next : ℕ) (how : Layer) → (how ≡ layer.Done → ⊥) →
-      Advances place room origin after hashed zeroth passes tells wanted q n first most false nodes cache chart at step how → Advances place room origin after hashed zeroth passes tells wanted q n first most over nodes left chart later next how
-  stops_on most over nodes cache left chart at step later next (layer.Found steps) not x = x
-  stops_on most over nodes cache left chart at step later next layer.Full not x = x
-  stops_on most over nodes cache left chart at step later next layer.Wanting not x = x
-  stops_on most over nodes cache left chart at step later next layer.Over not x = absurd (let is = x.1 in search (rules, is))
-  stops_on most over nodes cache left chart at step later next layer.Done not x = absurd (not refl)
+  pub stops_on : (most : ℕ) (over : Bool) (nodes : List Node) (chart : Chart) (at step later next : ℕ) (how : Layer) → (how ≡ layer.Done → ⊥) →
+      Advances after IsKey zeroth passes tells wanted q n first most false nodes chart at step how → Advances after IsKey zeroth passes tells wanted q n first most over nodes chart later next how
+  stops_on most over nodes chart at step later next (layer.Found steps) not x = x
+  stops_on most over nodes chart at step later next layer.Full not x = x
+  stops_on most over nodes chart at step later next layer.Wanting not x = x
+  stops_on most over nodes chart at step later next layer.Over not x = absurd (let is = x.1 in search (rules, is))
+  stops_on most over nodes chart at step later next layer.Done not x = absurd (not refl)
 
-  module _ (nodes : List Node) (cache : List (Cached X)) (chart : Chart) (at step : ℕ) (x : Open nodes cache chart at step) (lt : at < first) (p r : P) (there : p ≡ (found_at after q nodes at).place) where
+  module _ (nodes : List Node) (chart : Chart) (at step : ℕ) (x : Open nodes chart at step) (lt : at < first) (p r : P) (there : p ≡ (found_at after q nodes at).place) where
     -- a step cannot be made
-    pub open_same : Watches (after p step) (told_of passes tells p step) None r → Open nodes cache chart at (step + 1)
+    pub open_same : Watches (after p step) (told_of passes tells p step) None r → Open nodes chart at (step + 1)
     open_same none =
         let few = x.front.explored.few in
         let low : at ≤ length nodes = omega (arith, lt, few) in
@@ -152,8 +142,7 @@ module _ {P X : Type 0} (place : X → P) (room : X → ℕ) (origin : X → P) 
           front = record {
             explored = x.front.explored;
             tried = tried_more after q nodes nodes at step low (extends_same after q nodes) x.front.tried last;
-            all = x.front.all;
-            hashes = x.front.hashes;
+            keys = x.front.keys;
           };
           charting = charting_same after passes tells q nodes chart at step (not_there after passes tells q nodes chart.edges at step p r there none)
               (not_marked after passes tells p (found_at after q nodes at).place r chart.marks.items step there none) x.charting;
@@ -170,7 +159,7 @@ module _ {P X : Type 0} (place : X → P) (room : X → ℕ) (origin : X → P) 
           let near = x.front.explored.near at lt in
           let count = over_it.count in
           let few : length over_it.before ≤ n = omega (arith, count, near) in (
-            stopped_here nodes cache chart at step lt x,
+            stopped_here nodes chart at step lt x,
             subst (λ (ss : List ℕ). length ss ≤ n + 1) (sym over_it.is) (one_more over_it.before step n few),
             subst (λ (ss : List ℕ). IsShortest after wanted q ss) (sym over_it.is)
                 (is-shortest after wanted q nodes n first at step over_it.before r x.front.explored lt over_it.leads few goes_there is),
@@ -188,9 +177,9 @@ module _ {P X : Type 0} (place : X → P) (room : X → ℕ) (origin : X → P) 
           record { steps = path_at nodes at ++ step ∷ []; place = r; short = omega (arith, near, long); leads = over.0; new = new }
 
       -- or for which there is, and its edge was not added
-      pub stopped_more : (next : ℕ) (more : List Node) (new : Chart) → IsFront place room origin after hashed next wanted q n first more cache at (step + 1) → Extends after q nodes more → AreLeft chart new →
+      pub stopped_more : (later : ℕ → P → Type 0) (next : ℕ) (more : List Node) (new : Chart) → IsFront after later next wanted q n first more at (step + 1) → Extends after q nodes more → AreLeft chart new →
           IsStopped after passes q n more new
-      stopped_more next more new front extends left =
+      stopped_more later next more new front extends left =
           let few = x.front.explored.few in
           let longer = extends.longer in
           let was = x.charting.opened in
@@ -205,10 +194,10 @@ module _ {P X : Type 0} (place : X → P) (room : X → ℕ) (origin : X → P) 
           }
 
       -- or it was added
-      pub open_more : (next : ℕ) (more : List Node) (new : Chart) (number : ℕ) → IsFront place room origin after hashed next wanted q n first more cache at (step + 1) → Extends after q nodes more → IsAt after q more number r →
+      pub open_more : (later : ℕ → P → Type 0) (next : ℕ) (more : List Node) (new : Chart) (number : ℕ) → IsFront after later next wanted q n first more at (step + 1) → Extends after q nodes more → IsAt after q more number r →
           Adds (record { passes = t.passes; from = at; to = number; step = step }) t.number chart new →
-          IsOpen place room origin after hashed next passes tells wanted q n first more cache new at (step + 1)
-      open_more next more new number front extends is adds =
+          IsOpen after later next passes tells wanted q n first more new at (step + 1)
+      open_more later next more new number front extends is adds =
           let few = x.front.explored.few in
           let low : at ≤ length nodes = omega (arith, lt, few) in
           let longer = extends.longer in
@@ -224,9 +213,9 @@ module _ {P X : Type 0} (place : X → P) (room : X → ℕ) (origin : X → P) 
           }
 
   -- all steps of a place were tried
-  pub open_next : (nodes : List Node) (cache : List (Cached X)) (chart : Chart) (at m : ℕ) (p : P) → at < first → p ≡ (found_at after q nodes at).place → ((t : ℕ) → m ≤ t → after p t ≡ None) →
-      Open nodes cache chart at m → Open nodes cache (record chart { opened = at + 1 }) (at + 1) 0
-  open_next nodes cache chart at m p lt there none x =
+  pub open_next : (nodes : List Node) (chart : Chart) (at m : ℕ) (p : P) → at < first → p ≡ (found_at after q nodes at).place → ((t : ℕ) → m ≤ t → after p t ≡ None) →
+      Open nodes chart at m → Open nodes (record chart { opened = at + 1 }) (at + 1) 0
+  open_next nodes chart at m p lt there none x =
       let e = x.front.explored in
       let few = e.few in
       let low : at ≤ length nodes = omega (arith, lt, few) in
@@ -247,8 +236,7 @@ module _ {P X : Type 0} (place : X → P) (room : X → ℕ) (origin : X → P) 
                 opened_next after q nodes at m e.all_opened x.front.tried rest j s r (let le : j ≤ at = omega (arith, lt) in eq-or-lt_of_le le) (cases_lt s m) goes;
           };
           tried = λ s lt. absurd (omega (arith, lt));
-          all = x.front.all;
-          hashes = x.front.hashes;
+          keys = x.front.keys;
         };
         charting = charting_next after passes tells q nodes chart at m low (λ t le. none_needed after passes tells q nodes chart.edges at t p there (none t le))
             (noted_next after passes tells q nodes chart.marks.items at m (λ t le. none_marked after passes tells p _ chart.marks.items t there (none t le)) x.charting.noted) x.charting;

@@ -3,14 +3,12 @@ use Rattle.std.proofs.Common.{◌≡◌, ℕ, ◌+◌, ◌≤◌, Bool, true, fa
 use Rattle.std.specs.Option.{option_and_then}
 use Rattle.std.proofs.lemmas.Bool.{false≢true}
 use Rattle.std.proofs.lemmas.Grind.{common_steps}
+use Rattle.std.proofs.lemmas.Option.{same_Some}
 use Rattle.fmp_search.specs.declared.nodes.Node.{Node}
 use Rattle.fmp_search.specs.Runs.{run}
 use Rattle.fmp_search.specs.Trees.{found_at}
 use Rattle.fmp_search.specs.Forever.{ForEver, EndsForEver, NoneForEver, IsShortestForEver, mark_at, AreClosed, AreEarned, AreNearest, Enters, MarksSay}
 use Rattle.fmp_search.proofs.Trees.{run-append}
-
-some_same : {A : Type 0} (a b : A) → Some a ≡ Some b → a ≡ b
-some_same a b h = search rules
 
 -- one of two, whether a mark is there
 pub data Marked (b : Bool) : Type 0 where
@@ -32,7 +30,7 @@ module _ {P : Type 0} (after : P → ℕ → Option P) where
         AreClosed after test q nodes marks → (steps : List ℕ) (i : ℕ) (t u : P) (s : ℕ) → mark_at marks i ≡ false →
         run after (found_at after q nodes i).place steps ≡ Some t → after t s ≡ Some u → test t s ≡ true
     stays closed [] i t u s free leads goes =
-        let there = some_same _ _ leads in
+        let there = same_Some _ _ leads in
         subst (λ (x : P). test x s ≡ true) there (closed i s u free (subst (λ (x : P). after x s ≡ Some u) (sym there) goes)).0
     stays closed (a ∷ rest) i t u s free leads goes =
         let one = first_step (after (found_at after q nodes i).place a) t rest leads in

@@ -1,9 +1,7 @@
 -- What the marks of a test say of places.
-use Rattle.std.proofs.Common.{◌≡◌, ◌⊎◌, inl, inr, ℕ, ◌+◌, ◌<◌, ◌≤◌, Bool, true, false, Option, Some, List, [], ◌∷◌, length, refl, ap, sym, subst, ◌∙◌, arith}
-use Rattle.std.specs.Prelude.{slice_get}
+use Rattle.std.proofs.Common.{◌≡◌, ◌⊎◌, inl, inr, ℕ, ◌+◌, ◌<◌, ◌≤◌, Bool, true, false, Option, Some, List, [], ◌∷◌, length, refl, sym, subst, ◌∙◌, arith}
 use Rattle.std.specs.Option.{option_and_then}
 use Rattle.std.proofs.lemmas.Bool.{cases_lt, false≢true}
-use Rattle.std.proofs.lemmas.Option.{slice_get-get_or}
 use Rattle.std.proofs.lemmas.List.{get_or_past}
 use Rattle.fmp_search.specs.declared.nodes.Node.{Node}
 use Rattle.fmp_search.specs.declared.chart.Chart.{Chart}
@@ -37,9 +35,6 @@ low_if marks i is (inr le) = absurd (false≢true (sym is ∙ get_or_past marks 
 -- a number without a mark is not after the last
 pub low : (marks : List Bool) (i : ℕ) → mark_at marks i ≡ false → i < length marks
 low marks i is = low_if marks i is (cases_lt i (length marks))
-
-pub mark_got : (marks : List Bool) (i : ℕ) (b : Bool) → i < length marks → mark_at marks i ≡ b → slice_get marks i ≡ Some b
-mark_got marks i b lt is = slice_get-get_or marks i true lt ∙ ap (λ (x : Bool). Some x) is
 
 module _ {P : Type 0} (after : P → ℕ → Option P) (passes : P → ℕ → ℕ) (q : P) (nodes : List Node) (test : ℕ) (chart : Chart) (charted : IsCharted after passes q nodes chart) where
   -- from the place where an edge leaves that fails the test, a run gets out

@@ -2,12 +2,10 @@
 use Rattle.std.proofs.Common.{◌≡◌, ◌⊎◌, inl, inr, ℕ, ◌+◌, ◌-◌, ◌<◌, ◌≤◌, Bool, true, false, ◌||◌, List, ◌∷◌, length, Some, refl, ◌∙◌, sym, subst, arith, rules}
 use Rattle.std.specs.Prelude.{slice_get}
 use Rattle.std.proofs.Math.Nat.{eq-or-lt_of_le}
+use Rattle.std.proofs.lemmas.Option.{same_Some}
 use Rattle.fmp_search.specs.declared.edges.Edge.{Edge}
 use Rattle.fmp_search.specs.Forever.{mark_at}
 use Rattle.fmp_search.specs.Spreads.{AreDue, AreWithin, HasWay}
-
-pub some_same : (a b : Edge) → Some a ≡ Some b → a ≡ b
-some_same a b h = cc
 
 -- where neither of two is so, the one is not, and the other is not
 pub neither : (a b : Bool) → (a || b) ≡ false → (a ≡ false) × (b ≡ false)
@@ -21,7 +19,7 @@ next_or_earlier :
     (k : ℕ) (e : Edge) → (n ≡ k + (at + 1)) ⊎ (n < k + (at + 1)) → slice_get edges k ≡ Some e → mark_at marks e.to ≡ true → mark_at marks e.from ≡ true
 next_or_earlier edges marks n at one is_one earlier next k e (inl is) get to =
     let number : k ≡ n - 1 - at = omega (arith, is) in
-    let same : one ≡ e = some_same one e (sym is_one ∙ subst (λ m. slice_get edges m ≡ Some e) number get) in
+    let same : one ≡ e = same_Some one e (sym is_one ∙ subst (λ m. slice_get edges m ≡ Some e) number get) in
     subst (λ (x : Edge). mark_at marks x.from ≡ true) same (next (subst (λ (x : Edge). mark_at marks x.to ≡ true) (sym same) to))
 next_or_earlier edges marks n at one is_one earlier next k e (inr lt) get to = earlier k e (omega (arith, lt)) get to
 

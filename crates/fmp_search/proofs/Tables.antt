@@ -11,7 +11,7 @@ use Rattle.std.proofs.lemmas.List.{get_or-set_other, get_or-set_same, length-set
 use Rattle.std.proofs.lemmas.List.Sums.{sum_by-cons, sum_by-set}
 use Rattle.std.proofs.lemmas.Grind.{common_steps}
 use Rattle.fmp_search.specs.declared.nodes.Node.{Node}
-use Rattle.fmp_search.specs.Tables.{slot_at, tried, free_in, AreMet, Holds, IsMet, IsPut}
+use Rattle.fmp_search.specs.Tables.{mixed, slot_at, tried, free_in, AreMet, Holds, IsMet, IsPut}
 
 slot_low : (first turn slots : ℕ) → first < slots → turn < slots → slot_at first turn slots < slots
 unfolding slot_at
@@ -112,17 +112,17 @@ fewer_free old new hash number some is_put =
     let low : at < length old = slot_low (hash % length old) is_put.turn (length old) (mod-lt hash room) is_put.low in
     subst (λ (xs : List ℕ). free_in xs + 1 ≡ free_in old) (sym is_put.is) (one_fewer old at number low is_put.free some)
 
-met_all : (old new : List ℕ) (nodes : List Node) (node : Node) (number : ℕ) → number ≡ length nodes + 1 → AreMet old nodes → IsPut old new node.hash number →
-    (k : ℕ) (d : Node) → (k ≡ length nodes) ⊎ (k < length nodes) → IsMet new (slice_index_or (nodes ++ node ∷ []) k d).hash (k + 1)
+met_all : (old new : List ℕ) (nodes : List Node) (node : Node) (number : ℕ) → number ≡ length nodes + 1 → AreMet old nodes → IsPut old new (mixed node.key) number →
+    (k : ℕ) (d : Node) → (k ≡ length nodes) ⊎ (k < length nodes) → IsMet new (mixed (slice_index_or (nodes ++ node ∷ []) k d).key) (k + 1)
 met_all old new nodes node number is all is_put k d (inl last) =
-    let there = met_there old new node.hash number (λ z. absurd (omega (arith, z, is))) is_put in
-    rw last (rw (get_or-append_seam nodes node [] d) (subst (λ n. IsMet new node.hash n) is there))
+    let there = met_there old new (mixed node.key) number (λ z. absurd (omega (arith, z, is))) is_put in
+    rw last (rw (get_or-append_seam nodes node [] d) (subst (λ n. IsMet new (mixed node.key) n) is there))
 met_all old new nodes node number is all is_put k d (inr lt) =
     rw (get_or-append nodes (node ∷ []) d k lt)
-    (met_still old new node.hash number (slice_index_or nodes k d).hash (k + 1) (λ z. absurd (omega (arith, z, is))) (λ z. absurd (omega (arith, z))) is_put (all k d lt))
+    (met_still old new (mixed node.key) number (mixed (slice_index_or nodes k d).key) (k + 1) (λ z. absurd (omega (arith, z, is))) (λ z. absurd (omega (arith, z))) is_put (all k d lt))
 
 -- all numbers are met, where one more was put in
-pub met_more : (old new : List ℕ) (nodes more : List Node) (node : Node) (number : ℕ) → more ≡ nodes ++ node ∷ [] → number ≡ length nodes + 1 → AreMet old nodes → IsPut old new node.hash number →
+pub met_more : (old new : List ℕ) (nodes more : List Node) (node : Node) (number : ℕ) → more ≡ nodes ++ node ∷ [] → number ≡ length nodes + 1 → AreMet old nodes → IsPut old new (mixed node.key) number →
     AreMet new more
 met_more old new nodes more node number longer is all is_put =
     subst (λ (ns : List Node). AreMet new ns) (sym longer)
@@ -131,10 +131,10 @@ met_more old new nodes more node number longer is all is_put =
 
 -- a table that has the numbers of some nodes has those of one more, where its number was put in
 pub holds_more : (old new : List ℕ) (nodes more : List Node) (node : Node) (number : ℕ) → more ≡ nodes ++ node ∷ [] → number ≡ length nodes + 1 → Holds old nodes →
-    IsPut old new node.hash number → Holds new more
+    IsPut old new (mixed node.key) number → Holds new more
 holds_more old new nodes more node number longer is holds is_put =
     let free = holds.free in
-    let fewer = fewer_free old new node.hash number (λ z. absurd (omega (arith, z, is))) is_put in
+    let fewer = fewer_free old new (mixed node.key) number (λ z. absurd (omega (arith, z, is))) is_put in
     let slots : length new ≡ length old = ap (λ (xs : List ℕ). length xs) is_put.is ∙ length-set old _ number in
     let long : length more ≡ length nodes + 1 = ap (λ (ns : List Node). length ns) longer ∙ grind (arith, common_steps) in
     record { free = omega (arith, free, fewer, slots, long); met = met_more old new nodes more node number longer is holds.met is_put }

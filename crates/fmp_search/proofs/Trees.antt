@@ -1,5 +1,5 @@
 -- One node more, and runs in two parts.
-use Rattle.std.proofs.Common.{◌≡◌, ◌⊎◌, ℕ, ◌+◌, ◌<◌, ◌≤◌, ◌^◌, true, Option, None, Some, List, [], ◌∷◌, ◌++◌, length, get_or, inl, inr, refl, ap, sym, subst, ◌∙◌, arith, rules}
+use Rattle.std.proofs.Common.{◌≡◌, ℕ, ◌+◌, ◌<◌, ◌≤◌, Option, None, Some, List, [], ◌∷◌, ◌++◌, length, get_or, refl, arith}
 use Rattle.std.specs.Prelude.{unwrap_or}
 use Rattle.std.specs.Option.{option_and_then}
 use Rattle.std.specs.List.{fold}
@@ -8,8 +8,8 @@ use Rattle.std.proofs.lemmas.Grind.{common_steps}
 use Rattle.std.proofs.Math.ListN.{get_or-append}
 use Rattle.std.proofs.Math.Seq.{get_or-append_seam}
 use Rattle.fmp_search.specs.declared.nodes.Node.{Node}
-use Rattle.fmp_search.specs.Runs.{run, Goes}
-use Rattle.fmp_search.specs.Trees.{Found, root, made_by, with_node, places, found_at, IsTree, StandsAt, Has}
+use Rattle.fmp_search.specs.Runs.{run}
+use Rattle.fmp_search.specs.Trees.{Found, root, made_by, with_node, places, found_at, IsTree, Has}
 
 module _ {P : Type 0} (after : P → ℕ → Option P) where
   pub run-append : (q : P) (xs ys : List ℕ) → run after q (xs ++ ys) ≡ option_and_then (λ r. run after r ys) (run after q xs)
@@ -76,49 +76,3 @@ module _ {P : Type 0} (after : P → ℕ → Option P) where
   pub found-root : (q : P) (ns : List Node) → found_at after q ns 0 ≡ root q
   unfolding places
   found-root q ns = folded-first q (root q ∷ []) ns (omega arith)
-
-  -- the place after a step that was made
-  pub made : (o : Option P) (p : P) → Goes o true p → o ≡ Some p
-  made None p g = absurd (search rules)
-  made (Some r) p g = rw g.1 refl
-
--- one of two numbers that are the same
-pub either_same : (n m : ℕ) → (n ≡ m) ⊎ (n ≡ m) → n ≡ m
-either_same n m (inl is) = is
-either_same n m (inr is) = is
-
--- a number that is not the one is the other
-pub other_of : (n m k : ℕ) → (n ≡ m → ⊥) → (n ≡ m) ⊎ (n ≡ k) → n ≡ k
-other_of n m k not (inl is) = absurd (not is)
-other_of n m k not (inr is) = is
-
-module _ {P : Type 0} (after : P → ℕ → Option P) (q : P) (nodes : List Node) where
-  -- one who is where all runs begin, with all room, stands at place 0
-  pub stands_first : (i : ℕ) (place : P) (room : ℕ) → i ≡ 0 → place ≡ q → 2 ^ 31 ≤ room → StandsAt after q nodes i place room
-  stands_first i place room first there roomy =
-      let is : found_at after q nodes i ≡ root q = ap (found_at after q nodes) first ∙ found-root after q nodes in
-      record { known = omega (arith, first); there = there ∙ sym (ap (λ (f : Found P). f.place) is); roomy = omega (arith, roomy) }
-
-  -- one stands at the same place where there is a node more
-  pub stands_more : (node : Node) (i : ℕ) (place : P) (room : ℕ) → StandsAt after q nodes i place room → StandsAt after q (nodes ++ node ∷ []) i place room
-  stands_more node i place room at =
-      let few = at.known in
-      let stays = found-stays after q nodes node i at.known in
-      let long : length (nodes ++ node ∷ []) ≡ length nodes + 1 = grind (arith, common_steps) in
-      record {
-        known = omega (arith, few, long);
-        there = at.there ∙ sym (ap (λ (f : Found P). f.place) stays);
-        roomy = subst (λ (f : Found P). 2 ^ 31 ≤ room + f.depth) (sym stays) at.roomy;
-      }
-
-  -- steps from place 0 are steps from where all runs begin
-  pub run_first : (i : ℕ) (steps : List ℕ) (o : Option P) → i ≡ 0 → run after (found_at after q nodes i).place steps ≡ o → run after q steps ≡ o
-  run_first i steps o first on =
-      let is : found_at after q nodes i ≡ root q = ap (found_at after q nodes) first ∙ found-root after q nodes in
-      subst (λ (f : Found P). run after f.place steps ≡ o) is on
-
-  pub depth_first : (i n m : ℕ) → i ≡ 0 → (found_at after q nodes i).depth + n ≡ m → n ≡ m
-  depth_first i n m first sum =
-      let is : found_at after q nodes i ≡ root q = ap (found_at after q nodes) first ∙ found-root after q nodes in
-      let depth : (found_at after q nodes i).depth ≡ 0 = ap (λ (f : Found P). f.depth) is in
-      omega (arith, depth, sum)

@@ -1,5 +1,5 @@
 -- The steps to each place that was found.
-use Rattle.std.specs.Prelude.{◌≡◌, ◌⊎◌, ℕ, ◌<◌, ◌≤◌, List, [], ◌∷◌, ◌++◌, length, slice_index_or}
+use Rattle.std.specs.Prelude.{ℕ, ◌<◌, ◌≤◌, List, [], ◌∷◌, ◌++◌, length, slice_index_or}
 use Rattle.std.specs.List.{fold}
 use Rattle.fmp_search.specs.declared.nodes.Node.{Node}
 
@@ -18,9 +18,3 @@ path_at nodes i = slice_index_or (paths nodes) i []
 -- each node is of a step from a place before it
 pub record AreAfter (nodes : List Node) : Type 0 where
   pub earlier : (k : ℕ) (d : Node) → k < length nodes → (slice_index_or nodes k d).parent ≤ k
-
--- after the steps to the place of a number, which is the stem or where all runs begin, these lead to that of another
-pub record IsPath (nodes : List Node) (stem i begin : ℕ) (steps : List ℕ) : Type 0 where
-  pub from : (begin ≡ stem) ⊎ (begin ≡ 0)
-  pub path : path_at nodes begin ++ steps ≡ path_at nodes i
-  pub low : begin ≤ length nodes

@@ -1,8 +1,11 @@
 -- A table of numbers, in which each is looked for from the slot that its hash names. A free slot holds 0.
-use Rattle.std.specs.Prelude.{◌≡◌, ℕ, ◌+◌, ◌-◌, ◌%◌, ◌<◌, ◌≤◌, Option, List, length, slice_index, slice_index_or, set, nat_eq, nat_lt, if◌then◌else◌}
+use Rattle.std.specs.Prelude.{◌≡◌, ℕ, ◌+◌, ◌-◌, ◌*◌, ◌/◌, ◌%◌, ◌^◌, ◌<◌, ◌≤◌, List, length, slice_index, slice_index_or, set, nat_eq, nat_lt, if◌then◌else◌}
 use Rattle.std.specs.List.{count_by}
 use Rattle.fmp_search.specs.declared.nodes.Node.{Node}
-use Rattle.fmp_search.specs.Trees.{found_at}
+
+-- the hash of a key
+unfoldable pub mixed : ℕ → ℕ
+mixed key = (key * 11400714819323198485) % 2 ^ 64 / 2 ^ 32
 
 -- the slot that is tried at a turn, where a first one is named, of so many
 unfoldable pub slot_at : ℕ → ℕ → ℕ → ℕ
@@ -29,21 +32,11 @@ pub record IsPut (old new : List ℕ) (hash number : ℕ) : Type 0 where
   pub before : (t : ℕ) → t < turn → tried old hash t ≡ 0 → ⊥
   pub is : new ≡ set old (slot_at (hash % length old) turn (length old)) number
 
--- the numbers of the places of the nodes are met so, each by the hash of its node
+-- the numbers of the places of the nodes are met so, each by the hash of its key
 abbrev pub AreMet : List ℕ → List Node → Type 0
-AreMet table nodes = (k : ℕ) (d : Node) → k < length nodes → IsMet table (slice_index_or nodes k d).hash (k + 1)
+AreMet table nodes = (k : ℕ) (d : Node) → k < length nodes → IsMet table (mixed (slice_index_or nodes k d).key) (k + 1)
 
 -- the table has the numbers of all these nodes, and no others
 pub record Holds (table : List ℕ) (nodes : List Node) : Type 0 where
   pub free : length table ≤ free_in table + length nodes
   pub met : AreMet table nodes
-
--- there is a place of a number, and it has this hash, as it is kept, where the first one has that
-pub record HasHash (zeroth : ℕ) (nodes : List Node) (number hash : ℕ) : Type 0 where
-  pub low : number ≤ length nodes
-  pub first : number ≡ 0 → zeroth ≡ hash
-  pub later : (k : ℕ) (d : Node) → number ≡ k + 1 → (slice_index_or nodes k d).hash ≡ hash
-
--- the hash of each place is the number of that
-abbrev pub AreHashed : {P : Type 0} → (P → ℕ → Option P) → (P → ℕ) → P → ℕ → List Node → Type 0
-AreHashed after hashed q first nodes = (i : ℕ) → i ≤ length nodes → HasHash first nodes i (hashed (found_at after q nodes i).place)

@@ -27,26 +27,23 @@ pub enum Answer {
     Ended(u32),
 }
 
-/// Goes through all places, the nearest first, up to so many steps from where all runs begin, and with room for so many places. Four
-/// walkers stand at places of the same graph: one is made to stand at a place and is copied for each step from there, one makes that step,
-/// one looks at what was found before, and one stands where all runs begin. Others of its kind are made, which stand at the places that were
-/// opened last.
+/// Goes through all places, the nearest first, up to so many steps from where all runs begin, and with room for so many places. Of two
+/// walkers whose runs begin at the same place one is made to stand at each place, and the other makes the steps from there.
 ///
-/// Where the room does not do, `NotWithin` says for how many steps it did, and then all of it was used. `Wanting` says so where the memory for the places does not do, and
-/// `Ended` only where `progress` ends the search. Beside that it gives how far the search went, unless a run was found, and which numbers below a count
-/// are told of steps: of those of all runs, or of those of at most so many steps, and nothing where not all of these were tried. The error is want of memory for anything else.
+/// Where the room does not do, `NotWithin` says for how many steps it did, and then all of it was used. `Wanting` says so where the memory for the places to
+/// which steps lead does not do, or the memory or the numbers for their parts, and `Ended` only where `progress` ends the search. Beside that it gives how far
+/// the search went, unless a run was found, and which numbers below a count are told of steps: of those of all runs, or of those of at most so many steps, and
+/// nothing where not all of these were tried. The error is want of memory for anything else, as to make a step, or for the place where all runs begin.
 pub fn explore<W: Space + Drop, P: Progress>(
     alloc: Global,
     walker: &mut W,
     base: &mut W,
-    other: &mut W,
-    trunk: &mut W,
     progress: &mut P,
     turns: u32,
     most: u32,
     count: usize,
 ) -> Result<(Answer, Option<Extent>, Option<Met>), AllocError>
-    requires origins { (W.origin base.old ≡ W.origin walker.old) × (W.origin other.old ≡ W.origin walker.old) × (W.origin trunk.old ≡ W.origin walker.old) }
+    requires origin { W.origin base.old ≡ W.origin walker.old }
     requires turns { turns < 2 ^ 31 }
     ensures says { IfOk result (λ r. Says W.after W.wanted (W.origin walker.old) turns most r.0) }
     ensures went { IfOk result (λ r. Went W.after (W.origin walker.old) r.0 r.1) }
@@ -59,9 +56,7 @@ pub fn explore<W: Space + Drop, P: Progress>(
         nodes,
         chart,
         depth,
-    } = go_through(
-        alloc, walker, base, other, trunk, progress, turns, most, false, count,
-    )?;
+    } = go_through(alloc, walker, base, progress, turns, most, false, count)?;
     match how {
         Layer::Found(steps) => Ok((Answer::Found(steps), None, None)),
         Layer::Full => {

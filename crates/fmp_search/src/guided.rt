@@ -1,11 +1,13 @@
 //! Runs whose first steps are given.
-ghost use Rattle.std.specs.Prelude.{◌≡◌, ◌+◌, ◌%◌, ◌<◌, ◌≤◌, ◌^◌, drop, length, nat_lt, IfOk, if◌then◌else◌};
+ghost use Rattle.std.specs.Prelude.{◌≡◌, ℕ, ◌+◌, ◌*◌, ◌/◌, ◌%◌, ◌<◌, ◌≤◌, ◌^◌, drop, length, nat_lt, IfOk, if◌then◌else◌};
 ghost use Rattle.fmp_search.specs.Answers.{IsEndedBy};
 ghost use Rattle.fmp_search.specs.Guides.{Guide, SaysAlong, guided_after, guided_wanted, is_empty, is_of, may_choose};
+ghost use Rattle.fmp_search.specs.GuidedKeys.{words_of, IsGuidedKey};
 
 use crate::exploring::{Answer, explore};
 use crate::progress::Progress;
 use crate::space::{Noted, Space};
+use fmp_interned::Interned;
 use std::alloc::{AllocError, Global};
 
 /// One of two steps.
@@ -30,6 +32,7 @@ struct Guided<'a, W: Space + Drop> {
     walker: W,
     choices: &'a [Choice],
     made: usize,
+    alloc: Global,
     ghost within: { made ≤ length choices.now },
 }
 
@@ -59,7 +62,52 @@ fn one_more(made: usize, count: usize) -> usize
     if made < count { made + 1 } else { made }
 }
 
+/// The tables of the places, and the keys of those that were found, each with how many choices were made before.
+#[derive(Drop)]
+pub struct GuidedTables<T: Drop> {
+    tables: T,
+    kept: Interned<[u32; 4]>,
+}
+
+// Two halves make a number of 64 bits.
+const HALF: u64 = 4_294_967_296;
+
+/// A number of 64 bits in two halves.
+fn halves(number: u64) -> (u32, u32)
+    ensures { (result.0 ≡ number / 2 ^ 32) × (result.1 ≡ number % 2 ^ 32) }
+{
+    ((number / HALF) as u32, (number % HALF) as u32)
+}
+
+/// The number of two halves.
+fn joined(high: u32, low: u32) -> u64
+    ensures { result ≡ high * 2 ^ 32 + low }
+{
+    u64::from(high) * HALF + u64::from(low)
+}
+
+/// A key and how many choices were made, in halves.
+fn words_of(key: u64, made: usize) -> [u32; 4]
+    ensures { result ≡ words_of key made }
+{
+    let key = halves(key);
+    let made = halves(made as u64);
+    [key.0, key.1, made.0, made.1]
+}
+
+/// The key, and how many choices were made, of such halves.
+fn of_words(words: &[u32; 4]) -> (u64, usize)
+    ensures { (key made : ℕ) → words.now ≡ words_of key made → (result.0 ≡ key) × (result.1 ≡ made) }
+{
+    (
+        joined(words[0], words[1]),
+        joined(words[2], words[3]) as usize,
+    )
+}
+
 impl<'a, W: Space + Drop> Space for Guided<'a, W> {
+    type Tables = GuidedTables<W::Tables>;
+
     ghost Place = { Guide W.Place };
 
     ghost place = { λ g. record { place = W.place g.walker; choices = drop g.made g.choices.now } };
@@ -74,16 +122,30 @@ impl<'a, W: Space + Drop> Space for Guided<'a, W> {
 
     ghost tells = { λ g s. W.tells g.place s };
 
-    ghost hashed = { λ g. (W.hashed g.place + length g.choices) % 2 ^ 64 };
+    ghost IsKey = { λ q t k p. IsGuidedKey (W.IsKey q.place t.tables) q.choices t.kept k p };
 
     ghost room = { λ g. W.room g.walker };
 
-    fn another(&self) -> Result<Self, AllocError> {
-        Ok(Guided {
-            walker: self.walker.another()?,
-            choices: self.choices,
-            made: 0,
+    fn tables(&self) -> Result<GuidedTables<W::Tables>, AllocError> {
+        Ok(GuidedTables {
+            tables: self.walker.tables()?,
+            kept: Interned::new(self.alloc),
         })
+    }
+
+    fn pack(&self, tables: &mut GuidedTables<W::Tables>) -> Result<u64, AllocError> {
+        let key = self.walker.pack(&mut tables.tables)?;
+        let number = tables.kept.number_of(&words_of(key, self.made))?;
+        tables.kept.validity();
+        Ok(u64::from(number))
+    }
+
+    fn unpack(&mut self, tables: &GuidedTables<W::Tables>, key: u64) -> Result<(), AllocError> {
+        tables.kept.validity();
+        let (key, made) = of_words(tables.kept.get(key as u32));
+        self.walker.unpack(&tables.tables, key)?;
+        self.made = made;
+        Ok(())
     }
 
     fn restart(&mut self) -> Result<(), AllocError> {
@@ -114,11 +176,6 @@ impl<'a, W: Space + Drop> Space for Guided<'a, W> {
         Ok(report)
     }
 
-    fn again(&mut self, step: u8) {
-        self.walker.again(step);
-        self.made = one_more(self.made, self.choices.len());
-    }
-
     fn copy_from(&mut self, other: &Self) -> Result<(), AllocError> {
         self.walker.copy_from(&other.walker)?;
         self.made = other.made;
@@ -132,15 +189,6 @@ impl<'a, W: Space + Drop> Space for Guided<'a, W> {
     fn is_wanted(&self) -> bool {
         self.is_through() && self.walker.is_wanted()
     }
-
-    fn is_same(&self, other: &Self) -> bool {
-        self.made == other.made && self.walker.is_same(&other.walker)
-    }
-
-    fn hash(&self) -> u64 {
-        let left = self.choices.len() - self.made;
-        self.walker.hash().wrapping_add(left as u64)
-    }
 }
 
 /// Goes through all places to which runs lead that begin with a step of each of these choices, as `explore` does.
@@ -148,14 +196,12 @@ pub fn explore_along<W: Space + Drop, P: Progress>(
     alloc: Global,
     walker: W,
     base: W,
-    other: W,
-    trunk: W,
     choices: &[Choice],
     progress: &mut P,
     turns: u32,
     most: u32,
 ) -> Result<Answer, AllocError>
-    requires origins { (W.origin base ≡ W.origin walker) × (W.origin other ≡ W.origin walker) × (W.origin trunk ≡ W.origin walker) }
+    requires origin { W.origin base ≡ W.origin walker }
     requires turns { turns < 2 ^ 31 }
     ensures says { IfOk result (λ a. SaysAlong W.after W.wanted (W.origin walker) choices.now turns most a) }
     ensures ended { IfOk result (IsEndedBy (P.over progress.new)) }
@@ -164,32 +210,14 @@ pub fn explore_along<W: Space + Drop, P: Progress>(
         walker,
         choices,
         made: 0,
+        alloc,
     };
     let mut base = Guided {
         walker: base,
         choices,
         made: 0,
-    };
-    let mut other = Guided {
-        walker: other,
-        choices,
-        made: 0,
-    };
-    let mut trunk = Guided {
-        walker: trunk,
-        choices,
-        made: 0,
-    };
-    let (answer, _extent, _met) = explore(
         alloc,
-        &mut walker,
-        &mut base,
-        &mut other,
-        &mut trunk,
-        progress,
-        turns,
-        most,
-        0,
-    )?;
+    };
+    let (answer, _extent, _met) = explore(alloc, &mut walker, &mut base, progress, turns, most, 0)?;
     Ok(answer)
 }

@@ -1,12 +1,11 @@
 //! One layer of places: those that are found by so many steps and by no fewer.
-ghost use Rattle.std.specs.Prelude.{◌≡◌, ◌≤◌, ◌<◌, ◌+◌, ◌^◌, false, true, length, None, Some, IfOk};
+ghost use Rattle.std.specs.Prelude.{◌≡◌, ◌≤◌, ◌<◌, ◌+◌, false, true, length, None, Some, IfOk};
 ghost use Rattle.std.specs.Int.{bit_at};
 ghost use Rattle.fmp_search.specs.Runs.{AreClosed, IsWatched};
 ghost use Rattle.fmp_search.specs.Trees.{found_at, Stands};
 ghost use Rattle.fmp_search.specs.Growth.{Extends};
 ghost use Rattle.fmp_search.specs.Fronts.{Advances, IsFront, IsOpen, Numbers, Stays};
 
-use crate::cache::{Cached, enter};
 use crate::chart::Chart;
 use crate::edges::Edge;
 use crate::nodes::{Node, steps_over};
@@ -22,7 +21,7 @@ pub(crate) enum Layer {
     Found(Vec<u8>),
     /// There is no room for another place.
     Full,
-    /// There is no memory for another place, or for the edge to one.
+    /// There was no memory for another place or for the edge to it, or no memory or number for the parts of a place.
     Wanting,
     /// The search was ended before.
     Over,
@@ -34,46 +33,53 @@ pub(crate) enum Layer {
 pub(crate) struct Front {
     pub(crate) depth: u32,
     pub(crate) end: usize,
-    ghost shallow: { depth + 1 < 2 ^ 31 },
 }
 
-/// The number of the place where a walker stands, to which a step leads from the place of a number. It is added where it is new. None where there is
-/// no room or no memory for it. The error is want of memory for the way there.
+/// What is known of a place to which a step leads.
+pub(crate) enum Placed {
+    /// It has this number.
+    At(u32),
+    /// It is new, and there is no room for it.
+    Full,
+    /// There was no memory for it, or no memory or number for its parts.
+    Wanting,
+}
+
+/// The number of the place where a walker stands, to which a step leads from the place of a number. It is added where it is new, and where there is room and
+/// memory for it.
 fn number_of<W: Space + Drop>(
-    alloc: Global,
     walker: &W,
-    other: &mut W,
-    cache: &[Cached<W>],
-    store: &mut Store,
+    store: &mut Store<W::Tables>,
     front: Front,
     at: usize,
     step: u8,
-) -> Result<Option<u32>, AllocError>
-    requires front { IsFront W.place W.room W.origin W.after W.hashed store.old.first W.wanted (W.origin walker.now) front.depth front.end
-        store.old.nodes.items cache.now at step }
+) -> Placed
+    requires front { IsFront W.after (W.IsKey (W.origin walker.now) store.old.tables) store.old.first W.wanted (W.origin walker.now) front.depth front.end
+        store.old.nodes.items at step }
     requires place { at < front.end }
     requires made { W.after (found_at W.after (W.origin walker.now) store.old.nodes.items at).place step ≡ Some (W.place walker.now) }
     requires clean { W.wanted (W.place walker.now) ≡ false }
-    requires origins { W.origin other.old ≡ W.origin walker.now }
-    ensures number { IfOk result (λ o. Numbers W.place W.room W.origin W.after W.hashed store.new.first W.wanted (W.origin walker.now) front.depth
-        front.end store.old.most store.old.nodes.items cache.now at step (W.place walker.now) o store.new.nodes.items) }
-    ensures stays { IfOk result (λ o. (store.new.most ≡ store.old.most) × (W.origin other.new ≡ W.origin other.old)) }
+    ensures number { Numbers W.after (W.IsKey (W.origin walker.now) store.new.tables) store.new.first W.wanted (W.origin walker.now) front.depth
+        front.end store.old.most store.old.nodes.items at step (W.place walker.now) result store.new.nodes.items }
+    ensures stays { store.new.most ≡ store.old.most }
 {
-    let hash = walker.hash();
-    if let Some(number) = store.find(alloc, walker, other, cache, hash)? {
-        return Ok(Some(number));
+    let Ok(key) = walker.pack(&mut store.tables) else {
+        return Placed::Wanting;
+    };
+    if let Some(number) = store.find(key) {
+        return Placed::At(number);
     }
     if store.is_full() {
-        return Ok(None);
+        return Placed::Full;
     }
     let node = Node {
-        hash,
+        key,
         parent: at as u32,
         step,
     };
     match store.push(node) {
-        Ok(()) => Ok(Some(store.nodes.len() as u32)),
-        Err(AllocError) => Ok(None),
+        Ok(()) => Placed::At(store.nodes.len() as u32),
+        Err(AllocError) => Placed::Wanting,
     }
 }
 
@@ -114,29 +120,26 @@ fn step_from<W: Space + Drop>(
 }
 
 /// Tries a step from the place where `base` stands, adds the place it leads to where that is new and not looked for, and the edge to there. It is done,
-/// too, where the step cannot be made. The error is want of memory for what the step needs by itself.
+/// too, where the step cannot be made. The error is want of memory to make the step, or for the list of the steps to a place that is looked for.
 fn try_step<W: Space + Drop>(
     alloc: Global,
     walker: &mut W,
     base: &W,
-    other: &mut W,
-    cache: &[Cached<W>],
-    store: &mut Store,
+    store: &mut Store<W::Tables>,
     chart: &mut Chart,
     front: Front,
     at: usize,
     step: u8,
     closed: &mut u64,
 ) -> Result<Layer, AllocError>
-    requires opening { IsOpen W.place W.room W.origin W.after W.hashed store.old.first W.passes W.tells W.wanted (W.origin walker.old) front.depth front.end
-        store.old.nodes.items cache.now chart.old at step }
+    requires opening { IsOpen W.after (W.IsKey (W.origin walker.old) store.old.tables) store.old.first W.passes W.tells W.wanted (W.origin walker.old) front.depth front.end
+        store.old.nodes.items chart.old at step }
     requires place { at < front.end }
     requires base { Stands W.place W.room W.origin W.after (W.origin walker.old) store.old.nodes.items at base.now }
-    requires other { W.origin other.old ≡ W.origin walker.old }
     requires closed { AreClosed W.after (W.place base.now) closed.old }
-    ensures advances { IfOk result (Advances W.place W.room W.origin W.after W.hashed store.new.first W.passes W.tells W.wanted (W.origin walker.old) front.depth
-        front.end store.old.most false store.new.nodes.items cache.now chart.new at (step + 1)) }
-    ensures stays { IfOk result (λ how. Stays W.origin (W.origin walker.old) walker.new base.now other.new store.old.most store.new.most
+    ensures advances { IfOk result (Advances W.after (W.IsKey (W.origin walker.old) store.new.tables) store.new.first W.passes W.tells W.wanted (W.origin walker.old) front.depth
+        front.end store.old.most false store.new.nodes.items chart.new at (step + 1)) }
+    ensures stays { IfOk result (λ how. Stays W.origin (W.origin walker.old) walker.new base.now store.old.most store.new.most
         chart.old.kept (length chart.old.marks.items) chart.new) }
     ensures extends { IfOk result (λ how. Extends W.after (W.origin walker.old) store.old.nodes.items store.new.nodes.items) }
     ensures closed { IfOk result (λ how. AreClosed W.after (W.place base.now) closed.new) }
@@ -147,11 +150,10 @@ fn try_step<W: Space + Drop>(
     if walker.is_wanted() {
         return Ok(Layer::Found(steps_over(alloc, walker, &store.nodes, at, step)?));
     }
-    let Some(to) = number_of(alloc, walker, other, cache, store, front, at, step)? else {
-        if store.is_full() {
-            return Ok(Layer::Full);
-        }
-        return Ok(Layer::Wanting);
+    let to = match number_of(walker, store, front, at, step) {
+        Placed::At(to) => to,
+        Placed::Full => return Ok(Layer::Full),
+        Placed::Wanting => return Ok(Layer::Wanting),
     };
     let edge = Edge {
         passes: noted.passes,
@@ -165,29 +167,28 @@ fn try_step<W: Space + Drop>(
     }
 }
 
-/// Makes `base` stand at the place of a number and tries all steps from there, until one finds what is looked for or there is no room or no
-/// memory for another place. The error is want of memory for anything else.
+/// Makes `base` stand at the place of a number and tries all steps from there, until one finds what is looked for, or there is no room for another place, or
+/// no memory for one, for its parts or for the edge to it. The error is want of memory for anything else.
 fn open_place<W: Space + Drop>(
     alloc: Global,
     walker: &mut W,
     base: &mut W,
-    other: &mut W,
-    cache: &mut Vec<Cached<W>>,
-    store: &mut Store,
+    store: &mut Store<W::Tables>,
     chart: &mut Chart,
     front: Front,
     at: usize,
 ) -> Result<Layer, AllocError>
-    requires opening { IsOpen W.place W.room W.origin W.after W.hashed store.old.first W.passes W.tells W.wanted (W.origin walker.old) front.depth front.end
-        store.old.nodes.items cache.old.items chart.old at 0 }
+    requires opening { IsOpen W.after (W.IsKey (W.origin walker.old) store.old.tables) store.old.first W.passes W.tells W.wanted (W.origin walker.old) front.depth front.end
+        store.old.nodes.items chart.old at 0 }
     requires place { at < front.end }
-    requires origins { (W.origin base.old ≡ W.origin walker.old) × (W.origin other.old ≡ W.origin walker.old) }
-    ensures advances { IfOk result (Advances W.place W.room W.origin W.after W.hashed store.new.first W.passes W.tells W.wanted (W.origin walker.old) front.depth
-        front.end store.old.most false store.new.nodes.items cache.new.items chart.new (at + 1) 0) }
-    ensures stays { IfOk result (λ how. Stays W.origin (W.origin walker.old) walker.new base.new other.new store.old.most store.new.most
+    requires origin { W.origin base.old ≡ W.origin walker.old }
+    ensures advances { IfOk result (Advances W.after (W.IsKey (W.origin walker.old) store.new.tables) store.new.first W.passes W.tells W.wanted (W.origin walker.old) front.depth
+        front.end store.old.most false store.new.nodes.items chart.new (at + 1) 0) }
+    ensures stays { IfOk result (λ how. Stays W.origin (W.origin walker.old) walker.new base.new store.old.most store.new.most
         chart.old.kept (length chart.old.marks.items) chart.new) }
 {
-    enter(alloc, base, cache, &store.nodes, at)?;
+    let key = store.key_of(at);
+    base.unpack(&store.tables, key)?;
     let steps = base.steps();
     let mut closed = 0;
     for step in 0..steps {
@@ -195,8 +196,6 @@ fn open_place<W: Space + Drop>(
             alloc,
             walker,
             base,
-            other,
-            cache,
             store,
             chart,
             front,
@@ -217,21 +216,19 @@ pub(crate) fn open_layer<W: Space + Drop, P: Progress>(
     alloc: Global,
     walker: &mut W,
     base: &mut W,
-    other: &mut W,
-    cache: &mut Vec<Cached<W>>,
     progress: &mut P,
-    store: &mut Store,
+    store: &mut Store<W::Tables>,
     chart: &mut Chart,
     front: Front,
     begin: usize,
 ) -> Result<Layer, AllocError>
-    requires opening { IsOpen W.place W.room W.origin W.after W.hashed store.old.first W.passes W.tells W.wanted (W.origin walker.old) front.depth front.end
-        store.old.nodes.items cache.old.items chart.old begin 0 }
+    requires opening { IsOpen W.after (W.IsKey (W.origin walker.old) store.old.tables) store.old.first W.passes W.tells W.wanted (W.origin walker.old) front.depth front.end
+        store.old.nodes.items chart.old begin 0 }
     requires place { begin ≤ front.end }
-    requires origins { (W.origin base.old ≡ W.origin walker.old) × (W.origin other.old ≡ W.origin walker.old) }
-    ensures advances { IfOk result (Advances W.place W.room W.origin W.after W.hashed store.new.first W.passes W.tells W.wanted (W.origin walker.old) front.depth
-        front.end store.old.most (P.over progress.new) store.new.nodes.items cache.new.items chart.new front.end 0) }
-    ensures stays { IfOk result (λ how. Stays W.origin (W.origin walker.old) walker.new base.new other.new store.old.most store.new.most
+    requires origin { W.origin base.old ≡ W.origin walker.old }
+    ensures advances { IfOk result (Advances W.after (W.IsKey (W.origin walker.old) store.new.tables) store.new.first W.passes W.tells W.wanted (W.origin walker.old) front.depth
+        front.end store.old.most (P.over progress.new) store.new.nodes.items chart.new front.end 0) }
+    ensures stays { IfOk result (λ how. Stays W.origin (W.origin walker.old) walker.new base.new store.old.most store.new.most
         chart.old.kept (length chart.old.marks.items) chart.new) }
 {
     for at in begin..front.end {
@@ -239,7 +236,7 @@ pub(crate) fn open_layer<W: Space + Drop, P: Progress>(
         if progress.is_over() {
             return Ok(Layer::Over);
         }
-        match open_place(alloc, walker, base, other, cache, store, chart, front, at)? {
+        match open_place(alloc, walker, base, store, chart, front, at)? {
             Layer::Done => {}
             how => return Ok(how),
         }

@@ -40,21 +40,17 @@ fn met_by<W: Space + Drop, P: Progress>(
     alloc: Global,
     walker: &mut W,
     base: &mut W,
-    other: &mut W,
-    trunk: &mut W,
     progress: &mut P,
     turns: u32,
     most: u32,
     count: usize,
 ) -> Result<Option<Met>, AllocError>
-    requires origins { (W.origin base.old ≡ W.origin walker.old) × (W.origin other.old ≡ W.origin walker.old) × (W.origin trunk.old ≡ W.origin walker.old) }
+    requires origin { W.origin base.old ≡ W.origin walker.old }
     requires turns { turns < 2 ^ 31 }
     ensures meets { IfOk result (λ o. IfSome o (Meets W.after W.tells (W.origin walker.old) turns count)) }
     ensures none { IfOk result (λ o. o ≡ None → IsLeftOpen W.after W.wanted (W.origin walker.old) turns most (P.over progress.new)) }
 {
-    let survey = go_through(
-        alloc, walker, base, other, trunk, progress, turns, most, false, count,
-    )?;
+    let survey = go_through(alloc, walker, base, progress, turns, most, false, count)?;
     match survey.how {
         Layer::Wanting => Err(AllocError),
         _ => Ok(met_of(survey)),
@@ -63,33 +59,21 @@ fn met_by<W: Space + Drop, P: Progress>(
 
 /// Goes through all places, up to so many steps from where all runs begin and with room for so many besides the first, and tells which numbers below a
 /// count are told of steps: of those of all runs, or of those of at most so many steps. None only where the room does not do, the search is ended
-/// before, or a place is met that is looked for. It takes two pairs whose runs begin at the same place, and keeps no steps.
+/// before, or a place is met that is looked for. It takes two whose runs begin at the same place, and keeps no edges.
 /// The error is want of memory.
 pub fn meet<W: Space + Drop, P: Progress>(
     alloc: Global,
     walkers: (W, W),
-    others: (W, W),
     progress: &mut P,
     turns: u32,
     most: u32,
     count: usize,
 ) -> Result<Option<Met>, AllocError>
-    requires origins { (W.origin walkers.1 ≡ W.origin walkers.0) × (W.origin others.0 ≡ W.origin walkers.0) × (W.origin others.1 ≡ W.origin walkers.0) }
+    requires origin { W.origin walkers.1 ≡ W.origin walkers.0 }
     requires turns { turns < 2 ^ 31 }
     ensures meets { IfOk result (λ o. IfSome o (Meets W.after W.tells (W.origin walkers.0) turns count)) }
     ensures none { IfOk result (λ o. o ≡ None → IsLeftOpen W.after W.wanted (W.origin walkers.0) turns most (P.over progress.new)) }
 {
     let (mut walker, mut base) = walkers;
-    let (mut other, mut trunk) = others;
-    met_by(
-        alloc,
-        &mut walker,
-        &mut base,
-        &mut other,
-        &mut trunk,
-        progress,
-        turns,
-        most,
-        count,
-    )
+    met_by(alloc, &mut walker, &mut base, progress, turns, most, count)
 }

@@ -1,5 +1,6 @@
 //! What can be gone through.
-ghost use Rattle.std.specs.Prelude.{◌≡◌, ◌↔◌, ◌≤◌, ◌<◌, ◌+◌, ◌^◌, ℕ, Bool, true, false, IsTrue, Option, None, Some, IfOk, is_some};
+ghost use Rattle.std.specs.Prelude.{◌≡◌, ◌≤◌, ◌<◌, ℕ, Bool, true, false, Option, None, Some, IfOk};
+ghost use Rattle.fmp_interned.specs.Keys.{AreKeptBy, IsKeyOf};
 ghost use Rattle.fmp_search.specs.Runs.{Closes, Goes, told_of, Watches};
 
 use std::alloc::AllocError;
@@ -11,9 +12,12 @@ pub struct Noted {
     pub number: u32,
 }
 
-/// One who stands at a place of a graph, can make numbered steps, and can go back to where all runs begin. What a step leads to depends
-/// on the place alone.
+/// One who stands at a place of a graph, can make numbered steps, and can go to a place by its key, or back to where all runs begin. What a step leads to
+/// depends on the place alone.
 pub trait Space {
+    /// What places are made of, each part once and with a number, by which places are kept.
+    type Tables: Drop;
+
     // What a place is.
     ghost Place: { Type 0 };
 
@@ -34,20 +38,32 @@ pub trait Space {
     // A number that is told of a step from a place, if it can be made.
     ghost tells: { Place → ℕ → ℕ };
 
-    // A number of each place.
-    ghost hashed: { Place → ℕ };
+    // Where all runs begin at a place, a number is the key of another by these tables.
+    ghost IsKey: { Place → Self.Tables → ℕ → Place → Type 0 };
 
-    // For how many steps more there is room, before it has to go back.
+    // For how many steps more there is room, before it has to go elsewhere.
     ghost room: { Self → ℕ };
 
-    /// One more, whose runs begin at the same place, and which may stand anywhere. The error is want of memory.
-    fn another(&self) -> Result<Self, AllocError>
-        ensures { IfOk result (λ w. origin w ≡ origin self.now) };
+    /// Tables of no place. The error is want of memory.
+    fn tables(&self) -> Result<Self::Tables, AllocError>;
+
+    /// The key of the place where it stands, by tables in which its parts are kept from then on. The error is want of memory, or of numbers for parts, and
+    /// leaves the keys of other places as they were.
+    fn pack(&self, tables: &mut Self::Tables) -> Result<u64, AllocError>
+        ensures key { IfOk result (IsKeyOf (IsKey (origin self.now) tables.new) (place self.now)) }
+        ensures kept { AreKeptBy (IsKey (origin self.now) tables.old) (IsKey (origin self.now) tables.new) };
+
+    /// Goes to the place of a key. The error is want of memory.
+    fn unpack(&mut self, tables: &Self::Tables, key: u64) -> Result<(), AllocError>
+        requires { (p : Place) × IsKey (origin self.old) tables.now key p }
+        ensures there { IfOk result (λ done. (p : Place) → IsKey (origin self.old) tables.now key p → place self.new ≡ p) }
+        ensures room { IfOk result (λ done. 0 < room self.new) }
+        ensures origin { origin self.new ≡ origin self.old };
 
     /// Goes back to where all runs begin. The error is want of memory.
     fn restart(&mut self) -> Result<(), AllocError>
         ensures there { IfOk result (λ done. place self.new ≡ origin self.old) }
-        ensures room { IfOk result (λ done. 2 ^ 31 ≤ room self.new) }
+        ensures room { IfOk result (λ done. 0 < room self.new) }
         ensures origin { origin self.new ≡ origin self.old };
 
     /// Whether the step of a number may be one that can be made from where it stands. Where it says no it cannot, and none goes there to try.
@@ -69,14 +85,6 @@ pub trait Space {
         ensures closed { Closes after (place self.old) closed.old closed.new }
         ensures origin { origin self.new ≡ origin self.old };
 
-    /// Makes the step of a number again, of which it is known that it can be made.
-    fn again(&mut self, step: u8)
-        requires room { 0 < room self.old }
-        requires made { is_some (after (place self.old) step) ≡ true }
-        ensures again { after (place self.old) step ≡ Some (place self.new) }
-        ensures room { room self.old ≤ room self.new + 1 }
-        ensures origin { origin self.new ≡ origin self.old };
-
     /// Goes where another stands, whose runs begin at the same place. The error is want of memory.
     fn copy_from(&mut self, other: &Self) -> Result<(), AllocError>
         requires { origin other.now ≡ origin self.old }
@@ -91,13 +99,4 @@ pub trait Space {
     /// Whether the place where it stands is looked for.
     fn is_wanted(&self) -> bool
         ensures { result ≡ wanted (place self.now) };
-
-    /// Whether another, whose runs begin at the same place, stands at the same place.
-    fn is_same(&self, other: &Self) -> bool
-        requires { origin other.now ≡ origin self.now }
-        ensures { IsTrue result ↔ (place other.now ≡ place self.now) };
-
-    /// The number of the place where it stands. The answers do not depend on it; where it often differs at other places they come sooner.
-    fn hash(&self) -> u64
-        ensures { result ≡ hashed (place self.now) };
 }

@@ -310,15 +310,13 @@ pub fn for_ever<W: Space + Drop, P: Progress>(
     alloc: Global,
     walker: &mut W,
     base: &mut W,
-    other: &mut W,
-    trunk: &mut W,
     progress: &mut P,
     turns: u32,
     most: u32,
     tests: u8,
     count: usize,
 ) -> Result<(Stay, Extent, Option<Met>), AllocError>
-    requires origins { (W.origin base.old ≡ W.origin walker.old) × (W.origin other.old ≡ W.origin walker.old) × (W.origin trunk.old ≡ W.origin walker.old) }
+    requires origin { W.origin base.old ≡ W.origin walker.old }
     requires turns { turns < 2 ^ 31 }
     requires tests { tests ≤ 64 }
     ensures says { IfOk result (λ r. SaysForEver W.after W.passes W.wanted (W.origin walker.old) tests turns most (P.over progress.new) r.0) }
@@ -326,9 +324,7 @@ pub fn for_ever<W: Space + Drop, P: Progress>(
     ensures met { IfOk result (λ r. IfSome r.2 (Meets W.after W.tells (W.origin walker.old) turns count)) }
     ensures beside { IfOk result (λ r. IsMetBesideStay turns r.0 r.2) }
 {
-    let survey = go_through(
-        alloc, walker, base, other, trunk, progress, turns, most, true, count,
-    )?;
+    let survey = go_through(alloc, walker, base, progress, turns, most, true, count)?;
     let extent = extent_of(alloc, &survey.nodes)?;
     let stay = stay_of(alloc, walker, progress, &survey, turns, most, tests, count)?;
     Ok((stay, extent, met_of(survey)))

@@ -1,23 +1,22 @@
 //! All places that were found, and a table by which one is found again.
 ghost use Rattle.std.specs.Prelude.{◌≡◌, ◌≤◌, ◌<◌, ◌+◌, ◌^◌, ◌++◌, ◌∷◌, ◌↔◌, [], true, length, IfOk, IsTrue, OnErr};
-ghost use Rattle.fmp_search.specs.Cache.{AreNear};
-ghost use Rattle.fmp_search.specs.Tables.{free_in, AreHashed, HasHash, Holds};
-ghost use Rattle.fmp_search.specs.Trees.{IsAt, IsKnownAs};
+ghost use Rattle.fmp_search.specs.Keys.{HasKey, IsKeptAs};
+ghost use Rattle.fmp_search.specs.Tables.{free_in, Holds};
 
-use crate::cache::{Cached, go_to};
 use crate::nodes::Node;
-use crate::space::Space;
-use crate::table::{LEAST, NOBODY, clear_for, put, slot};
+use crate::table::{LEAST, NOBODY, clear_for, mixed, put, slot};
 use std::alloc::{AllocError, Global};
 
 /// The nodes, of which there are at most so many, and a table of the numbers of their places. Both grow with the places. Where all runs begin is not in the
 /// table.
 #[derive(Drop)]
-pub(crate) struct Store {
+pub(crate) struct Store<T: Drop> {
     pub(crate) nodes: Vec<Node>,
     pub(crate) most: u32,
-    /// The hash of the place where all runs begin.
+    /// The key of the place where all runs begin.
     pub(crate) first: u64,
+    /// By which places have keys.
+    pub(crate) tables: T,
     table: Vec<u32>,
     ghost few: { length nodes.items ≤ most },
     ghost small: { length nodes.items < 2 ^ 32 },
@@ -34,7 +33,7 @@ fn put_all(table: &mut Vec<u32>, nodes: &[Node])
 {
     for at in 0..nodes.len() {
         let node = nodes[at];
-        put(table, node.hash, at as u32 + 1);
+        put(table, mixed(node.key), at as u32 + 1);
     }
 }
 
@@ -56,16 +55,22 @@ fn make_room(table: &mut Vec<u32>, nodes: &[Node], most: u32) -> Result<(), Allo
     Ok(())
 }
 
-impl Store {
-    /// A store of no place but where all runs begin, to which at most so many more may be added.
-    pub(crate) fn new(alloc: Global, hash: u64, most: u32) -> Result<Store, AllocError>
-        ensures { IfOk result (λ s. (s.nodes.items ≡ []) × (s.most ≡ most) × (s.first ≡ hash)) }
+impl<T: Drop> Store<T> {
+    /// A store of no place but where all runs begin, which has this key, and to which at most so many more may be added.
+    pub(crate) fn new(
+        alloc: Global,
+        tables: T,
+        first: u64,
+        most: u32,
+    ) -> Result<Store<T>, AllocError>
+        ensures { IfOk result (λ s. (s.nodes.items ≡ []) × (s.most ≡ most) × (s.first ≡ first) × (s.tables ≡ tables)) }
     {
         let table = vec![in alloc; NOBODY; LEAST]?;
         Ok(Store {
             nodes: Vec::new(alloc),
             most,
-            first: hash,
+            first,
+            tables,
             table,
         })
     }
@@ -89,77 +94,56 @@ impl Store {
         requires { length self.old.nodes.items < self.old.most }
         ensures added { IfOk result (λ done. self.new.nodes.items ≡ self.old.nodes.items ++ node ∷ []) }
         ensures left { OnErr result (self.new.nodes.items ≡ self.old.nodes.items) }
-        ensures same { (self.new.most ≡ self.old.most) × (self.new.first ≡ self.old.first) }
+        ensures same { (self.new.most ≡ self.old.most) × (self.new.first ≡ self.old.first) × (self.new.tables ≡ self.old.tables) }
     {
         make_room(&mut self.table, &self.nodes, self.most)?;
         let place = self.nodes.len() as u32 + 1;
         self.nodes.push(node)?;
-        put(&mut self.table, node.hash, place);
+        put(&mut self.table, mixed(node.key), place);
         Ok(())
     }
 
-    /// Whether there is a place of a number, and it has this hash. Others may have the same.
-    fn has_hash(&self, place: usize, hash: u64) -> bool
-        ensures { IsTrue result ↔ HasHash self.now.first self.now.nodes.items place hash }
+    /// Whether there is a place of a number, and it has this key.
+    fn has_key(&self, place: usize, key: u64) -> bool
+        ensures { IsTrue result ↔ HasKey self.now.first self.now.nodes.items place key }
     {
         if place == 0 {
-            self.first == hash
+            self.first == key
         } else {
-            place <= self.nodes.len() && self.nodes[place - 1].hash == hash
+            place <= self.nodes.len() && self.nodes[place - 1].key == key
         }
     }
 
-    /// The number of the place where a walker stands, of this hash. None where it was not found yet. The error is want of memory.
-    pub(crate) fn find<W: Space + Drop>(
-        &self,
-        alloc: Global,
-        walker: &W,
-        other: &mut W,
-        cache: &[Cached<W>],
-        hash: u64,
-    ) -> Result<Option<u32>, AllocError>
-        requires near { AreNear W.place W.room W.origin W.after (W.origin other.old) self.now.nodes.items cache.now }
-        requires hashed { (hash ≡ W.hashed (W.place walker.now)) × AreHashed W.after W.hashed (W.origin other.old) self.now.first self.now.nodes.items }
-        requires origins { W.origin other.old ≡ W.origin walker.now }
-        ensures { IfOk result (λ n. (W.origin other.new ≡ W.origin other.old)
-            × IsKnownAs W.after (W.origin other.old) self.now.nodes.items (W.place walker.now) n) }
+    /// The key of the place of a number.
+    pub(crate) fn key_of(&self, place: usize) -> u64
+        requires { place ≤ length self.now.nodes.items }
+        ensures { HasKey self.now.first self.now.nodes.items place result }
     {
-        if self.is_at(alloc, walker, other, cache, hash, 0)? {
-            return Ok(Some(0));
+        if place == 0 {
+            self.first
+        } else {
+            self.nodes[place - 1].key
+        }
+    }
+
+    /// The number of the place of a key. None where there is none.
+    pub(crate) fn find(&self, key: u64) -> Option<u32>
+        ensures { IsKeptAs self.now.first self.now.nodes.items key result }
+    {
+        if self.has_key(0, key) {
+            return Some(0);
         }
         let slots = self.table.len();
+        let hash = mixed(key);
         for turn in 0..slots {
             let number = self.table[slot(hash, turn, slots)];
             if number == NOBODY {
-                return Ok(None);
+                return None;
             }
-            if self.is_at(alloc, walker, other, cache, hash, number as usize)? {
-                return Ok(Some(number));
+            if self.has_key(number as usize, key) {
+                return Some(number);
             }
         }
-        Ok(None)
-    }
-
-    /// Whether `walker` stands at the place of a number, of this hash. The other walker goes there to compare. The error is want of memory.
-    fn is_at<W: Space + Drop>(
-        &self,
-        alloc: Global,
-        walker: &W,
-        other: &mut W,
-        cache: &[Cached<W>],
-        hash: u64,
-        number: usize,
-    ) -> Result<bool, AllocError>
-        requires near { AreNear W.place W.room W.origin W.after (W.origin other.old) self.now.nodes.items cache.now }
-        requires hashed { (hash ≡ W.hashed (W.place walker.now)) × AreHashed W.after W.hashed (W.origin other.old) self.now.first self.now.nodes.items }
-        requires origins { W.origin other.old ≡ W.origin walker.now }
-        ensures { IfOk result (λ k. (W.origin other.new ≡ W.origin other.old)
-            × (IsTrue k ↔ IsAt W.after (W.origin other.old) self.now.nodes.items number (W.place walker.now))) }
-    {
-        if !self.has_hash(number, hash) {
-            return Ok(false);
-        }
-        go_to(alloc, other, cache, &self.nodes, number)?;
-        Ok(walker.is_same(other))
+        None
     }
 }

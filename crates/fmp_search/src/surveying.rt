@@ -2,7 +2,6 @@
 ghost use Rattle.std.specs.Prelude.{◌≡◌, ◌<◌, ◌^◌, IfOk};
 ghost use Rattle.fmp_search.specs.Surveys.{Surveys};
 
-use crate::cache::first_cached;
 use crate::chart::Chart;
 use crate::layer::{Front, Layer, open_layer};
 use crate::nodes::Node;
@@ -12,7 +11,8 @@ use crate::store::Store;
 use std::alloc::{AllocError, Global};
 
 /// What came of going through places: how the last layer went, the places that were found, and how many of the first were opened, with the edges from
-/// there. All places of runs of at most so many steps are among them. The table by which they were found again is gone.
+/// there. All places of runs of at most so many steps are among them. The tables by which they were found and made again
+/// are gone.
 #[derive(Drop)]
 pub(crate) struct Survey {
     pub(crate) how: Layer,
@@ -22,7 +22,7 @@ pub(crate) struct Survey {
 }
 
 impl Survey {
-    fn of(how: Layer, store: Store, chart: Chart, depth: u32) -> Survey
+    fn of<T: Drop>(how: Layer, store: Store<T>, chart: Chart, depth: u32) -> Survey
         ensures { result ≡ record { how = how; nodes = store.nodes; chart = chart; depth = depth } }
     {
         Survey {
@@ -41,24 +41,23 @@ pub(crate) fn go_through<W: Space + Drop, P: Progress>(
     alloc: Global,
     walker: &mut W,
     base: &mut W,
-    other: &mut W,
-    trunk: &mut W,
     progress: &mut P,
     turns: u32,
     most: u32,
     kept: bool,
     count: usize,
 ) -> Result<Survey, AllocError>
-    requires origins { (W.origin base.old ≡ W.origin walker.old) × (W.origin other.old ≡ W.origin walker.old) × (W.origin trunk.old ≡ W.origin walker.old) }
+    requires origin { W.origin base.old ≡ W.origin walker.old }
     requires turns { turns < 2 ^ 31 }
     ensures surveys { IfOk result (Surveys W.after W.passes W.tells W.wanted (W.origin walker.old) turns most (P.over progress.new) kept count) }
     ensures origin { IfOk result (λ s. W.origin walker.new ≡ W.origin walker.old) }
 {
-    trunk.restart()?;
-    let mut store = Store::new(alloc, trunk.hash(), most)?;
+    walker.restart()?;
+    let mut tables = walker.tables()?;
+    let first = walker.pack(&mut tables)?;
+    let mut store = Store::new(alloc, tables, first, most)?;
     let mut chart = Chart::new(alloc, kept, count)?;
-    let mut cache = first_cached(alloc, trunk, &store.nodes)?;
-    if trunk.is_wanted() {
+    if walker.is_wanted() {
         let none = Layer::Found(Vec::new(alloc));
         return Ok(Survey::of(none, store, chart, 0));
     }
@@ -70,7 +69,7 @@ pub(crate) fn go_through<W: Space + Drop, P: Progress>(
         }
         let front = Front { depth, end };
         let how = open_layer(
-            alloc, walker, base, other, &mut cache, progress, &mut store, &mut chart, front, begin,
+            alloc, walker, base, progress, &mut store, &mut chart, front, begin,
         )?;
         match how {
             Layer::Done => begin = end,

@@ -1,6 +1,6 @@
 //! A table of numbers, each before the first free slot from the one that its hash names.
 ghost use Rattle.std.specs.Prelude.{◌≡◌, ◌<◌, ◌%◌, replicate, IfOk, OnErr};
-ghost use Rattle.fmp_search.specs.Tables.{free_in, slot_at, IsPut};
+ghost use Rattle.fmp_search.specs.Tables.{free_in, mixed, slot_at, IsPut};
 
 use std::alloc::AllocError;
 
@@ -9,6 +9,14 @@ pub(crate) const NOBODY: u32 = 0;
 
 /// How many slots a table has at first.
 pub(crate) const LEAST: usize = 64;
+
+/// The hash of a key: its low bits are often those of keys that came before.
+#[tactic(auto, unfolding(crate::specs::Tables::mixed))]
+pub(crate) fn mixed(key: u64) -> u64
+    ensures { result ≡ mixed key }
+{
+    key.wrapping_mul(0x9e37_79b9_7f4a_7c15) >> 32
+}
 
 /// The index of the slot that is tried for a hash at a turn, counted from 0: the slots from the one that the hash names, and then those before it.
 #[tactic(auto, unfolding(crate::specs::Tables::slot_at))]

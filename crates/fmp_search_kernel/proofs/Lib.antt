@@ -5,3 +5,5 @@ pub mod Going  -- What an event leads to.
 pub mod Sighted  -- The lines of an event, as they are written.
 pub mod Watching  -- What one knows who watches for what stays for ever.
 pub mod Bitted  -- Bits of what is so, one after the other.
+pub mod Padded  -- Lists of which all but the first numbers are 0, and what is told of such lists.
+pub mod Keyed  -- Keys of places: each place has one, which is that of no other.

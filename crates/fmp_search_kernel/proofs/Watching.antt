@@ -1,10 +1,11 @@
 -- What one knows who watches for what stays for ever.
-use Rattle.std.proofs.Common.{◌≡◌, ◌∙◌, ℕ, Bool, true, false, cond, List, [], map, Option, Some, None, refl, ap, sym, subst}
+use Rattle.std.proofs.Common.{◌≡◌, ◌∙◌, ℕ, true, false, cond, List, [], map, Option, Some, None, refl, ap, sym, subst}
 use Rattle.std.specs.Prelude.{option_map}
 use Rattle.fmp_codes.specs.declared.records.Event.{Event}
 use Rattle.fmp_codes.specs.declared.records.Record.{Record}
 use Rattle.fmp_rules.specs.Step.{step}
 use Rattle.fmp_kernel_order.specs.Queues.{listed}
+use Rattle.fmp_interned.specs.Keys.{AreKeptBy, IsKeyOf}
 use Rattle.fmp_search.specs.declared.space.Noted.{Noted}
 use Rattle.fmp_search.specs.Runs.{Watches}
 use Rattle.fmp_search_pattern.specs.Questions.{allows}
@@ -13,6 +14,7 @@ use Rattle.fmp_search_pattern.specs.Lasting.{Lasting, is_so}
 use Rattle.fmp_search_orders.specs.Lasting.{step_test, test_there}
 use Rattle.fmp_search_orders.specs.Places.{Place, origin, event_of, is_marked, went, sight_at, allowed, next_place, after}
 use Rattle.fmp_search_orders.specs.Watched.{Watched, watched, watched_after, origin_at, bits_of}
+use Rattle.fmp_search_kernel.specs.Keys.{IsPlaceKey, KeptPlaces}
 use Rattle.fmp_search_kernel.specs.Walked.{origin_of}
 
 -- ---- steps where no question is asked
@@ -98,3 +100,35 @@ still_none w v same none = ap (λ (x : Place). x.question) same ∙ none
 -- the runs of one who watches begin where they did, where those of the places do
 pub origin_kept : (lasting : List Lasting) (w v : Place) → origin_of v ≡ origin_of w → origin_at (watched lasting v) ≡ origin_at (watched lasting w)
 origin_kept lasting w v is = ap (λ (x : Place). watched lasting (origin x.config x.scripts x.rules [])) is
+
+-- ---- keys
+
+module _ (lasting : List Lasting) (w : Place) (none : w.question ≡ []) where
+  abbrev beginning : Place
+  beginning = origin w.config w.scripts w.rules []
+
+  begins : origin_of w ≡ beginning
+  begins = ap (origin w.config w.scripts w.rules) none
+
+  -- keys of places with what is asked
+  abbrev pub WatchedKey : KeptPlaces → ℕ → Watched → Type 0
+  WatchedKey t k v = (v.lasting ≡ lasting) × IsPlaceKey beginning t k v.place
+
+  pub key_watched : (t : KeptPlaces) (k : ℕ) (v : Watched) → IsPlaceKey beginning t k v.place → IsPlaceKey (origin_of w) t k v.place
+  key_watched t k v = subst (λ (o : Place). IsPlaceKey o t k v.place) (sym begins)
+
+  watched_key : (t : KeptPlaces) (k : ℕ) (v : Place) → IsPlaceKey (origin_of w) t k v → IsPlaceKey beginning t k v
+  watched_key t k v = subst (λ (o : Place). IsPlaceKey o t k v) begins
+
+  pub place_watched : (v : Watched) (r : Place) → v.lasting ≡ lasting → v.place ≡ r → v ≡ watched lasting r
+  place_watched v r asked is = ap (λ l. watched l v.place) asked ∙ ap (watched lasting) is
+
+  pub is_key_watched : (t : KeptPlaces) (k : ℕ) → IsKeyOf (IsPlaceKey (origin_of w) t) w k → IsKeyOf (WatchedKey t) (watched lasting w) k
+  is_key_watched t k key = record {
+    there = (refl, watched_key t k w key.there);
+    one = λ j g. key.one j (key_watched t j (watched lasting w) g.1);
+    only = λ v g. place_watched v w g.0 (key.only v.place (key_watched t k v g.1));
+  }
+
+  pub kept_watched : (old new : KeptPlaces) → AreKeptBy (IsPlaceKey (origin_of w) old) (IsPlaceKey (origin_of w) new) → AreKeptBy (WatchedKey old) (WatchedKey new)
+  kept_watched old new kept k v g = (g.0, watched_key new k v.place (kept k v.place (key_watched old k v g.1)))

@@ -1,5 +1,5 @@
 -- What is seen of an event that a kernel answered, and of its state at boot.
-use Rattle.std.specs.Prelude.{Bool, true, false, List, Option, None, Some}
+use Rattle.std.specs.Prelude.{Bool, false}
 use Rattle.fmp_setup.specs.Setup.{Setup}
 use Rattle.fmp_rules.specs.Boot.{boot}
 use Rattle.fmp_kernel_order.specs.Queues.{listed, no_queues}

@@ -3,6 +3,7 @@
 
 mod begun;
 mod calls;
+mod keys;
 mod sights;
 mod space;
 mod ticks;
@@ -11,6 +12,7 @@ mod watcher;
 
 pub use begun::choice_of;
 pub use calls::{NUMBERS, POSITIONS, number_of_call};
+pub use keys::PlaceTables;
 pub use sights::{Seen, has_to_look, is_over, is_so_at_boot, put_line};
 pub use ticks::advance_taken;
 pub use walker::Walker;

@@ -1,28 +1,22 @@
 //! The walker as one who goes through a graph: its places are those of all orders.
-ghost use Rattle.std.specs.Prelude.{◌≡◌, ◌≤◌, ◌<◌, ◌+◌, ℕ, Some, IfOk};
+ghost use Rattle.std.specs.Prelude.{◌≡◌, ◌≤◌, ◌<◌, ◌+◌, ◌^◌, ℕ, Some, IfOk, length};
 ghost use Rattle.std.specs.Int.{bit_at};
 ghost use Rattle.fmp_codes.specs.Records.{processor_of};
 ghost use Rattle.fmp_search.specs.Runs.{Closes, Goes};
 ghost use Rattle.fmp_search_orders.specs.Laws.{is_seen};
 ghost use Rattle.fmp_search_orders.specs.Made.{number_at};
 ghost use Rattle.fmp_search_orders.specs.Places as places;
-ghost use Rattle.fmp_search_kernel.specs.Hashed.{hashed, with_first};
+ghost use Rattle.fmp_search_kernel.specs.Keys.{count_of_words, IsPlaceKey};
 ghost use Rattle.fmp_search_kernel.specs.Walked.{origin_of, ClosesMark};
+ghost use Rattle.fmp_setup.specs.Valid.{IsValid};
 
-use crate::walker::{MOST, Walker, are_equal, is_marked};
+use crate::keys::{MOST_WORDS, PlaceTables, key_of, parts_of};
+use crate::walker::{MOST, Walker, is_marked};
 use fmp_codes::Event;
-use fmp_kernel_parts::Digest;
+use fmp_interned::put_list;
+use fmp_kernel_packed::{Packed, pack, unpack};
 use fmp_search::{Noted, Space};
 use std::alloc::AllocError;
-
-/// Adds the first of these numbers, so many, to what tells places apart.
-fn add_numbers(digest: &mut Digest, numbers: &[u32], count: usize)
-    ensures { digest.new ≡ with_first count numbers.now digest.old }
-{
-    for number in numbers.get(..count).unwrap_or(numbers) {
-        digest.add(u64::from(*number));
-    }
-}
 
 /// Adds the bit of the step that makes the event of another with a mark.
 fn close_marked(closed: &mut u64, step: u8)
@@ -34,6 +28,25 @@ fn close_marked(closed: &mut u64, step: u8)
 }
 
 impl<'a> Walker<'a> {
+    /// Goes back to where all runs begin, and has room for 2^31 steps from there. The error comes where the kernel has not the memory to become as it was at
+    /// boot: kernels of one configuration have it, but no clause says so.
+    pub fn start_over(&mut self) -> Result<(), AllocError>
+        ensures there { IfOk result (λ done. self.new.place ≡ origin_of self.old.place) }
+        ensures room { IfOk result (λ done. 2 ^ 31 ≤ self.new.left) }
+        ensures origin { origin_of self.new.place ≡ origin_of self.old.place }
+    {
+        if !self.kernel.copy_from(&self.start) {
+            return Err(AllocError);
+        }
+        self.tasks = [0; 64];
+        self.handlers = [0; 8];
+        self.taken = [0; 8];
+        self.idled = [0; 8];
+        self.seen = 0;
+        self.left = MOST;
+        Ok(())
+    }
+
     /// Where the last event was that of a step without a mark, and may not have one, the step that gives it one is closed: it need not be
     /// played. So many steps of the question were seen before the event. The place stays as it is, and the error is want of memory.
     fn close(&mut self, seen: u32, step: u8, closed: &mut u64) -> Result<(), AllocError>
@@ -62,9 +75,40 @@ impl<'a> Walker<'a> {
         self.close(seen, step, closed)?;
         self.is_allowed(seen, marked)
     }
+
+    /// Goes to the place of a key, with room for the numbers beside its kernel. There is room for one step then. The error is that of the kernel's `unpack`.
+    fn unpack_by(
+        &mut self,
+        tables: &PlaceTables,
+        key: u64,
+        numbers: &mut [u32],
+    ) -> Result<(), AllocError>
+        requires valid { IsValid self.old.place.config }
+        requires long { length numbers.old ≡ count_of_words self.old.place.config }
+        requires kept { (p : places.Place) × IsPlaceKey (origin_of self.old.place) tables.now key p }
+        ensures there { IfOk result (λ done. (p : places.Place) → IsPlaceKey (origin_of self.old.place) tables.now key p → self.new.place ≡ p) }
+        ensures room { IfOk result (λ done. self.new.left ≡ 1) }
+        ensures origin { origin_of self.new.place ≡ origin_of self.old.place }
+    {
+        let (machine, words) = parts_of(key);
+        put_list(&tables.pairs, words, numbers);
+        let counting = numbers[numbers.len() - 1];
+        let packed = Packed { machine, counting };
+        unpack(
+            &tables.parts,
+            packed,
+            &mut self.machine,
+            &mut self.kernel,
+            &self.start,
+        )?;
+        self.become_words(numbers);
+        Ok(())
+    }
 }
 
 impl<'a> Space for Walker<'a> {
+    type Tables = PlaceTables;
+
     ghost Place = { places.Place };
 
     ghost place = { λ w. w.place };
@@ -79,27 +123,35 @@ impl<'a> Space for Walker<'a> {
 
     ghost tells = { number_at };
 
-    ghost hashed = { hashed };
+    ghost IsKey = { IsPlaceKey };
 
     ghost room = { λ w. w.left };
 
-    fn another(&self) -> Result<Self, AllocError> {
-        self.twin()
+    fn tables(&self) -> Result<PlaceTables, AllocError> {
+        Ok(PlaceTables::new(self.config.allocator()))
     }
 
-    /// The error comes where the kernel has not the memory to become as it was at boot: kernels of one configuration have it, but no
-    /// clause says so.
-    fn restart(&mut self) -> Result<(), AllocError> {
-        if !self.kernel.copy_from(&self.start) {
+    /// The error comes, too, where a position or a count is 2^31 or more, and where the kernel is not of the configuration of that at boot: kernels that have
+    /// come from it are, but no clause says so.
+    fn pack(&self, tables: &mut PlaceTables) -> Result<u64, AllocError> {
+        if !self.is_packable() {
             return Err(AllocError);
         }
-        self.tasks = [0; 64];
-        self.handlers = [0; 8];
-        self.taken = [0; 8];
-        self.idled = [0; 8];
-        self.seen = 0;
-        self.left = MOST;
-        Ok(())
+        let packed = pack(&mut tables.parts, &self.kernel, &self.start)?;
+        let words = self.number_of_words(tables, packed.counting)?;
+        tables.validity();
+        Ok(key_of(packed.machine, words))
+    }
+
+    /// The error is as at `pack`.
+    fn unpack(&mut self, tables: &PlaceTables, key: u64) -> Result<(), AllocError> {
+        let mut room = [0; MOST_WORDS];
+        let count = self.word_count();
+        self.unpack_by(tables, key, &mut room[..count])
+    }
+
+    fn restart(&mut self) -> Result<(), AllocError> {
+        self.start_over()
     }
 
     #[tactic(auto, unfolding(fmp_search_orders::specs::Places::after))]
@@ -130,11 +182,7 @@ impl<'a> Space for Walker<'a> {
         }
     }
 
-    fn again(&mut self, step: u8) {
-        self.retrace(step);
-    }
-
-    /// The error is as at `restart`.
+    /// The error is as at `start_over`.
     fn copy_from(&mut self, other: &Self) -> Result<(), AllocError> {
         if !self.kernel.copy_from(&other.kernel) {
             return Err(AllocError);
@@ -156,28 +204,5 @@ impl<'a> Space for Walker<'a> {
     /// Whether all steps of the question were seen.
     fn is_wanted(&self) -> bool {
         self.seen as usize == self.question.steps().len()
-    }
-
-    fn is_same(&self, other: &Self) -> bool {
-        self.seen == other.seen
-            && are_equal(&self.tasks, &other.tasks)
-            && self.handlers == other.handlers
-            && self.taken == other.taken
-            && self.idled == other.idled
-            && self.kernel.is_same(&other.kernel)
-    }
-
-    #[tactic(auto, unfolding(crate::specs::Hashed::hashed))]
-    fn hash(&self) -> u64 {
-        let tasks = self.config.tasks().len();
-        let processors = usize::from(self.config.processors());
-        let mut digest = Digest::new();
-        digest.add(self.kernel.hash());
-        digest.add(u64::from(self.seen));
-        add_numbers(&mut digest, &self.tasks, tasks);
-        add_numbers(&mut digest, &self.handlers, processors);
-        add_numbers(&mut digest, &self.taken, processors);
-        add_numbers(&mut digest, &self.idled, processors);
-        digest.value()
     }
 }

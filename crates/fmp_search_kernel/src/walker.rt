@@ -18,6 +18,8 @@ use crate::sights::{Seen, bits_at, has_to_look, is_over, put_read_line};
 use crate::ticks::{advance_idled, advance_taken, keeps_pace, lower_taken, may_tick};
 use fmp_codes::{Answer, Event, Proc, Record, Runner};
 use fmp_kernel::Kernel;
+use fmp_kernel_machine::KernelMachine;
+use fmp_kernel_packed::room_for;
 use fmp_rules::Config;
 use fmp_search::Noted;
 use fmp_search_orders::Rules;
@@ -26,7 +28,6 @@ use fmp_smp_histories::{advance_handler, advance_task, asked_at};
 use fmp_text_scripts::Scripts;
 use std::alloc::AllocError;
 use std::marker::Model;
-use std::rc::Rc;
 
 // For how many steps there is room from where all runs begin.
 pub(crate) const MOST: u32 = 2_147_483_648;
@@ -35,12 +36,14 @@ pub(crate) const MOST: u32 = 2_147_483_648;
 #[derive(Drop)]
 pub struct Walker<'a> {
     pub(crate) config: &'a Config,
-    scripts: &'a Scripts,
+    pub(crate) scripts: &'a Scripts,
     pub(crate) question: &'a Question,
     rules: Rules,
-    /// The kernel at boot, which twins share.
-    pub(crate) start: Rc<Kernel>,
+    /// The kernel at boot.
+    pub(crate) start: Kernel,
     pub(crate) kernel: Kernel,
+    /// Room for a kernel that is unpacked.
+    pub(crate) machine: Box<KernelMachine>,
     /// Where the scripts of the tasks, and of the handlers on each processor, have come to.
     pub(crate) tasks: [u32; 64],
     pub(crate) handlers: [u32; 8],
@@ -82,8 +85,8 @@ impl<'a> Model for Walker<'a> {
       made = w.made;
     } };
 
-    ghost invariant = { λ w. (length w.kernel.processors ≡ w.config.now.processors) × (w.start.value ≡ boot listed (no_queues w.config.now) w.config.now)
-        × (length w.start.value.processors ≡ w.config.now.processors) × IsRoomy w.tasks w.handlers w.taken w.idled w.seen w.left };
+    ghost invariant = { λ w. (length w.kernel.processors ≡ w.config.now.processors) × (w.start ≡ boot listed (no_queues w.config.now) w.config.now)
+        × (length w.start.processors ≡ w.config.now.processors) × IsRoomy w.tasks w.handlers w.taken w.idled w.seen w.left };
 }
 
 /// How many steps were seen after one more event, which is marked or not.
@@ -92,18 +95,6 @@ fn counted(seen: u32, marked: bool) -> u32
     ensures { result ≡ (if marked then seen + 1 else seen) }
 {
     if marked { seen + 1 } else { seen }
-}
-
-/// Whether two lists of positions are the same. All are looked at: a loop that does not stop at the first difference is compiled to one over
-/// many at a time.
-pub(crate) fn are_equal(one: &[u32; 64], other: &[u32; 64]) -> bool
-    ensures { IsTrue result ↔ (one.now ≡ other.now) }
-{
-    let mut same = true;
-    for at in 0..64usize {
-        same &= one[at] == other[at];
-    }
-    same
 }
 
 /// Whether a step marks its event as a moment of the question.
@@ -249,29 +240,14 @@ impl<'a> Walker<'a> {
     ) -> Result<Walker<'a>, AllocError>
         ensures { IfOk result (λ w. w.place ≡ places.origin config.entry.now scripts.entry.now rules question.entry.now) }
     {
-        let start = Rc::new(config.allocator(), Kernel::boot(config)?)?;
-        Walker::starting(config, scripts, rules, question, start)
-    }
-
-    /// A walker where all runs begin, with the kernel at boot given.
-    fn starting(
-        config: &'a Config,
-        scripts: &'a Scripts,
-        rules: Rules,
-        question: &'a Question,
-        start: Rc<Kernel>,
-    ) -> Result<Walker<'a>, AllocError>
-        requires boot { start.value ≡ boot listed (no_queues config.now) config.now }
-        requires processors { length start.value.processors ≡ config.now.processors }
-        ensures { IfOk result (λ w. w.place ≡ places.origin config.entry.now scripts.entry.now rules question.entry.now) }
-    {
         Ok(Walker {
             config,
             scripts,
             question,
             rules,
-            start,
+            start: Kernel::boot(config)?,
             kernel: Kernel::boot(config)?,
+            machine: room_for(config)?,
             tasks: [0; 64],
             handlers: [0; 8],
             taken: [0; 8],
@@ -281,14 +257,6 @@ impl<'a> Walker<'a> {
             made: Record::answer(Event::Tick(Proc::new(1)), None, Answer::Nothing),
             text: Vec::new(config.allocator()),
         })
-    }
-
-    /// Another walker where all runs of this one begin.
-    pub(crate) fn twin(&self) -> Result<Walker<'a>, AllocError>
-        ensures { IfOk result (λ w. w.place ≡ origin_of self.now.place) }
-    {
-        let start = self.start.clone()?;
-        Walker::starting(self.config, self.scripts, self.rules, self.question, start)
     }
 
     /// Goes on by an event: the machine, the positions, the ticks and the steps seen change, and `made` tells what was done. It takes the room

@@ -5,8 +5,9 @@ ghost use Rattle.fmp_search_orders.specs.Made.{watched_number};
 ghost use Rattle.fmp_search_orders.specs.Places as places;
 ghost use Rattle.fmp_search_orders.specs.Watched as watched;
 ghost use Rattle.fmp_search_pattern.specs.Lasting.{is_so};
-ghost use Rattle.fmp_search_kernel.specs.Hashed.{hashed};
+ghost use Rattle.fmp_search_kernel.specs.Keys.{IsPlaceKey};
 
+use crate::keys::PlaceTables;
 use crate::walker::{Walker, is_marked};
 use fmp_rules::Config;
 use fmp_search::{Noted, Space};
@@ -56,6 +57,8 @@ impl<'a> Watcher<'a> {
 }
 
 impl<'a> Space for Watcher<'a> {
+    type Tables = PlaceTables;
+
     ghost Place = { watched.Watched };
 
     ghost place = { λ w. w.place };
@@ -70,15 +73,20 @@ impl<'a> Space for Watcher<'a> {
 
     ghost tells = { watched_number };
 
-    ghost hashed = { λ w. hashed w.place };
+    ghost IsKey = { λ o t k w. (w.lasting ≡ o.lasting) × IsPlaceKey o.place t k w.place };
 
     ghost room = { λ w. w.left };
 
-    fn another(&self) -> Result<Self, AllocError> {
-        Ok(Watcher {
-            walker: self.walker.twin()?,
-            lasting: self.lasting,
-        })
+    fn tables(&self) -> Result<PlaceTables, AllocError> {
+        self.walker.tables()
+    }
+
+    fn pack(&self, tables: &mut PlaceTables) -> Result<u64, AllocError> {
+        self.walker.pack(tables)
+    }
+
+    fn unpack(&mut self, tables: &PlaceTables, key: u64) -> Result<(), AllocError> {
+        self.walker.unpack(tables, key)
     }
 
     fn restart(&mut self) -> Result<(), AllocError> {
@@ -97,10 +105,6 @@ impl<'a> Space for Watcher<'a> {
         self.walker.watch_for(step, self.lasting)
     }
 
-    fn again(&mut self, step: u8) {
-        self.walker.again(step);
-    }
-
     fn copy_from(&mut self, other: &Self) -> Result<(), AllocError> {
         self.walker.copy_from(&other.walker)
     }
@@ -111,14 +115,5 @@ impl<'a> Space for Watcher<'a> {
 
     fn is_wanted(&self) -> bool {
         false
-    }
-
-    /// What is asked is the same: the runs of both begin at the same place.
-    fn is_same(&self, other: &Self) -> bool {
-        self.walker.is_same(&other.walker)
-    }
-
-    fn hash(&self) -> u64 {
-        self.walker.hash()
     }
 }

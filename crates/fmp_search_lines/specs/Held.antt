@@ -1,8 +1,6 @@
 -- A place of one who takes lines, with the lines.
 use Rattle.std.specs.Prelude.{◌≡◌, ℕ, ◌+◌, Bool, true, ◌&&◌, leb, Option, Some, List}
-use Rattle.std.specs.List.{fold}
 use Rattle.std.specs.Option.{option_map}
-use Rattle.fmp_kernel_parts.specs.Digests.{added, seed, told}
 use Rattle.fmp_search.specs.Answers.{NoneEver}
 use Rattle.fmp_search.specs.Runs.{run}
 use Rattle.fmp_search_lines.specs.Lasts.{last_at, must_at}
@@ -33,10 +31,6 @@ held lasts musts count goal top pending s =
 -- whether all lines before the goal were taken that have to be, as the top and the pending lines tell it
 abbrev pub is_reached : {S : Type 0} → Held S → Bool
 is_reached h = leb h.goal h.place.top && are_late (must_at h.musts) h.goal h.place.pending
-
--- the number of a place, by that of its state
-unfoldable pub hashed : {S : Type 0} → (S → ℕ) → Held S → ℕ
-hashed of h = told (fold added (added (added seed (of h.place.state)) h.place.top) h.place.pending)
 
 -- what the search for such a place says of the orders of these lines, where the last line before the goal has to be taken
 pub record TakersSay {S : Type 0} (plays : S → ℕ → Option S) (h : Held S) (s : S) : Type 0 where

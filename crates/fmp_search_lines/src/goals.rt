@@ -24,6 +24,7 @@ fn last_must(musts: &[bool], goal: u32) -> u32
 
 /// One who has taken no line, and whose goal is given.
 fn taker_of<'a, P: Player + Drop>(
+    alloc: Global,
     player: &P,
     lasts: &'a [u32],
     musts: &'a [bool],
@@ -42,21 +43,20 @@ fn taker_of<'a, P: Player + Drop>(
         taken: Taken::none(),
         reached: 0,
         player: player.another()?,
+        alloc,
     })
 }
 
-/// What `explore` gives, by these four, and the first of them, which makes the steps. It is of any space, since in a function of takers, which borrow the
+/// What `explore` gives, by these two, and the first of them, which makes the steps. It is of any space, since in a function of takers, which borrow the
 /// lines, the check of these borrows takes minutes.
 fn explored<W: Space + Drop>(
     alloc: Global,
     mut walker: W,
     mut base: W,
-    mut other: W,
-    mut trunk: W,
     turns: u32,
     most: u32,
 ) -> Result<(Answer, W), AllocError>
-    requires origins { (W.origin base ≡ W.origin walker) × (W.origin other ≡ W.origin walker) × (W.origin trunk ≡ W.origin walker) }
+    requires origin { W.origin base ≡ W.origin walker }
     requires turns { turns < 2 ^ 31 }
     ensures { IfOk result (λ r. Says W.after W.wanted (W.origin walker) turns most r.0) }
 {
@@ -64,8 +64,6 @@ fn explored<W: Space + Drop>(
         alloc,
         &mut walker,
         &mut base,
-        &mut other,
-        &mut trunk,
         &mut Quiet,
         turns,
         most,
@@ -89,18 +87,8 @@ pub(crate) fn search_goal<P: Player + Drop>(
         (λ r. SaysGoal P.plays (last_at lasts.now) (length lasts.now) (must_at musts.now) (P.begins player.now) goal most r.0) }
 {
     let end = last_must(musts, goal);
-    let walker = taker_of(player, lasts, musts, end)?;
-    let base = taker_of(player, lasts, musts, end)?;
-    let other = taker_of(player, lasts, musts, end)?;
-    let trunk = taker_of(player, lasts, musts, end)?;
-    let (answer, walker) = explored(
-        alloc,
-        walker,
-        base,
-        other,
-        trunk,
-        lasts.len() as u32 + 1,
-        most,
-    )?;
+    let walker = taker_of(alloc, player, lasts, musts, end)?;
+    let base = taker_of(alloc, player, lasts, musts, end)?;
+    let (answer, walker) = explored(alloc, walker, base, lasts.len() as u32 + 1, most)?;
     Ok((answer, walker.reached))
 }

@@ -8,14 +8,17 @@
 mod bracket;
 mod crowding;
 mod goals;
+mod halving;
 mod laws;
+mod packing;
 mod player;
 mod searching;
 mod taken;
 mod taker;
 
+pub use halving::{halves, joined};
 pub use laws::{orders_stand, places_say, steps_are, takers_say, told_by_pending, verdicts_say};
 pub use player::Player;
 pub use searching::{Orders, search_orders};
 pub use taken::{MOST_PENDING, Taken, last_of, may_pass, must_of};
-pub use taker::Taker;
+pub use taker::{Taker, TakerTables};

@@ -1,11 +1,15 @@
 //! What plays the events of lines.
-ghost use Rattle.std.specs.Prelude.{◌≡◌, ◌↔◌, ◌≤◌, ◌<◌, ◌+◌, ◌^◌, ℕ, true, IsTrue, Option, Some, IfOk, is_some};
+ghost use Rattle.std.specs.Prelude.{◌≡◌, ◌≤◌, ◌<◌, ◌^◌, ℕ, Option, IfOk};
+ghost use Rattle.fmp_interned.specs.Keys.{AreKeptBy, IsKeyOf};
 ghost use Rattle.fmp_search.specs.Runs.{Goes};
 
 use std::alloc::AllocError;
 
 /// A machine that plays the events of lines, and tells whether what each line says is what it answered.
 pub trait Player {
+    /// What its states are made of, each part once and with a number, by which states are kept.
+    type Tables: Drop;
+
     ghost State: { Type 0 };
 
     // Its state, and that where all begins.
@@ -16,8 +20,8 @@ pub trait Player {
     // The state after the event of a line, if the line is right there.
     ghost plays: { State → ℕ → Option State };
 
-    // A number of each state.
-    ghost hashed: { State → ℕ };
+    // Where all begins at a state, a number is the key of another by these tables.
+    ghost IsKey: { State → Self.Tables → ℕ → State → Type 0 };
 
     // For how many lines there is room, before it has to begin anew.
     ghost room: { Self → ℕ };
@@ -25,6 +29,22 @@ pub trait Player {
     /// One more that begins alike. The error is want of memory.
     fn another(&self) -> Result<Self, AllocError>
         ensures { IfOk result (λ w. begins w ≡ begins self.now) };
+
+    /// Tables of no state. The error is want of memory.
+    fn tables(&self) -> Result<Self::Tables, AllocError>;
+
+    /// The key of its state, by tables in which its parts are kept from then on. The error is want of memory, and leaves the keys of other states as they
+    /// were.
+    fn pack(&self, tables: &mut Self::Tables) -> Result<u64, AllocError>
+        ensures key { IfOk result (IsKeyOf (IsKey (begins self.now) tables.new) (state self.now)) }
+        ensures kept { AreKeptBy (IsKey (begins self.now) tables.old) (IsKey (begins self.now) tables.new) };
+
+    /// Becomes as it was in the state of a key. The error is want of memory.
+    fn unpack(&mut self, tables: &Self::Tables, key: u64) -> Result<(), AllocError>
+        requires { (s : State) × IsKey (begins self.old) tables.now key s }
+        ensures there { IfOk result (λ done. (s : State) → IsKey (begins self.old) tables.now key s → state self.new ≡ s) }
+        ensures room { IfOk result (λ done. 0 < room self.new) }
+        ensures begins { begins self.new ≡ begins self.old };
 
     /// Begins anew. The error is want of memory.
     fn restart(&mut self) -> Result<(), AllocError>
@@ -38,27 +58,10 @@ pub trait Player {
         ensures goes { IfOk result (λ made. Goes (plays (state self.old) line) made (state self.new)) }
         ensures begins { begins self.new ≡ begins self.old };
 
-    /// Plays it again, where it is known to be right.
-    fn again(&mut self, line: u32)
-        requires room { 0 < room self.old }
-        requires right { is_some (plays (state self.old) line) ≡ true }
-        ensures again { plays (state self.old) line ≡ Some (state self.new) }
-        ensures room { room self.old ≤ room self.new + 1 }
-        ensures begins { begins self.new ≡ begins self.old };
-
     /// Becomes as another that begins alike. The error is want of memory.
     fn copy_from(&mut self, other: &Self) -> Result<(), AllocError>
         requires { begins other.now ≡ begins self.old }
         ensures there { IfOk result (λ done. state self.new ≡ state other.now) }
         ensures room { IfOk result (λ done. room self.new ≡ room other.now) }
         ensures begins { begins self.new ≡ begins self.old };
-
-    /// Whether another that begins alike is in the same state.
-    fn is_same(&self, other: &Self) -> bool
-        requires { begins other.now ≡ begins self.now }
-        ensures { IsTrue result ↔ (state other.now ≡ state self.now) };
-
-    /// The number of its state. No answer depends on it.
-    fn hash(&self) -> u64
-        ensures { result ≡ hashed (state self.now) };
 }

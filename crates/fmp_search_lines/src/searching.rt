@@ -79,8 +79,8 @@ fn first_without<P: Player + Drop>(
 }
 
 /// Searches for an order of lines within their bounds in which each line is right and which has all lines that have to be taken. Each line has the number of
-/// the last line that may come before it, and whether it has to be taken. There is room for so many places besides the first, of 24 to 32 bytes each. The error
-/// is want of memory.
+/// the last line that may come before it, and whether it has to be taken. There is room for so many places besides the first, of 24 to 32 bytes each
+/// beside what they are made of, each part of which is kept once. The error is want of memory.
 pub fn search_orders<P: Player + Drop>(
     alloc: Global,
     player: &P,

@@ -66,7 +66,7 @@ fn put_without(left: &mut ArrayVec<u32, MOST_PENDING>, lines: &[u32], line: u32)
 }
 
 /// Adds these lines to others.
-fn put_all(left: &mut ArrayVec<u32, MOST_PENDING>, lines: &[u32])
+pub(crate) fn put_all(left: &mut ArrayVec<u32, MOST_PENDING>, lines: &[u32])
     requires { array_vec_len left.old + length lines.now ≤ 16 }
     ensures { left.new.items ≡ left.old.items ++ lines.now }
 {

@@ -1,15 +1,15 @@
 //! One who takes lines one after the other, as a walker of a graph.
 ghost use Rattle.std.specs.Prelude.{◌≡◌, ◌≤◌, ◌<◌, ℕ, [], Option, None, true};
-ghost use Rattle.std.specs.List.{fold};
-ghost use Rattle.fmp_kernel_parts.specs.Digests.{added};
 ghost use Rattle.fmp_search.specs.Runs.{Goes};
 ghost use Rattle.fmp_search_lines.specs.Held as spec;
+ghost use Rattle.fmp_search_lines.specs.Keys.{IsHeldKey};
 
+use crate::packing::{pack_taken, unpack_taken};
 use crate::player::Player;
 use crate::taken::Taken;
-use fmp_kernel_parts::Digest;
+use fmp_interned::{Interned, Words};
 use fmp_search::{Noted, Space};
-use std::alloc::AllocError;
+use std::alloc::{AllocError, Global};
 
 /// Lines with the last that may come before each, whether each has to be taken, and up to which; and what was taken of them.
 #[derive(Drop)]
@@ -22,15 +22,16 @@ pub struct Taker<'a, P: Player + Drop> {
     /// The greatest goal that this one reached, or one who stood where it went. No answer depends on it.
     pub reached: u32,
     pub player: P,
+    pub alloc: Global,
 }
 
-/// Adds the numbers of these lines to what tells places apart.
-fn add_lines(digest: &mut Digest, lines: &[u32])
-    ensures { digest.new ≡ fold added digest.old lines.now }
-{
-    for line in lines {
-        digest.add(u64::from(*line));
-    }
+/// The tables of the player's states, and the pairs of the lists of numbers that tell a state's key and what is taken.
+#[derive(Drop)]
+pub struct TakerTables<T: Drop> {
+    states: T,
+    pairs: Interned<[u32; 2]>,
+    /// Room for such a list.
+    words: Words,
 }
 
 impl<'a, P: Player + Drop> Taker<'a, P> {
@@ -45,6 +46,8 @@ impl<'a, P: Player + Drop> Taker<'a, P> {
 }
 
 impl<'a, P: Player + Drop> Space for Taker<'a, P> {
+    type Tables = TakerTables<P::Tables>;
+
     ghost Place = { spec.Held P.State };
 
     ghost place = { λ w. spec.held w.lasts.now w.musts.now w.count w.goal w.taken.top w.taken.pending.items (P.state w.player) };
@@ -59,20 +62,30 @@ impl<'a, P: Player + Drop> Space for Taker<'a, P> {
 
     ghost tells = { λ q s. 0 };
 
-    ghost hashed = { spec.hashed P.hashed };
+    ghost IsKey = { λ q t k p. IsHeldKey (P.IsKey q.place.state t.states) t.pairs q k p };
 
     ghost room = { λ w. P.room w.player };
 
-    fn another(&self) -> Result<Self, AllocError> {
-        Ok(Taker {
-            lasts: self.lasts,
-            musts: self.musts,
-            count: self.count,
-            goal: self.goal,
-            taken: Taken::none(),
-            reached: 0,
-            player: self.player.another()?,
+    fn tables(&self) -> Result<TakerTables<P::Tables>, AllocError> {
+        Ok(TakerTables {
+            states: self.player.tables()?,
+            pairs: Interned::new(self.alloc),
+            words: Words::new(self.alloc),
         })
+    }
+
+    fn pack(&self, tables: &mut TakerTables<P::Tables>) -> Result<u64, AllocError> {
+        let state = self.player.pack(&mut tables.states)?;
+        let key = pack_taken(&mut tables.pairs, &mut tables.words, state, &self.taken)?;
+        tables.pairs.validity();
+        Ok(key)
+    }
+
+    fn unpack(&mut self, tables: &TakerTables<P::Tables>, key: u64) -> Result<(), AllocError> {
+        let (state, taken) = unpack_taken(&tables.pairs, key);
+        self.player.unpack(&tables.states, state)?;
+        self.taken = taken;
+        Ok(())
     }
 
     fn restart(&mut self) -> Result<(), AllocError> {
@@ -109,14 +122,6 @@ impl<'a, P: Player + Drop> Space for Taker<'a, P> {
         }
     }
 
-    fn again(&mut self, step: u8) {
-        let _count = self.count;
-        if let Some(line) = self.line_of(step) {
-            self.player.again(line);
-            self.taken.take(step, line);
-        }
-    }
-
     fn copy_from(&mut self, other: &Self) -> Result<(), AllocError> {
         self.player.copy_from(&other.player)?;
         self.taken = other.taken.twin();
@@ -130,20 +135,5 @@ impl<'a, P: Player + Drop> Space for Taker<'a, P> {
 
     fn is_wanted(&self) -> bool {
         self.taken.has_all(self.musts, self.goal)
-    }
-
-    fn is_same(&self, other: &Self) -> bool {
-        self.taken.top == other.taken.top
-            && self.taken.pending.as_slice() == other.taken.pending.as_slice()
-            && self.player.is_same(&other.player)
-    }
-
-    #[tactic(auto, unfolding(crate::specs::Held::hashed))]
-    fn hash(&self) -> u64 {
-        let mut digest = Digest::new();
-        digest.add(self.player.hash());
-        digest.add(u64::from(self.taken.top));
-        add_lines(&mut digest, self.taken.pending.as_slice());
-        digest.value()
     }
 }

@@ -7,7 +7,6 @@ use arrayvec::ArrayVec;
 use fmp_codes::Event;
 use fmp_ranges::{Limits, Ticks};
 use fmp_rules::Config;
-use fmp_search::Space;
 use fmp_search_kernel::Walker;
 use fmp_search_orders::Rules;
 use fmp_search_pattern::Question;
@@ -239,7 +238,7 @@ pub fn draw_order(
     let processors = config.processors();
     let question = Question::new(Vec::new(alloc));
     let mut walker = Walker::new(config, scripts, drawing.rules(limits.ticks), &question)?;
-    walker.restart()?;
+    walker.start_over()?;
     let mut draws = Draws::new(drawing.stalls, seed);
     let mut events = Vec::new(alloc);
     let mut left = limits.turns.count;

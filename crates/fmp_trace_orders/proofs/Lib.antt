@@ -1,5 +1,5 @@
 pub mod ReadLines  -- What is known of what a line says.
-pub mod Playing  -- What is known of a line that is right.
+pub mod Keys  -- Keys of machines that play lines: each is the key of one machine, which has no other.
 pub mod Matching  -- The machine with lists plays lines as that with numbers does.
 pub mod Answers  -- What is known of the orders for one machine is known for another that finds the same lines right.
 pub mod SaidLines  -- What the lines of a text say, one by one.

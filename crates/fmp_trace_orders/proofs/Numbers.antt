@@ -1,7 +1,6 @@
 -- What a search of the kernel's orders says of the machine with numbers.
 use Rattle.std.proofs.Common.{◌≡◌, ℕ, ◌≤◌, Bool, List, length, sym, ap, subst, ◌∙◌, arith}
 use Rattle.std.proofs.lemmas.List.{length-map}
-use Rattle.fmp_codes.specs.declared.records.Event.{Event}
 use Rattle.fmp_names.specs.Names.{NameLists, AreValid}
 use Rattle.fmp_setup.specs.Setup.{Setup}
 use Rattle.fmp_setup.specs.Valid.{IsValid}
@@ -12,12 +11,12 @@ use Rattle.fmp_search_lines.specs.Answers.{FillsRoom, SaysOrders}
 use Rattle.fmp_search_lines.specs.declared.searching.Orders.{Orders}
 use Rattle.fmp_trace_orders.specs.Lines.{AreLinesOf, lines_of}
 use Rattle.fmp_trace_orders.specs.Playing.{Playing, at_boot, at_booted, lines_from, line_from, plays}
-use Rattle.fmp_trace_orders.specs.Standing.{AreEventsOf, begun}
+use Rattle.fmp_trace_orders.specs.Standing.{begun}
 use Rattle.fmp_trace_orders.specs.declared.lines.Lines.{Lines}
 use Rattle.fmp_trace_orders.proofs.Answers.{answer_over}
 use Rattle.fmp_trace_orders.proofs.Matching.{orders_match}
 use Rattle.fmp_trace_orders.proofs.Reading.{length-lasts_from}
-use Rattle.fmp_trace_orders.proofs.SaidLines.{few_said, few_lines, events_are}
+use Rattle.fmp_trace_orders.proofs.SaidLines.{few_said, few_lines}
 
 module _ (names : NameLists) (text : List ℕ) (lines : Lines) (valid : AreValid names) (known : AreLinesOf names text lines) where
   pub few_starts : length lines.starts.items ≤ most_events
@@ -29,11 +28,6 @@ module _ (names : NameLists) (text : List ℕ) (lines : Lines) (valid : AreValid
   few_lasts =
       let same = ap length known.so.lasts ∙ length-lasts_from 0 known.said in
       omega (arith, same, few_said names text known.said valid known.read)
-
-  pub events_kept : AreEventsOf names (lines_from text lines.starts.items) lines.events.items
-  events_kept =
-      subst (λ (ls : List (List ℕ)). AreEventsOf names ls lines.events.items) (sym known.starts)
-      (subst (λ (es : List Event). AreEventsOf names (lines_of text) es) (sym known.so.events) (events_are names text known.said valid known.read))
 
 pub judged : (c : Setup) (text : List ℕ) (lines : Lines) (w : Playing Queues) (last : ℕ → ℕ) (count : ℕ) (must : ℕ → Bool) (answer : Orders) → IsValid c →
     AreValid c.names → AreLinesOf c.names text lines → w ≡ at_boot c (lines_from text lines.starts.items) →

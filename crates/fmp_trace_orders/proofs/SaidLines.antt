@@ -1,8 +1,6 @@
 -- What the lines of a text say, one by one.
-use Rattle.std.proofs.Common.{◌≡◌, ℕ, zero, suc, ◌+◌, ◌≤◌, eqb, ltb, inl, inr, List, [], ◌∷◌, map, length, Some, Result, Ok, slice_get, option_map, refl, sym}
-use Rattle.std.proofs.Common.{ap, subst, ◌∙◌, arith}
+use Rattle.std.proofs.Common.{◌≡◌, ℕ, ◌+◌, ◌≤◌, eqb, ltb, inl, inr, List, [], ◌∷◌, length, Result, Ok, refl, subst, arith}
 use Rattle.std.proofs.lemmas.Bool.{cases_Bool}
-use Rattle.std.proofs.lemmas.Option.{slice_get-map}
 use Rattle.fmp_bytes.specs.Bytes.{pieces_of}
 use Rattle.fmp_bytes.proofs.Parsed.{bind_parts}
 use Rattle.fmp_names.specs.Names.{NameLists, AreValid}
@@ -13,7 +11,6 @@ use Rattle.fmp_trace_partial.specs.Saying.{line_said, said_from, said_in}
 use Rattle.fmp_trace_partial.specs.declared.telling.Said.{Said}
 use Rattle.fmp_trace_partial.proofs.SaidTexts.{read_says}
 use Rattle.fmp_trace_orders.specs.Lines.{all_but_last, lines_of}
-use Rattle.fmp_trace_orders.specs.Standing.{AreEventsOf}
 use Rattle.fmp_trace_orders.proofs.ReadLines.{at_line_parts}
 
 -- each of these lines, of which the first is line n, says this
@@ -48,21 +45,6 @@ same_length names n (line ∷ lines) (s ∷ ss) each = let others = same_length 
 same_length names n [] (s ∷ ss) each = absurd each
 same_length names n (line ∷ lines) [] each = absurd each
 
--- line j of them says what stands in its place
-said_at : (names : NameLists) (n : ℕ) (lines : List (List ℕ)) (said : List Said) (j : ℕ) (line : List ℕ) → SayEach names n lines said →
-    slice_get lines j ≡ Some line → (s : Said) × (slice_get said j ≡ Some s) × (line_said names (n + j) line ≡ Ok s)
-said_at names n [] [] j line each here = absurd cc
-said_at names n (first ∷ lines) (s ∷ ss) zero line each here =
-    let same : first ≡ line = cc in
-    let at : n ≡ n + 0 = omega arith in
-    (s, refl, subst (λ k. line_said names k line ≡ Ok s) at (subst (λ (x : List ℕ). line_said names n x ≡ Ok s) same each.0))
-said_at names n (first ∷ lines) (s ∷ ss) (suc j) line each here =
-    let (found, there, says) = said_at names (n + 1) lines ss j line each.1 here in
-    let at : n + 1 + j ≡ n + suc j = omega arith in
-    (found, there, subst (λ k. line_said names k line ≡ Ok found) at says)
-said_at names n [] (s ∷ ss) j line each here = absurd each
-said_at names n (first ∷ lines) [] j line each here = absurd each
-
 -- ---- a whole text
 
 said_whole : (names : NameLists) (text : List ℕ) (said : List Said) → said_in names text ≡ Ok said → said_from names 1 (pieces_of 10 text) ≡ Ok said
@@ -82,11 +64,3 @@ module _ (names : NameLists) (text : List ℕ) (said : List Said) (valid : AreVa
 
   pub few_lines : length (lines_of text) ≤ most_events
   few_lines = let same = same_length names 1 (lines_of text) said each in omega (arith, same, few_said)
-
-  pub events_are : AreEventsOf names (lines_of text) (map (λ (s : Said). s.entry.event) said)
-  events_are j line s here says =
-      let (found, there, found_says) = said_at names 1 (lines_of text) said j line each here in
-      let at : 1 + j ≡ j + 1 = omega arith in
-      let both : ◌≡◌ {A = Result Said _} (Ok found) (Ok s) = sym (subst (λ k. line_said names k line ≡ Ok found) at found_says) ∙ says in
-      let same : found ≡ s = cc in
-      slice_get-map (λ (x : Said). x.entry.event) said j ∙ ap (option_map (λ (x : Said). x.entry.event)) there ∙ ap (λ (x : Said). Some x.entry.event) same

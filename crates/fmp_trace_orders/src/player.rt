@@ -8,13 +8,15 @@ ghost use Rattle.fmp_rules.specs.Step.{step};
 ghost use Rattle.fmp_search.specs.Runs.{Goes};
 ghost use Rattle.fmp_text.specs.Events.{IsMemory};
 ghost use Rattle.fmp_text.specs.Limits.{most_events};
-ghost use Rattle.fmp_trace_orders.specs.Standing.{AreEventsOf, begun};
+ghost use Rattle.fmp_trace_orders.specs.Standing.{begun};
 ghost use Rattle.fmp_trace_orders.specs.Playing as spec;
 
 use crate::lines::Lines;
 use fmp_bytes::cut;
 use fmp_codes::{Answer, Event, Proc, Record};
 use fmp_kernel::Kernel;
+use fmp_kernel_machine::KernelMachine;
+use fmp_kernel_packed::room_for;
 use fmp_out::Text;
 use fmp_rules::Config;
 use fmp_text::{Names, TextFault, TextKind};
@@ -22,19 +24,20 @@ use fmp_trace_partial::{Said, put_said};
 use std::alloc::AllocError;
 use std::marker::Model;
 
-// For how many lines there is room from boot.
+// For how many lines there is room from boot, and from where a kernel was unpacked.
 pub(crate) const MOST: u32 = 2_147_483_648;
 
-/// A kernel that plays lines of a text, with room for so many more. It reads a line each time that it plays it, and not where it plays it again: there it
-/// goes by the event.
+/// A kernel that plays lines of a text, with room for so many more. It reads a line each time that it plays it.
 #[derive(Drop)]
 pub struct LinePlayer<'a> {
     pub(crate) config: &'a Config,
     text: &'a [u8],
-    pub(crate) lines: &'a Lines,
+    lines: &'a Lines,
     /// The kernel at boot, which others that begin alike share.
     pub(crate) start: &'a Kernel,
     pub(crate) kernel: Kernel,
+    /// Memory for a kernel that is unpacked.
+    pub(crate) room: Box<KernelMachine>,
     pub(crate) left: u32,
     /// What the last event was told to have done.
     made: Record,
@@ -47,7 +50,7 @@ impl<'a> Model for LinePlayer<'a> {
     ghost use Rattle.fmp_kernel_order.specs.Queues.{listed, no_queues};
     ghost use Rattle.fmp_rules.specs.Boot.{boot};
     ghost use Rattle.fmp_text.specs.Limits.{most_events};
-    ghost use Rattle.fmp_trace_orders.specs.Standing.{AreEventsOf, Standing};
+    ghost use Rattle.fmp_trace_orders.specs.Standing.{Standing};
     ghost use Rattle.fmp_trace_orders.specs.Playing.{lines_from};
 
     ghost Value = { Standing };
@@ -59,8 +62,7 @@ impl<'a> Model for LinePlayer<'a> {
     } };
 
     ghost invariant = { λ w. (length w.lines.now.starts.items ≤ most_events) × (length w.kernel.processors ≡ w.config.now.processors)
-        × (w.start.now ≡ boot listed (no_queues w.config.now) w.config.now) × (length w.start.now.processors ≡ w.config.now.processors)
-        × AreEventsOf w.config.now.names (lines_from w.text.now w.lines.now.starts.items) w.lines.now.events.items };
+        × (w.start.now ≡ boot listed (no_queues w.config.now) w.config.now) × (length w.start.now.processors ≡ w.config.now.processors) };
 }
 
 /// The line that begins at a place of a text, without its line feed. Past its end there is an empty one.
@@ -110,7 +112,6 @@ impl<'a> LinePlayer<'a> {
         start: &'a Kernel,
     ) -> Result<LinePlayer<'a>, AllocError>
         requires few { length lines.now.starts.items ≤ most_events }
-        requires events { AreEventsOf config.now.names (spec.lines_from text.now lines.now.starts.items) lines.now.events.items }
         requires boot { start.now ≡ boot listed (no_queues config.now) config.now }
         requires processors { length start.now.processors ≡ config.now.processors }
         ensures { IfOk result (λ w. w.state ≡ spec.at_boot config.entry.now (spec.lines_from text.entry.now lines.entry.now.starts.items)) }
@@ -121,6 +122,7 @@ impl<'a> LinePlayer<'a> {
             lines,
             start,
             kernel: Kernel::boot(config)?,
+            room: room_for(config)?,
             left: MOST,
             made: Record::answer(Event::Tick(Proc::new(1)), None, Answer::Nothing),
             own: Text::new(config.allocator()),

@@ -1,15 +1,18 @@
 //! The kernel as one who plays lines.
-ghost use Rattle.fmp_kernel.specs.Hashed.{hashed};
 ghost use Rattle.fmp_kernel_order.specs.Queues.{listed, Queues};
+ghost use Rattle.fmp_trace_orders.specs.Keys.{IsPlayingKey};
 ghost use Rattle.fmp_trace_orders.specs.Standing.{begun};
 ghost use Rattle.fmp_trace_orders.specs.Playing.{Playing, plays};
 
 use crate::player::{LinePlayer, MOST, is_right_at};
-use fmp_search_lines::Player;
+use fmp_kernel_packed::{Packed, Parts, pack, unpack};
+use fmp_search_lines::{Player, halves, joined};
 use fmp_trace_partial::read_said;
 use std::alloc::AllocError;
 
 impl<'a> Player for LinePlayer<'a> {
+    type Tables = Parts;
+
     ghost State = { Playing Queues };
 
     ghost state = { λ w. w.state };
@@ -18,12 +21,30 @@ impl<'a> Player for LinePlayer<'a> {
 
     ghost plays = { plays listed };
 
-    ghost hashed = { λ s. hashed s.machine };
+    ghost IsKey = { λ o t k s. IsPlayingKey t o k s };
 
     ghost room = { λ w. w.left };
 
     fn another(&self) -> Result<Self, AllocError> {
         self.twin()
+    }
+
+    fn tables(&self) -> Result<Parts, AllocError> {
+        Ok(Parts::new(self.config.allocator()))
+    }
+
+    fn pack(&self, tables: &mut Parts) -> Result<u64, AllocError> {
+        let packed = pack(tables, &self.kernel, self.start)?;
+        tables.validity();
+        Ok(joined(packed.machine, packed.counting))
+    }
+
+    fn unpack(&mut self, tables: &Parts, key: u64) -> Result<(), AllocError> {
+        let (machine, counting) = halves(key);
+        let packed = Packed { machine, counting };
+        unpack(tables, packed, &mut self.room, &mut self.kernel, self.start)?;
+        self.left = MOST;
+        Ok(())
     }
 
     /// The error comes where the kernel has not the memory to become as it was at boot: kernels of one configuration have it, but no clause says so.
@@ -48,15 +69,6 @@ impl<'a> Player for LinePlayer<'a> {
         }
     }
 
-    /// It takes no memory: a line that is known to be right is not read again.
-    fn again(&mut self, line: u32) {
-        let names = self.config.names();
-        names.validity();
-        if let Some(event) = self.lines.events.get(line as usize) {
-            self.step(*event);
-        }
-    }
-
     /// The error is as at `restart`.
     fn copy_from(&mut self, other: &Self) -> Result<(), AllocError> {
         if !self.kernel.copy_from(&other.kernel) {
@@ -64,13 +76,5 @@ impl<'a> Player for LinePlayer<'a> {
         }
         self.left = other.left;
         Ok(())
-    }
-
-    fn is_same(&self, other: &Self) -> bool {
-        self.kernel.is_same(&other.kernel)
-    }
-
-    fn hash(&self) -> u64 {
-        self.kernel.hash()
     }
 }

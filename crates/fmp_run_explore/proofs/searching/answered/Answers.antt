@@ -9,15 +9,9 @@ use Rattle.fmp_search_orders.specs.Places.{Place, after}
 use Rattle.fmp_search_kernel.specs.Walked.{origin_of}
 use Rattle.fmp_run_explore.proofs.searching.answered.Goals as goal
 
--- all four begin where all runs do
+-- both begin where all runs do
 pub explored-requires : goal.explored-requires
-explored-requires g c = record {
-  origins = (
-    ap origin_of (c.in_ok-walkers.ensures.second ∙ sym c.in_ok-walkers.ensures.first),
-    ap origin_of (c.in_ok-others.ensures.first ∙ sym c.in_ok-walkers.ensures.first),
-    ap origin_of (c.in_ok-others.ensures.second ∙ sym c.in_ok-walkers.ensures.first),
-  );
-}
+explored-requires g c = record { origin = ap origin_of (c.in_ok-walkers.ensures.second ∙ sym c.in_ok-walkers.ensures.first) }
 
 pub returns-clause-says : goal.returns-clause-says
 returns-clause-says g c =

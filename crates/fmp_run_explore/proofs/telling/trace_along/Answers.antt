@@ -10,12 +10,12 @@ pub loop-step-init : goal.loop-step-init
 loop-step-init c =
     let names = c.args.orders.now.config.now.names in
     let steps = c.args.steps.now in
-    let begins = c.in_ok-restart.ensures.there ∙ ap origin_of c.in_ok-walker.ensures in
+    let begins = c.in_ok-start_over.ensures.there ∙ ap origin_of c.in_ok-walker.ensures in
     let few = c.requires.few in
-    let room = c.in_ok-restart.ensures.room in
+    let room = c.in_ok-start_over.ensures.room in
     record {
       report =
-          ap (λ (text : List ℕ). text ++ lines_from names 1 (records c.restart.new.self.place steps)) c.new-out.ensures.items
+          ap (λ (text : List ℕ). text ++ lines_from names 1 (records c.start_over.new.self.place steps)) c.new-out.ensures.items
           ∙ ap (λ (w : Place). lines_from names 1 (records w steps)) begins;
       leads = subst (λ (w : Place). is_some (run after w steps) ≡ true) (sym begins) c.requires.leads;
       count = refl;

@@ -19,13 +19,13 @@ loop-choices-init c =
     let scripts = c.args.orders.now.scripts.now in
     let text = c.args.text.now in
     let nothing : c.new-nothing.result ≡ [] = c.new-nothing.ensures ∙ c.new.ensures.items in
-    let begins = c.in_ok-restart.ensures.there ∙ ap origin_of c.in_ok-walker.ensures ∙ ap (λ (q : List Step). origin config scripts c.args.orders.now.rules q) nothing in
-    let room = c.in_ok-restart.ensures.room in
+    let begins = c.in_ok-start_over.ensures.there ∙ ap origin_of c.in_ok-walker.ensures ∙ ap (λ (q : List Step). origin config scripts c.args.orders.now.rules q) nothing in
+    let room = c.in_ok-start_over.ensures.room in
     let short = c.requires.short in
     record {
       so_far =
-          subst (λ (cs : List Choice). IsSoFar config scripts c.args.orders.now.rules text c.restart.new.self.place 1 cs text) (sym c.new-choices.ensures.items)
-          (so_begun config scripts c.args.orders.now.rules c.names-names.ensures.valid text c.restart.new.self.place begins);
+          subst (λ (cs : List Choice). IsSoFar config scripts c.args.orders.now.rules text c.start_over.new.self.place 1 cs text) (sym c.new-choices.ensures.items)
+          (so_begun config scripts c.args.orders.now.rules c.names-names.ensures.valid text c.start_over.new.self.place begins);
       room = omega (arith, room, short);
       count = omega arith;
     }

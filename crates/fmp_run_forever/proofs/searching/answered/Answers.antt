@@ -10,13 +10,9 @@ use Rattle.fmp_search_orders.specs.Watched.{Watched, origin_at, watched, watched
 use Rattle.fmp_run_explore.proofs.Called.{says_calls}
 use Rattle.fmp_run_forever.proofs.searching.answered.Goals as goal
 
--- all four begin where all runs do
-pub stayed-requires-clause-origins : goal.stayed-requires-clause-origins
-stayed-requires-clause-origins g c = (
-  ap origin_at (c.in_ok-walkers.ensures.second ∙ sym c.in_ok-walkers.ensures.first),
-  ap origin_at (c.in_ok-others.ensures.first ∙ sym c.in_ok-walkers.ensures.first),
-  ap origin_at (c.in_ok-others.ensures.second ∙ sym c.in_ok-walkers.ensures.first),
-)
+-- both begin where all runs do
+pub stayed-requires-clause-origin : goal.stayed-requires-clause-origin
+stayed-requires-clause-origin g c = ap origin_at (c.in_ok-walkers.ensures.second ∙ sym c.in_ok-walkers.ensures.first)
 
 pub returns-clause-says : goal.returns-clause-says
 returns-clause-says g c =

@@ -9,13 +9,9 @@ use Rattle.fmp_run_explore.proofs.Called.{says_calls}
 use Rattle.fmp_run_forever.proofs.Known.{not_known}
 use Rattle.fmp_run_forever.proofs.searching.calls_met.Goals as goal
 
--- all four begin where all runs do
-pub meet-requires-clause-origins : goal.meet-requires-clause-origins
-meet-requires-clause-origins g c = (
-  ap origin_at (c.in_ok-walkers.ensures.second ∙ sym c.in_ok-walkers.ensures.first),
-  ap origin_at (c.in_ok-others.ensures.first ∙ sym c.in_ok-walkers.ensures.first),
-  ap origin_at (c.in_ok-others.ensures.second ∙ sym c.in_ok-walkers.ensures.first),
-)
+-- both begin where all runs do
+pub meet-requires-clause-origin : goal.meet-requires-clause-origin
+meet-requires-clause-origin g c = ap origin_at (c.in_ok-walkers.ensures.second ∙ sym c.in_ok-walkers.ensures.first)
 
 pub returns-clause-made : goal.returns-clause-made
 returns-clause-made g c =

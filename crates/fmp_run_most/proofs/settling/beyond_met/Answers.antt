@@ -8,13 +8,9 @@ use Rattle.fmp_search_pattern.specs.declared.question.Step.{Step}
 use Rattle.fmp_run_most.specs.Gauged.{Gauged, gauged, gauged_after, gauged_number, origin_at}
 use Rattle.fmp_run_most.proofs.settling.beyond_met.Goals as goal
 
--- all four begin where all runs do
-pub meet-requires-clause-origins : goal.meet-requires-clause-origins
-meet-requires-clause-origins g c = (
-  ap origin_at (c.in_ok-walkers.ensures.second ∙ sym c.in_ok-walkers.ensures.first),
-  ap origin_at (c.in_ok-others.ensures.first ∙ sym c.in_ok-walkers.ensures.first),
-  ap origin_at (c.in_ok-others.ensures.second ∙ sym c.in_ok-walkers.ensures.first),
-)
+-- both begin where all runs do
+pub meet-requires-clause-origin : goal.meet-requires-clause-origin
+meet-requires-clause-origin g c = ap origin_at (c.in_ok-walkers.ensures.second ∙ sym c.in_ok-walkers.ensures.first)
 
 pub returns-clause-meets : goal.returns-clause-meets
 returns-clause-meets g c =

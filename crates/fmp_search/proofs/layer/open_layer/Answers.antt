@@ -6,7 +6,7 @@ use Rattle.fmp_search.proofs.layer.open_layer.Goals as goal
 pub loop-at-init : goal.loop-at-init
 loop-at-init g c = record {
   opening = c.requires.opening;
-  stays = record { walker_origin = refl; base_origin = c.requires.origins.0; other_origin = c.requires.origins.1; same_room = refl; same = refl; marks = refl };
+  stays = record { walker_origin = refl; base_origin = c.requires.origin; same_room = refl; same = refl; marks = refl };
 }
 
 pub returns-then-is_over : goal.returns-then-is_over
@@ -14,7 +14,7 @@ returns-then-is_over g c =
     let W = g.W.Space in
     let inv = c.loop-at.invariant in record {
       advances = (
-        stopped_here W.place W.room W.origin W.after W.hashed c.loop-at.store.first W.passes W.tells W.wanted (W.origin c.args.walker.now) c.args.front.depth c.args.front.end c.loop-at.store.nodes.items c.loop-at.cache.items c.loop-at.chart
+        stopped_here W.after (W.IsKey (W.origin c.args.walker.now) c.loop-at.store.tables) c.loop-at.store.first W.passes W.tells W.wanted (W.origin c.args.walker.now) c.args.front.depth c.args.front.end c.loop-at.store.nodes.items c.loop-at.chart
             c.loop-at.at 0 c.loop-at-test.true inv.opening,
         c.is_over.ensures c.if-is_over.true,
       );
@@ -26,10 +26,10 @@ open_place-requires g c =
     let W = g.W.Space in
     let inv = c.loop-at.invariant in
     let same = inv.stays.walker_origin in record {
-      opening = subst (λ x. IsOpen W.place W.room W.origin W.after W.hashed c.loop-at.store.first W.passes W.tells W.wanted x c.args.front.depth c.args.front.end c.loop-at.store.nodes.items c.loop-at.cache.items c.loop-at.chart c.loop-at.at 0)
+      opening = subst (λ x. IsOpen W.after (W.IsKey x c.loop-at.store.tables) c.loop-at.store.first W.passes W.tells W.wanted x c.args.front.depth c.args.front.end c.loop-at.store.nodes.items c.loop-at.chart c.loop-at.at 0)
           (sym same) inv.opening;
       place = c.loop-at-test.true;
-      origins = (inv.stays.base_origin ∙ sym same, inv.stays.other_origin ∙ sym same);
+      origin = inv.stays.base_origin ∙ sym same;
     }
 
 pub loop-at-preserved : goal.loop-at-preserved
@@ -41,13 +41,12 @@ loop-at-preserved g c =
     let front = c.args.front in
     let from = W.origin c.loop-at.walker in
     let more = c.open_place.new.store.nodes.items in
-    let cache = c.open_place.new.cache.items in
     let chart = c.open_place.new.chart in
     let at = c.loop-at.at in
-    let done = subst (λ h. Advances W.place W.room W.origin W.after W.hashed c.open_place.new.store.first W.passes W.tells W.wanted from front.depth front.end c.loop-at.store.most false more cache chart (at + 1) 0 h) c.in-Done.is is.advances in
+    let done = subst (λ h. Advances W.after (W.IsKey from c.open_place.new.store.tables) c.open_place.new.store.first W.passes W.tells W.wanted from front.depth front.end c.loop-at.store.most false more chart (at + 1) 0 h) c.in-Done.is is.advances in
     record {
-      opening = subst (λ x. IsOpen W.place W.room W.origin W.after W.hashed c.open_place.new.store.first W.passes W.tells W.wanted x front.depth front.end more cache chart (at + 1) 0) inv.stays.walker_origin done;
-      stays = stays_on W.origin q c.loop-at.walker c.loop-at.base c.loop-at.other c.open_place.new.walker c.open_place.new.base c.open_place.new.other _ _ _ _ _ c.loop-at.chart chart inv.stays is.stays;
+      opening = subst (λ x. IsOpen W.after (W.IsKey x c.open_place.new.store.tables) c.open_place.new.store.first W.passes W.tells W.wanted x front.depth front.end more chart (at + 1) 0) inv.stays.walker_origin done;
+      stays = stays_on W.origin q c.loop-at.walker c.loop-at.base c.open_place.new.walker c.open_place.new.base _ _ _ _ _ c.loop-at.chart chart inv.stays is.stays;
     }
 
 pub returns-in_default : goal.returns-in_default
@@ -60,15 +59,14 @@ returns-in_default g c =
     let front = c.args.front in
     let from = W.origin c.loop-at.walker in
     let more = c.open_place.new.store.nodes.items in
-    let cache = c.open_place.new.cache.items in
     let chart = c.open_place.new.chart in
     let at = c.loop-at.at in
     let most = c.args.store.now.most in
-    let here = subst (λ m. Advances W.place W.room W.origin W.after W.hashed c.open_place.new.store.first W.passes W.tells W.wanted from front.depth front.end m false more cache chart (at + 1) 0 how) inv.stays.same_room is.advances in
+    let here = subst (λ m. Advances W.after (W.IsKey from c.open_place.new.store.tables) c.open_place.new.store.first W.passes W.tells W.wanted from front.depth front.end m false more chart (at + 1) 0 how) inv.stays.same_room is.advances in
     record {
-      advances = stops_on W.place W.room W.origin W.after W.hashed c.open_place.new.store.first W.passes W.tells W.wanted q front.depth front.end most _ more cache cache chart (at + 1) 0 front.end 0 how c.in_default.not-Done
-          (subst (λ x. Advances W.place W.room W.origin W.after W.hashed c.open_place.new.store.first W.passes W.tells W.wanted x front.depth front.end most false more cache chart (at + 1) 0 how) inv.stays.walker_origin here);
-      stays = stays_on W.origin q c.loop-at.walker c.loop-at.base c.loop-at.other c.open_place.new.walker c.open_place.new.base c.open_place.new.other _ _ _ _ _ c.loop-at.chart chart inv.stays is.stays;
+      advances = stops_on W.after (W.IsKey q c.open_place.new.store.tables) c.open_place.new.store.first W.passes W.tells W.wanted q front.depth front.end most _ more chart (at + 1) 0 front.end 0 how c.in_default.not-Done
+          (subst (λ x. Advances W.after (W.IsKey x c.open_place.new.store.tables) c.open_place.new.store.first W.passes W.tells W.wanted x front.depth front.end most false more chart (at + 1) 0 how) inv.stays.walker_origin here);
+      stays = stays_on W.origin q c.loop-at.walker c.loop-at.base c.open_place.new.walker c.open_place.new.base _ _ _ _ _ c.loop-at.chart chart inv.stays is.stays;
     }
 
 pub returns : goal.returns
@@ -78,7 +76,7 @@ returns g c =
     let past = c.loop-at-test.false in
     let within = c.loop-at.auto.at-end c.requires.place in
     let last : c.loop-at.at ≡ c.args.front.end = omega (arith, past, within) in record {
-      advances = subst (λ k. IsOpen W.place W.room W.origin W.after W.hashed c.loop-at.store.first W.passes W.tells W.wanted (W.origin c.args.walker.now) c.args.front.depth c.args.front.end c.loop-at.store.nodes.items c.loop-at.cache.items
+      advances = subst (λ k. IsOpen W.after (W.IsKey (W.origin c.args.walker.now) c.loop-at.store.tables) c.loop-at.store.first W.passes W.tells W.wanted (W.origin c.args.walker.now) c.args.front.depth c.args.front.end c.loop-at.store.nodes.items
           c.loop-at.chart k 0) last inv.opening;
       stays = inv.stays;
     }

@@ -9,8 +9,8 @@ invariant-loop-step g l =
     let W = g.W.Space in
     let q = W.origin l.fn.walker in
     let nodes = l.store.nodes.items in record {
-      opening : IsOpen W.place W.room W.origin W.after W.hashed l.store.first W.passes W.tells W.wanted q l.fn.front.depth l.fn.front.end nodes l.cache.items l.chart l.fn.at l.step;
-      stays : Stays W.origin q l.walker l.base l.other l.fn.store.most l.store.most l.fn.chart.kept (length l.fn.chart.marks.items) l.chart;
+      opening : IsOpen W.after (W.IsKey q l.store.tables) l.store.first W.passes W.tells W.wanted q l.fn.front.depth l.fn.front.end nodes l.chart l.fn.at l.step;
+      stays : Stays W.origin q l.walker l.base l.fn.store.most l.store.most l.fn.chart.kept (length l.fn.chart.marks.items) l.chart;
       extends : Extends W.after q l.fn.store.nodes.items nodes;
       closed : AreClosed W.after (W.place l.base) l.closed;
     }

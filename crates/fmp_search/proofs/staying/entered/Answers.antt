@@ -1,13 +1,12 @@
 use Rattle.std.proofs.Common.{◌≡◌, ◌⊎◌, inl, inr, ◌<◌, ◌+◌, ◌≤◌, ℕ, true, false, List, Option, Some, ◌∙◌, sym, subst, arith}
 use Rattle.std.specs.Prelude.{slice_get}
 use Rattle.std.proofs.Math.Nat.{eq-or-lt_of_le}
-use Rattle.std.proofs.lemmas.Option.{slice_get_within}
+use Rattle.std.proofs.lemmas.Option.{same_Some, slice_get_within}
 use Rattle.fmp_search.specs.declared.edges.Edge.{Edge}
 use Rattle.fmp_search.specs.declared.staying.Run.{Run}
 use Rattle.fmp_search.specs.Trees.{found_at}
 use Rattle.fmp_search.specs.Forever.{is_bit, mark_at}
 use Rattle.fmp_search.specs.Stays.{HasWithin, IsRight}
-use Rattle.fmp_search.proofs.Passing.{some_same}
 use Rattle.fmp_search.proofs.staying.entered.Goals as goal
 
 -- what is so of the edges below a number, and of the one of that number
@@ -15,7 +14,7 @@ next_too :
     (edges : List Edge) (n : ℕ) (one : Edge) (Fact : Edge → Type 0) → slice_get edges n ≡ Some one → ((k : ℕ) (e : Edge) → k < n → slice_get edges k ≡ Some e → Fact e) → Fact one →
     (k : ℕ) (e : Edge) → (k ≡ n) ⊎ (k < n) → slice_get edges k ≡ Some e → Fact e
 next_too edges n one Fact is_one earlier last k e (inl is) get =
-    subst (λ (x : Edge). Fact x) (some_same one e (sym is_one ∙ subst (λ m. slice_get edges m ≡ Some e) is get)) last
+    subst (λ (x : Edge). Fact x) (same_Some one e (sym is_one ∙ subst (λ m. slice_get edges m ≡ Some e) is get)) last
 next_too edges n one Fact is_one earlier last k e (inr low) get = earlier k e low get
 
 one_of : {P : Type 0} (after : P → ℕ → Option P) (passes : P → ℕ → ℕ) (q : P) (turns tests : ℕ) (a b o : Option Run) → (o ≡ a) ⊎ (o ≡ b) → IsRight after passes q turns tests a → IsRight after passes q turns tests b →

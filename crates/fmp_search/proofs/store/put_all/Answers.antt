@@ -1,7 +1,7 @@
 use Rattle.std.proofs.Common.{◌∙◌, ◌<◌, ◌+◌, ℕ, List, length, take, get_or, ap, subst, refl, arith}
 use Rattle.std.proofs.lemmas.List.{length-set, length-take, take_all, take_more}
 use Rattle.fmp_search.specs.declared.nodes.Node.{Node}
-use Rattle.fmp_search.specs.Tables.{free_in, Holds, IsPut}
+use Rattle.fmp_search.specs.Tables.{free_in, mixed, Holds, IsPut}
 use Rattle.fmp_search.proofs.Tables.{holds_more, holds_none}
 use Rattle.fmp_search.proofs.store.put_all.Goals as goal
 
@@ -12,7 +12,7 @@ some_free table nodes at lt room holds =
     let long = length-take at nodes in
     omega (arith, free, long, lt, room)
 
-next : (old new : List ℕ) (nodes : List Node) (at : ℕ) (d : Node) → at < length nodes → Holds old (take at nodes) → IsPut old new (get_or nodes at d).hash (at + 1) →
+next : (old new : List ℕ) (nodes : List Node) (at : ℕ) (d : Node) → at < length nodes → Holds old (take at nodes) → IsPut old new (mixed (get_or nodes at d).key) (at + 1) →
     Holds new (take (at + 1) nodes)
 next old new nodes at d lt holds put =
     let long = length-take at nodes in
@@ -28,7 +28,7 @@ loop-at-preserved c =
     let at = c.loop-at-test.true in
     let room = c.requires.room in
     let long = inv.long in
-    let put = c.put.ensures (some_free c.loop-at.table.items nodes c.loop-at.at at (omega (arith, room, long)) inv.holds) in
+    let put = subst (λ h. IsPut c.loop-at.table.items c.put.new.table.items h (c.loop-at.at + 1)) c.mixed.ensures (c.put.ensures (some_free c.loop-at.table.items nodes c.loop-at.at at (omega (arith, room, long)) inv.holds)) in
     record {
       holds = next c.loop-at.table.items c.put.new.table.items nodes c.loop-at.at _ at inv.holds put;
       long = ap (λ (xs : List ℕ). length xs) put.is ∙ length-set c.loop-at.table.items _ _ ∙ inv.long;

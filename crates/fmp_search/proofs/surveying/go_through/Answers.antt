@@ -3,7 +3,6 @@ use Rattle.std.proofs.lemmas.List.{length-replicate}
 use Rattle.fmp_search.specs.declared.nodes.Node.{Node}
 use Rattle.fmp_search.specs.declared.surveying.Survey.{Survey}
 use Rattle.fmp_search.specs.Answers.{Explored, IsShortest}
-use Rattle.fmp_search.specs.Cache.{IsCache}
 use Rattle.fmp_search.specs.Fronts.{Advances, IsOpen}
 use Rattle.fmp_search.specs.Growth.{AreFound}
 use Rattle.fmp_search.specs.Meeting.{AreNoted}
@@ -11,16 +10,11 @@ use Rattle.fmp_search.specs.Surveys.{IsThrough, Surveys}
 use Rattle.fmp_search.proofs.Charted.{charting_none}
 use Rattle.fmp_search.proofs.Fronts.{none_tried, stays_on}
 use Rattle.fmp_search.proofs.Growth.{found_here}
-use Rattle.fmp_search.proofs.Hashes.{hashed_first}
+use Rattle.fmp_search.proofs.Keys.{keyed_first}
 use Rattle.fmp_search.proofs.Passed.{passed}
-use Rattle.fmp_search.proofs.Trees.{stands_first}
 use Rattle.fmp_search.proofs.Layers.{explored-root, none-within}
 use Rattle.fmp_search.proofs.Surveyed.{found_none, open_layer, passed_none, short_none, short_passed, short_within, shortest_here, stopped_by, through_all, through_by, through_last}
 use Rattle.fmp_search.proofs.surveying.go_through.Goals as goal
-
-pub first_cached-requires : goal.first_cached-requires
-first_cached-requires g c =
-    stands_first g.W.Space.after _ c.deref.result.now 0 _ _ refl (c.in_ok-restart.ensures.there ∙ sym c.restart.ensures.origin) c.in_ok-restart.ensures.room
 
 pub returns-then-is_wanted : goal.returns-then-is_wanted
 returns-then-is_wanted g c =
@@ -29,7 +23,8 @@ returns-then-is_wanted g c =
     let nodes = c.in_ok-store.store.nodes.items in
     let blank = c.in_ok-chart.ensures in
     let chart = charting_none W.after W.passes W.tells q nodes c.args.kept c.in_ok-chart.chart c.args.count blank in
-    let there = c.in_ok-restart.ensures.there ∙ c.requires.origins.2 in
+    let there = c.in_ok-restart.ensures.there in
+    let same = c.restart.ensures.origin in
     let is : W.wanted q ≡ true = subst (λ x. W.wanted x ≡ true) there (sym c.if-is_wanted.ensures) in
     let none = c.new-then-is_wanted.ensures.items in
     record {
@@ -51,7 +46,7 @@ returns-then-is_wanted g c =
         same = blank.same;
         marks = ap (λ (bs : List Bool). length bs) blank.marks ∙ length-replicate c.args.count false;
       });
-      origin = refl {a = q};
+      origin = same;
     }
 
 pub loop-depth-init : goal.loop-depth-init
@@ -60,23 +55,25 @@ loop-depth-init g c =
     let q = W.origin c.args.walker.now in
     let nodes = c.in_ok-store.store.nodes.items in
     let blank = c.in_ok-chart.ensures in
-    let there = c.in_ok-restart.ensures.there ∙ c.requires.origins.2 in
-    let clean : W.wanted q ≡ false = subst (λ x. W.wanted x ≡ false) there (sym c.if-is_wanted.ensures) in record {
+    let there = c.in_ok-restart.ensures.there in
+    let same = c.restart.ensures.origin in
+    let clean : W.wanted q ≡ false = subst (λ x. W.wanted x ≡ false) there (sym c.if-is_wanted.ensures) in
+    let tables = c.pack.new.tables in
+    let key : W.IsKey q tables c.in_ok-first.first q = subst (λ p. W.IsKey q tables c.in_ok-first.first p) there (subst (λ x. W.IsKey x tables c.in_ok-first.first (W.place c.restart.new.self)) same c.in_ok-first.ensures.key.there) in
+    let first : W.IsKey q c.in_ok-store.store.tables c.in_ok-store.store.first q =
+    subst (λ t. W.IsKey q t c.in_ok-store.store.first q) (sym c.in_ok-store.ensures.3) (subst (λ k. W.IsKey q tables k q) (sym c.in_ok-store.ensures.2) key) in record {
       opening = record {
         front = record {
           explored = subst (λ (ns : List Node). Explored W.after W.wanted q ns 0 (length ns + 1) 0) (sym {A = List Node} c.in_ok-store.ensures.0) (explored-root W.after W.wanted q clean);
           tried = none_tried W.after q nodes 0;
-          all = subst (λ (ns : List Node). IsCache W.place W.room W.origin W.after q ns c.in_ok-cache.cache.items) c.deref.ensures.value
-              (subst (λ x. IsCache W.place W.room W.origin W.after x c.deref.result.now c.in_ok-cache.cache.items) (c.restart.ensures.origin ∙ c.requires.origins.2) c.in_ok-cache.ensures);
-          hashes = hashed_first W.after W.hashed q c.in_ok-store.store.first nodes c.in_ok-store.ensures.0 (c.in_ok-store.ensures.2 ∙ c.hash.ensures ∙ ap W.hashed there);
+          keys = keyed_first W.after q (W.IsKey q c.in_ok-store.store.tables) c.in_ok-store.store.first nodes c.in_ok-store.ensures.0 first;
         };
         charting = charting_none W.after W.passes W.tells q nodes c.args.kept c.in_ok-chart.chart c.args.count blank;
       };
       few = omega arith;
       stays = record {
-        walker_origin = refl;
-        base_origin = c.requires.origins.0;
-        other_origin = c.requires.origins.1;
+        walker_origin = same;
+        base_origin = c.requires.origin;
         same_room = c.in_ok-store.ensures.1;
         same = blank.same;
         marks = ap (λ (bs : List Bool). length bs) blank.marks ∙ length-replicate c.args.count false;
@@ -123,11 +120,11 @@ open_layer-requires g c =
     let few = inv.few in
     let count = c.count-end.ensures in
     record {
-      opening = subst (λ k. IsOpen W.place W.room W.origin W.after W.hashed c.loop-depth.store.first W.passes W.tells W.wanted (W.origin c.loop-depth.walker) c.loop-depth.depth k nodes c.loop-depth.cache.items c.loop-depth.chart c.loop-depth.begin 0)
+      opening = subst (λ k. IsOpen W.after (W.IsKey (W.origin c.loop-depth.walker) c.loop-depth.store.tables) c.loop-depth.store.first W.passes W.tells W.wanted (W.origin c.loop-depth.walker) c.loop-depth.depth k nodes c.loop-depth.chart c.loop-depth.begin 0)
           (sym count)
-          (subst (λ x. IsOpen W.place W.room W.origin W.after W.hashed c.loop-depth.store.first W.passes W.tells W.wanted x c.loop-depth.depth (length nodes + 1) nodes c.loop-depth.cache.items c.loop-depth.chart c.loop-depth.begin 0) (sym same) inv.opening);
+          (subst (λ x. IsOpen W.after (W.IsKey x c.loop-depth.store.tables) c.loop-depth.store.first W.passes W.tells W.wanted x c.loop-depth.depth (length nodes + 1) nodes c.loop-depth.chart c.loop-depth.begin 0) (sym same) inv.opening);
       place = omega (arith, few, count);
-      origins = (inv.stays.base_origin ∙ sym same, inv.stays.other_origin ∙ sym same);
+      origin = inv.stays.base_origin ∙ sym same;
     }
 
 pub loop-depth-preserved : goal.loop-depth-preserved
@@ -138,17 +135,16 @@ loop-depth-preserved g c =
     let depth = c.loop-depth.depth in
     let end = c.count-end.result in
     let nodes = c.open_layer.new.store.nodes.items in
-    let cache = c.open_layer.new.cache.items in
     let chart = c.open_layer.new.chart in
     let is = c.in_ok-how.ensures in
     let from = W.origin c.loop-depth.walker in
-    let done = subst (λ h. Advances W.place W.room W.origin W.after W.hashed c.open_layer.new.store.first W.passes W.tells W.wanted from depth end c.loop-depth.store.most (g.P.Progress.over c.open_layer.new.progress) nodes cache chart end 0 h)
+    let done = subst (λ h. Advances W.after (W.IsKey from c.open_layer.new.store.tables) c.open_layer.new.store.first W.passes W.tells W.wanted from depth end c.loop-depth.store.most (g.P.Progress.over c.open_layer.new.progress) nodes chart end 0 h)
     c.in-Done.is is.advances in
-    let opened_all = subst (λ x. IsOpen W.place W.room W.origin W.after W.hashed c.open_layer.new.store.first W.passes W.tells W.wanted x depth end nodes cache chart end 0) inv.stays.walker_origin done in
+    let opened_all = subst (λ x. IsOpen W.after (W.IsKey x c.open_layer.new.store.tables) c.open_layer.new.store.first W.passes W.tells W.wanted x depth end nodes chart end 0) inv.stays.walker_origin done in
     let before = c.loop-depth-test.true in record {
-      opening = open_layer W.place W.room W.origin W.after W.hashed c.open_layer.new.store.first W.passes W.tells W.wanted q depth end c.loop-depth.store.most true nodes cache chart end 0 refl opened_all;
+      opening = open_layer W.after (W.IsKey q c.open_layer.new.store.tables) c.open_layer.new.store.first W.passes W.tells W.wanted q depth end c.loop-depth.store.most true nodes chart end 0 refl opened_all;
       few = opened_all.front.explored.few;
-      stays = stays_on W.origin q c.loop-depth.walker c.loop-depth.base c.loop-depth.other c.open_layer.new.walker c.open_layer.new.base c.open_layer.new.other _ _ _ _ _ c.loop-depth.chart chart
+      stays = stays_on W.origin q c.loop-depth.walker c.loop-depth.base c.open_layer.new.walker c.open_layer.new.base _ _ _ _ _ c.loop-depth.chart chart
           inv.stays is.stays;
       within = omega (arith, before);
       passed = passed W.after W.wanted q nodes depth end opened_all.front.explored;
@@ -161,7 +157,6 @@ returns-in_default g c =
     let inv = c.loop-depth.invariant in
     let old = c.loop-depth.store.nodes.items in
     let nodes = c.open_layer.new.store.nodes.items in
-    let cache = c.open_layer.new.cache.items in
     let chart = c.open_layer.new.chart in
     let depth = c.loop-depth.depth in
     let end = c.count-end.result in
@@ -170,15 +165,15 @@ returns-in_default g c =
     let how = c.in_ok-how.how in
     let not = c.in_default.not-Done in
     let is = c.in_ok-how.ensures in
-    let stays = stays_on W.origin q c.loop-depth.walker c.loop-depth.base c.loop-depth.other c.open_layer.new.walker c.open_layer.new.base c.open_layer.new.other _ _ _ _ _ c.loop-depth.chart chart
+    let stays = stays_on W.origin q c.loop-depth.walker c.loop-depth.base c.open_layer.new.walker c.open_layer.new.base _ _ _ _ _ c.loop-depth.chart chart
     inv.stays is.stays in
-    let x = subst (λ x. Advances W.place W.room W.origin W.after W.hashed c.open_layer.new.store.first W.passes W.tells W.wanted x depth end most over nodes cache chart end 0 how) inv.stays.walker_origin is.advances in
-    let stopped = stopped_by W.place W.room W.origin W.after W.hashed c.open_layer.new.store.first W.passes W.tells W.wanted q depth end most over nodes cache chart end 0 how not x in
+    let x = subst (λ x. Advances W.after (W.IsKey x c.open_layer.new.store.tables) c.open_layer.new.store.first W.passes W.tells W.wanted x depth end most over nodes chart end 0 how) inv.stays.walker_origin is.advances in
+    let stopped = stopped_by W.after (W.IsKey q c.open_layer.new.store.tables) c.open_layer.new.store.first W.passes W.tells W.wanted q depth end most over nodes chart end 0 how not x in
     record {
       surveys = subst (λ (s : Survey). Surveys W.after W.passes W.tells W.wanted q c.args.turns c.args.most over c.args.kept c.args.count s) (sym c.of-in_default.ensures) (record {
         surveyed = record { found = stopped.0.found; charted = stopped.0.charted; noted = λ is. absurd (not is); left = λ it. stopped.0.left; small = c.open_layer.new.store.small };
         short = λ is. let lt = c.loop-depth-test.true in short_within W.after q nodes chart.edges (depth + 1) c.args.turns (omega (arith, lt)) (stopped.0.short is);
-        through = through_by W.place W.room W.origin W.after W.hashed c.open_layer.new.store.first W.passes W.tells W.wanted q depth end most over nodes cache chart end 0 how c.args.turns c.args.most _ not c.loop-depth-test.true
+        through = through_by W.after (W.IsKey q c.open_layer.new.store.tables) c.open_layer.new.store.first W.passes W.tells W.wanted q depth end most over nodes chart end 0 how c.args.turns c.args.most _ not c.loop-depth-test.true
             (none-within W.after W.wanted q old depth (length old + 1) c.loop-depth.begin inv.opening.front.explored) inv.stays.same_room x;
         ended = stopped.1;
         same = stays.same;

@@ -18,12 +18,12 @@ loop-event-init c =
     let asked : c.new-question.result ≡ [] = c.new-question.ensures ∙ c.new.ensures.items in
     let begun : c.in_ok-walker.walker.place ≡ origin config scripts by [] =
     c.in_ok-walker.ensures ∙ ap (λ (r : Rules). origin config scripts r c.new-question.result) c.rules.ensures ∙ ap (λ (q : List Step). origin config scripts by q) asked in
-    let there : c.restart.new.self.place ≡ origin config scripts by [] = c.in_ok-restart.ensures.there ∙ ap origin_of begun in
-    let room = c.in_ok-restart.ensures.room in
+    let there : c.start_over.new.self.place ≡ origin config scripts by [] = c.in_ok-start_over.ensures.there ∙ ap origin_of begun in
+    let room = c.in_ok-start_over.ensures.room in
     let few = c.args.limits.turns.few in
     record {
       so_far =
-          so_begun c.args.drawing c.args.seed config scripts c.args.limits.ticks.count c.args.limits.turns.count valid c.new-events.result.items c.new-draws.result c.restart.new.self.place
+          so_begun c.args.drawing c.args.seed config scripts c.args.limits.ticks.count c.args.limits.turns.count valid c.new-events.result.items c.new-draws.result c.start_over.new.self.place
           c.new-events.ensures.items c.new-draws.ensures there;
       room = omega (arith, room, few);
     }

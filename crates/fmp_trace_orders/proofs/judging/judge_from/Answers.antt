@@ -2,16 +2,12 @@ use Rattle.std.proofs.Common.{length, subst}
 use Rattle.std.proofs.lemmas.Result.{IfOk-weaker}
 use Rattle.fmp_names.specs.Names.{AreValid}
 use Rattle.fmp_search_lines.specs.Lasts.{last_at, must_at}
-use Rattle.fmp_trace_orders.proofs.Numbers.{few_starts, few_lasts, events_kept, filled, judged}
+use Rattle.fmp_trace_orders.proofs.Numbers.{few_starts, few_lasts, filled, judged}
 use Rattle.fmp_trace_orders.proofs.judging.judge_from.Goals as goal
 
 pub new-requires-clause-few : goal.new-requires-clause-few
 new-requires-clause-few c =
     few_starts c.args.config.now.names c.args.text.now c.args.lines.now (subst AreValid c.names.ensures.value c.validity.ensures) c.requires.lines
-
-pub new-requires-clause-events : goal.new-requires-clause-events
-new-requires-clause-events c =
-    events_kept c.args.config.now.names c.args.text.now c.args.lines.now (subst AreValid c.names.ensures.value c.validity.ensures) c.requires.lines
 
 pub search_orders-requires : goal.search_orders-requires
 search_orders-requires c =
