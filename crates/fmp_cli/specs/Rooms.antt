@@ -1,22 +1,22 @@
 -- For how many places a search has room.
-use Rattle.std.specs.Prelude.{ℕ, ◌/◌, ◌||◌, is_some, min, max, Bool, true, false, Option, None, Some}
+use Rattle.std.specs.Prelude.{ℕ, ◌/◌, ◌&&◌, ◌||◌, not, is_some, min, max, Bool, true, false, Option, None, Some}
 use Rattle.fmp_search_question.specs.Lasting.{is_lasting}
 use Rattle.fmp_cli.specs.declared.rooms.Memory.{Memory}
 use Rattle.fmp_cli.specs.declared.rooms.Memory.TheVariants as memory
 use Rattle.fmp_cli.specs.declared.explore.ExploreRequest.{ExploreRequest}
 
--- a place takes no more bytes than these; where all steps are kept, too, four times as many are reckoned
+-- how many bytes are reckoned for a place, where all steps are kept, too, or are not
 abbrev pub bytes_of_place : Bool → ℕ
-bytes_of_place false = 48
-bytes_of_place true = 192
+bytes_of_place false = 96
+bytes_of_place true = 240
 
 -- so many bytes hold as many places as they have room for: always the one where all runs begin, and no more than there may be
 abbrev pub places_within : Bool → ℕ → ℕ
 places_within steps bytes = max 1 (min (bytes / bytes_of_place steps) 100000000)
 
--- all steps are kept where it is asked what stays for ever, and one of many questions may ask that
+-- all steps are kept where it is asked what stays for ever, and one of many questions may ask that; how far everything goes is told without
 abbrev pub keeps_steps : ExploreRequest → Bool
-keeps_steps r = is_some r.questions || is_lasting r.question.now
+keeps_steps r = not r.most && (is_some r.questions || is_lasting r.question.now)
 
 -- the memory of a search, where so many bytes are free and nothing else is said
 abbrev pub with_free : Memory → Option ℕ → Memory

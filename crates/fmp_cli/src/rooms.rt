@@ -6,11 +6,11 @@ use crate::explore::ExploreRequest;
 use fmp_ranges::{Bounds, Places};
 use fmp_search_question::is_lasting;
 
-// How many bytes a place takes at most, while the table of places grows too.
-const BYTES_OF_PLACE: u64 = 48;
+// How many bytes are reckoned for a place: 48 for itself, which it takes at most, while the table of places grows too, and as many for its parts.
+const BYTES_OF_PLACE: u64 = 96;
 
 // How many are reckoned for a place where all steps are kept, too, which take 12 each.
-const BYTES_WITH_STEPS: u64 = 192;
+const BYTES_WITH_STEPS: u64 = 240;
 
 // For how many places there may be room.
 const MOST_PLACES: u64 = 100_000_000;
@@ -92,11 +92,11 @@ fn room_in(request: &ExploreRequest<'_>, memory: Memory) -> Places
 }
 
 impl<'a> ExploreRequest<'a> {
-    /// Whether the search keeps all steps, since it is asked what stays for ever, or one of many questions may ask that.
+    /// Whether the search keeps all steps, since it is asked what stays for ever, or one of many questions may ask that. How far everything goes is told without.
     pub fn keeps_steps(&self) -> bool
         ensures { result ≡ spec.keeps_steps self.now }
     {
-        self.questions.is_some() || is_lasting(self.question.as_bytes())
+        !self.most && (self.questions.is_some() || is_lasting(self.question.as_bytes()))
     }
 
     /// The same request, with its room for places: what the memory holds that it gives, or else half of so many free bytes, where that is
