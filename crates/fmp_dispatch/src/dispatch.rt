@@ -8,7 +8,7 @@ use crate::due::{Due, nothing_due};
 use arrayvec::ArrayVec;
 use fmp_codes::{Proc, Runner};
 use fmp_interned::{Value, part_hash};
-use fmp_kernel_parts::{Digest, Part, add_all, are_same, copy_all};
+use fmp_kernel_parts::{Digest, Part, ToDigest, add_all, are_same, copy_all};
 use fmp_kernel_same::{add_each, are_equal};
 use fmp_rules::Processor;
 use std::alloc::AllocError;
@@ -151,8 +151,6 @@ impl Dispatch {
 impl Part for Dispatch {
     ghost fits = { λ a b. length a.processors ≡ length b.processors };
 
-    ghost digested = { λ d sum. added_dispatching d sum };
-
     fn is_same(&self, other: &Self) -> bool {
         are_equal(self.processors.as_slice(), other.processors.as_slice())
             && are_same(self.due.as_slice(), other.due.as_slice())
@@ -165,6 +163,10 @@ impl Part for Dispatch {
             .unwrap();
         copy_all(self.due.as_mut_slice(), other.due.as_slice());
     }
+}
+
+impl ToDigest for Dispatch {
+    ghost digested = { λ d sum. added_dispatching d sum };
 
     fn add_to(&self, digest: &mut Digest) {
         add_each(self.processors.as_slice(), digest);

@@ -5,7 +5,7 @@ ghost use Rattle.fmp_rules.specs.World.{first, rest};
 
 use arrayvec::ArrayVec;
 use fmp_codes::Runner;
-use fmp_kernel_parts::{Digest, Part};
+use fmp_kernel_parts::{Digest, Part, ToDigest};
 use fmp_kernel_same::{add_each, are_equal};
 use std::marker::Model;
 
@@ -89,8 +89,6 @@ impl Default for Due {
 impl Part for Due {
     ghost fits = { λ a b. Unit {0} };
 
-    ghost digested = { λ due sum. added_due due sum };
-
     /// Whether the same handlers are due, wherever in the ring they stand.
     fn is_same(&self, other: &Self) -> bool {
         if self.len == 0 && other.len == 0 {
@@ -107,6 +105,10 @@ impl Part for Due {
             self.oldest = other.oldest;
         }
     }
+}
+
+impl ToDigest for Due {
+    ghost digested = { λ due sum. added_due due sum };
 
     fn add_to(&self, digest: &mut Digest) {
         if self.len == 0 {

@@ -21,7 +21,7 @@ use arrayvec::ArrayVec;
 use circular_buffer::HeapCircularBuffer;
 use fmp_codes::{Pri, Task};
 use fmp_interned::{Value, part_hash};
-use fmp_kernel_parts::{Digest, Part};
+use fmp_kernel_parts::{Digest, Part, ToDigest};
 use fmp_kernel_same::Same;
 use fmp_rules::{DataQueueSetup, Order};
 use fmp_waitq::WaitQueue;
@@ -223,8 +223,6 @@ fn copy_values(values: &mut HeapCircularBuffer<i64>, others: &HeapCircularBuffer
 impl Part for Dtq {
     ghost fits = { λ a b. b.setup.capacity ≤ a.setup.capacity };
 
-    ghost digested = { λ q sum. added_queue q sum };
-
     fn is_same(&self, other: &Self) -> bool {
         are_same_values(&self.values, &other.values)
             && self.senders.is_same(&other.senders)
@@ -238,6 +236,10 @@ impl Part for Dtq {
         self.senders.copy_from(&other.senders);
         self.receivers.copy_from(&other.receivers);
     }
+}
+
+impl ToDigest for Dtq {
+    ghost digested = { λ q sum. added_queue q sum };
 
     fn add_to(&self, digest: &mut Digest) {
         let (front, back) = self.values.as_slices();

@@ -20,7 +20,7 @@ mod wanted;
 use arrayvec::ArrayVec;
 use fmp_codes::{Pri, Task};
 use fmp_interned::{Value, part_hash};
-use fmp_kernel_parts::{Digest, Part};
+use fmp_kernel_parts::{Digest, Part, ToDigest};
 use fmp_kernel_same::Same;
 use fmp_rules::{Eventflag, EventflagSetup};
 use fmp_waitq::WaitQueue;
@@ -112,8 +112,6 @@ impl Flag {
 impl Part for Flag {
     ghost fits = { λ a b. Unit {0} };
 
-    ghost digested = { λ s sum. added_eventflag s sum };
-
     fn is_same(&self, other: &Self) -> bool {
         self.pattern == other.pattern
             && self.queue.is_same(&other.queue)
@@ -125,6 +123,10 @@ impl Part for Flag {
         self.pattern = other.pattern;
         self.queue.copy_from(&other.queue);
     }
+}
+
+impl ToDigest for Flag {
+    ghost digested = { λ s sum. added_eventflag s sum };
 
     fn add_to(&self, digest: &mut Digest) {
         digest.add(u64::from(self.pattern));

@@ -3,7 +3,7 @@ ghost use Rattle.std.specs.Prelude.{◌≡◌};
 ghost use Rattle.fmp_interned.specs.Hashes.{hash_of, mixed};
 ghost use Rattle.fmp_kernel_parts.specs.Digests.{seed, told};
 
-use fmp_kernel_parts::{Digest, Part};
+use fmp_kernel_parts::{Digest, ToDigest};
 
 /// Mixes one number more into a hash. The product's high bits, which depend on all bits of the number, are folded onto the low ones, by which a table is
 /// entered.
@@ -28,7 +28,7 @@ pub(crate) fn hash_of(words: &[u32]) -> u64
 }
 
 /// A number made of what a part adds to a digest. Parts that differ may have the same.
-pub fn part_hash<P: Part>(part: &P) -> u64
+pub fn part_hash<P: ToDigest>(part: &P) -> u64
     ensures { result ≡ told (P.digested part.now seed) }
 {
     let mut digest = Digest::new();

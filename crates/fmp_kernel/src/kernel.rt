@@ -12,12 +12,11 @@ ghost use Rattle.fmp_kernel_order.specs.Queues.{listed, no_queues};
 ghost use Rattle.fmp_law_lists.specs.Stands.{Stands};
 ghost use Rattle.fmp_law_lists.specs.Laws.{ListsAreRight};
 ghost use Rattle.fmp_kernel_machine.specs.Alike.{AreAlike};
-ghost use Rattle.fmp_kernel.specs.Hashed.{hashed};
 ghost use Rattle.fmp_kernel.specs.Kept.{IsKept};
 
 use fmp_codes::{Answer, Event, Record};
 use fmp_kernel_machine::KernelMachine;
-use fmp_kernel_parts::{Digest, Part};
+use fmp_kernel_parts::Part;
 use fmp_rules::Config;
 use fmp_step::{boot, step_recorded};
 use std::alloc::AllocError;
@@ -164,16 +163,5 @@ impl Kernel {
         }
         self.machine.copy_from(&other.machine);
         true
-    }
-
-    /// A number that is the same for kernels that are the same. Others may have the same number too, so no answer may depend
-    /// on it.
-    #[tactic(auto, unfolding(crate::specs::Hashed::hashed))]
-    pub fn hash(&self) -> u64
-        ensures { result ≡ hashed self.now }
-    {
-        let mut digest = Digest::new();
-        self.machine.add_to(&mut digest);
-        digest.value()
     }
 }

@@ -2,16 +2,11 @@
 use Rattle.std.specs.Prelude.{◌≡◌, ℕ, ◌-◌, nat_lt, Option, None, Some, length, slice_index_or, option_map, if◌then◌else◌}
 use Rattle.fmp_codes.specs.declared.numbers.Proc.{Proc}
 use Rattle.fmp_rules.specs.World.{no_task}
-use Rattle.fmp_kernel_parts.specs.Digests.{added, added_all}
 use Rattle.fmp_kernel_parts.specs.Tasks.{task_at, has_task}
 use Rattle.fmp_time.specs.Left.{Left}
 use Rattle.fmp_time.specs.Shown.{table}
 use Rattle.fmp_time.specs.Times.{Times, no_times}
 use Rattle.fmp_time.specs.Words.{made_from, words_of}
-use Rattle.fmp_time.specs.Mixed.{added_times}
-use Rattle.fmp_kernel_same.specs.Digests.{added_record}
-use Rattle.fmp_rules.specs.declared.machine.Cyclic.{Cyclic}
-use Rattle.fmp_rules.specs.declared.machine.Alarm.{Alarm}
 use Rattle.fmp_kernel_assigned.specs.Assignments.{Assignments, assignments_of, blank_cyclic, blank_alarm}
 use Rattle.fmp_kernel_assigned.specs.Counting.{AreInStep}
 
@@ -35,16 +30,6 @@ left_at a k =
 
 unfoldable pub times_in : Assignments → Times
 times_in a = record { left = table (left_at a); waits = a.timed }
-
-abbrev pub added_cyclic : Cyclic → ℕ → ℕ
-added_cyclic c sum = added sum c.assigned.number
-
-abbrev pub added_alarm : Alarm → ℕ → ℕ
-added_alarm a sum = added sum a.assigned.number
-
--- what a digest is after what is assigned was added
-unfoldable pub added_assignments : Assignments → ℕ → ℕ
-added_assignments a sum = added_times (times_in a) (added_all added_alarm a.alarms (added_all added_cyclic a.cyclics (added_all added_record a.tasks sum)))
 
 -- nothing but this is kept, and the numbers that tell the timers tell them again
 pub record IsTold (a : Assignments) : Type 0 where

@@ -12,7 +12,7 @@ ghost use Rattle.fmp_time.specs.Times.{no_times};
 ghost use Rattle.fmp_time.specs.Words.{made_from, words_of};
 ghost use Rattle.fmp_kernel_assigned.specs.Assignments.{assignments_of, cyclic_in, alarm_in, IsNextDue};
 ghost use Rattle.fmp_kernel_assigned.specs.Counting.{AreInStep};
-ghost use Rattle.fmp_kernel_assigned.specs.Telling.{added_assignments, times_in, IsTold};
+ghost use Rattle.fmp_kernel_assigned.specs.Telling.{times_in, IsTold};
 ghost use Rattle.fmp_kernel_assigned.specs.Starting.{first_cyclic, first_alarm};
 
 use crate::counting::{count_down, follow, least, set_left, shown};
@@ -23,8 +23,8 @@ use crate::handlers::{
 use arrayvec::ArrayVec;
 use fmp_codes::{Object, Proc, Task};
 use fmp_interned::Words;
-use fmp_kernel_parts::{Digest, Part};
-use fmp_kernel_same::{Same, add_each, are_equal};
+use fmp_kernel_parts::Part;
+use fmp_kernel_same::{Same, are_equal};
 use fmp_rules::{Alarm, Config, Cyclic, TaskRecord, Timer};
 use fmp_task::Tasks;
 use fmp_time::{Item, Timers};
@@ -384,8 +384,6 @@ impl Assigned {
 impl Part for Assigned {
     ghost fits = { λ a b. Unit {0} };
 
-    ghost digested = { λ a sum. added_assignments a sum };
-
     fn is_same(&self, other: &Self) -> bool {
         self.timers.know_waits();
         other.timers.know_waits();
@@ -402,13 +400,5 @@ impl Part for Assigned {
         copy_cyclics(&mut self.cyclics, &other.cyclics);
         copy_alarms(&mut self.alarms, &other.alarms);
         self.timers.copy_from(&other.timers);
-    }
-
-    fn add_to(&self, digest: &mut Digest) {
-        self.timers.know_waits();
-        self.tasks.add_to(digest);
-        add_each(self.cyclics.as_slice(), digest);
-        add_each(self.alarms.as_slice(), digest);
-        self.timers.add_to(digest);
     }
 }

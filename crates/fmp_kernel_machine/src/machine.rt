@@ -10,7 +10,6 @@ ghost use Rattle.fmp_ready.specs.Queues.{bit_of};
 ghost use Rattle.fmp_rules.specs.Boot.{blank};
 ghost use Rattle.fmp_rules.specs.Due.{IsNextDue};
 ghost use Rattle.fmp_kernel_machine.specs.Alike.{AreAlike};
-ghost use Rattle.fmp_kernel_machine.specs.Digests.{added_world};
 ghost use Rattle.fmp_rules.specs.Objects.{pool, values};
 ghost use Rattle.fmp_rules.specs.World.{item};
 ghost use Rattle.fmp_kernel_order.specs.Queues.{listed, no_queues};
@@ -20,7 +19,7 @@ use fmp_codes::{Object, Pri, Proc, Runner, Task};
 use fmp_dispatch::Dispatch;
 use fmp_kernel_assigned::Assigned;
 use fmp_kernel_objects::Resources;
-use fmp_kernel_parts::{Digest, Part};
+use fmp_kernel_parts::Part;
 use fmp_kernel_same::Same;
 use fmp_ready::ReadyQueues;
 use fmp_rules::{Config, Pool};
@@ -175,8 +174,6 @@ impl KernelMachine {
 impl Part for KernelMachine {
     ghost fits = { AreAlike };
 
-    ghost digested = { λ w sum. added_world w sum };
-
     #[tactic(auto, using(fmp_codes::proofs::Same::priorities_same))]
     fn is_same(&self, other: &Self) -> bool {
         self.assigned.is_same(&other.assigned)
@@ -196,14 +193,5 @@ impl Part for KernelMachine {
         self.spins.copy_from(&other.spins);
         self.most_wakeups = other.most_wakeups;
         self.last_priority = other.last_priority;
-    }
-
-    #[tactic(auto, unfolding(crate::specs::Digests::added_world))]
-    fn add_to(&self, digest: &mut Digest) {
-        self.assigned.add_to(digest);
-        self.dispatch.add_to(digest);
-        self.ready.add_to(digest);
-        self.resources.add_to(digest);
-        self.spins.add_to(digest);
     }
 }

@@ -2,7 +2,7 @@
 ghost use Rattle.std.specs.Prelude.{◌≡◌, length, map};
 ghost use Rattle.fmp_interned.specs.Parts.{AreNumbersOf, HasNumbers};
 ghost use Rattle.fmp_kernel_assigned.specs.Counting.{AreInStep};
-ghost use Rattle.fmp_kernel_machine.specs.Digests.{assignments_in, dispatching_in, with_times};
+ghost use Rattle.fmp_kernel_machine.specs.Parts.{assignments_in, dispatching_in, with_times};
 ghost use Rattle.fmp_kernel_objects.specs.Objects.{objects_of};
 ghost use Rattle.fmp_rules.specs.World.{with_item};
 ghost use Rattle.fmp_time.specs.Times.{no_times};

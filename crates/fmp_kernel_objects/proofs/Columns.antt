@@ -9,8 +9,7 @@ use Rattle.fmp_sem.specs.Semaphores.{SemaphoreState}
 use Rattle.fmp_flag.specs.Eventflags.{EventflagState}
 use Rattle.fmp_dtq.specs.DataQueue.{DataQueue}
 use Rattle.fmp_mpf.specs.MemoryPool.{MemoryPool}
-use Rattle.fmp_kernel_parts.specs.Digests.{added_all}
-use Rattle.fmp_kernel_objects.specs.Digests.{rows_of, with_values, with_senders, with_receivers}
+use Rattle.fmp_kernel_objects.specs.Rows.{rows_of, with_values, with_senders, with_receivers}
 use Rattle.fmp_kernel_objects.specs.Kinds.{no_semaphore, no_eventflag, no_queue, no_pool}
 
 pub changed : {X Y : Type 0} (f : X → Y) (xs : List X) (i : ℕ) (x : X) → map f (set xs i x) ≡ set (map f xs) i (f x)
@@ -97,7 +96,3 @@ queues_told xs =
     (rows_told with_senders (λ (q : DataQueue). with_values q.setup q.values) (λ q. q.senders) xs)
     ∙ rows_told with_receivers (λ (q : DataQueue). with_senders (with_values q.setup q.values) q.senders) (λ q. q.receivers) xs
     ∙ map-id xs
-
--- the same is added of equal lists, to equal digests
-pub all_same : {X : Type 0} (f : X → ℕ → ℕ) (xs ys : List X) (sum s t : ℕ) → sum ≡ added_all f xs s → s ≡ t → ys ≡ xs → sum ≡ added_all f ys t
-all_same {X} f xs ys sum s t e g h = e ∙ ap (added_all f xs) g ∙ ap (λ (zs : List X). added_all f zs t) (sym h)

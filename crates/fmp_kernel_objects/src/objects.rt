@@ -2,7 +2,6 @@
 ghost use Rattle.std.specs.Prelude.{◌≡◌, ◌≤◌, ◌<◌, ℕ, ◌-◌, List, [], length, map, option_copied, slice_get, slice_index_or, unwrap_or, IfOk};
 ghost use Rattle.fmp_interned.specs.Parts.{AreNumbersOf};
 ghost use Rattle.fmp_kernel_objects.specs.Fitting.{AreFitting};
-ghost use Rattle.fmp_kernel_parts.specs.Digests.{added_all};
 ghost use Rattle.fmp_setup.specs.declared.setup.Order.{Order};
 ghost use Rattle.fmp_rules.specs.World.{first, item, with_item};
 ghost use Rattle.fmp_waitq.specs.Queue.{Waiter, task_of, left_by, joined_by, waiter_of};
@@ -10,7 +9,7 @@ ghost use Rattle.fmp_waitq.specs.Queue.{Waiter, task_of, left_by, joined_by, wai
 use arrayvec::ArrayVec;
 use fmp_codes::{Object, Pri, Task};
 use fmp_interned::{Interned, Value};
-use fmp_kernel_parts::{Digest, Part, add_all, are_same, copy_all};
+use fmp_kernel_parts::{Part, are_same, copy_all};
 use std::alloc::{AllocError, Global};
 use std::marker::Model;
 
@@ -164,17 +163,11 @@ impl<T: Part> Part for Objects<T> {
     ghost fits = { λ xs ys. (length xs ≡ length ys)
         × ((k : ℕ) (a b : T) → k < length ys → T.fits (slice_index_or xs k a) (slice_index_or ys k b)) };
 
-    ghost digested = { λ xs sum. added_all T.digested xs sum };
-
     fn is_same(&self, other: &Self) -> bool {
         are_same(self.items.as_slice(), other.items.as_slice())
     }
 
     fn copy_from(&mut self, other: &Self) {
         copy_all(self.items.as_mut_slice(), other.items.as_slice());
-    }
-
-    fn add_to(&self, digest: &mut Digest) {
-        add_all(self.items.as_slice(), digest);
     }
 }

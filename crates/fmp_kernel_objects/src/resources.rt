@@ -6,7 +6,7 @@ ghost use Rattle.fmp_rules.specs.World.{first, rest, item, with_item};
 ghost use Rattle.fmp_waitq.specs.Queue.{task_of, left_by, joined_by, waiter_of};
 ghost use Rattle.fmp_interned.specs.Parts.{AreNumbersOf, HasNumbers};
 ghost use Rattle.fmp_kernel_order.specs.Queues.{queue, place_of, place_in, changed};
-ghost use Rattle.fmp_kernel_objects.specs.Digests.{added_objects, semaphores_in, eventflags_in, queues_in, pools_in};
+ghost use Rattle.fmp_kernel_objects.specs.Rows.{semaphores_in, eventflags_in, queues_in, pools_in};
 ghost use Rattle.fmp_kernel_objects.specs.Kinds.{is_handed_in};
 ghost use Rattle.fmp_kernel_objects.specs.Objects.{blank_objects, order_for, AreAlike};
 
@@ -17,7 +17,7 @@ use fmp_codes::{Object, Pri, Task};
 use fmp_dtq::Dtq;
 use fmp_flag::Flag;
 use fmp_interned::Interned;
-use fmp_kernel_parts::{Digest, Part};
+use fmp_kernel_parts::Part;
 use fmp_mpf::Mpf;
 use fmp_rules::{Config, DataQueueSetup, Eventflag, Order, Pool, QueueKind, Semaphore, Wait};
 use fmp_sem::Sem;
@@ -411,8 +411,6 @@ impl Resources {
 impl Part for Resources {
     ghost fits = { AreAlike };
 
-    ghost digested = { λ a sum. added_objects a sum };
-
     fn is_same(&self, other: &Self) -> bool {
         self.semaphores.is_same(&other.semaphores)
             && self.eventflags.is_same(&other.eventflags)
@@ -425,12 +423,5 @@ impl Part for Resources {
         self.eventflags.copy_from(&other.eventflags);
         self.data_queues.copy_from(&other.data_queues);
         self.pools.copy_from(&other.pools);
-    }
-
-    fn add_to(&self, digest: &mut Digest) {
-        self.semaphores.add_to(digest);
-        self.eventflags.add_to(digest);
-        self.data_queues.add_to(digest);
-        self.pools.add_to(digest);
     }
 }

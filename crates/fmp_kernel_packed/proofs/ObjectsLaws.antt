@@ -4,7 +4,7 @@ use Rattle.std.proofs.lemmas.Grind.{common_steps}
 use Rattle.std.proofs.lemmas.List.{length-map}
 use Rattle.fmp_interned.specs.Parts.{AddsNumbers, AreNumbersOf}
 use Rattle.fmp_interned.proofs.Parts.{numbers_stay, same_numbers}
-use Rattle.fmp_kernel_objects.specs.Digests.{semaphores_in, eventflags_in, queues_in, pools_in}
+use Rattle.fmp_kernel_objects.specs.Rows.{semaphores_in, eventflags_in, queues_in, pools_in}
 use Rattle.fmp_kernel_objects.specs.Objects.{AllObjects}
 use Rattle.fmp_kernel_packed.specs.Kept.{KeptObjects, AreObjectsBefore, AreObjectsOnce}
 use Rattle.fmp_kernel_packed.specs.Packed.{AreColumns, AreObjects}

@@ -12,7 +12,7 @@ use Rattle.fmp_dispatch.specs.Dispatching.{Dispatching}
 use Rattle.fmp_setup.specs.declared.setup.Limits.{Limits}
 use Rattle.fmp_kernel_assigned.specs.Assignments.{Assignments, assignments_of}
 use Rattle.fmp_kernel_assigned.specs.Telling.{times_in, IsTold}
-use Rattle.fmp_kernel_machine.specs.Digests.{assignments_in, dispatching_in}
+use Rattle.fmp_kernel_machine.specs.Parts.{assignments_in, dispatching_in}
 use Rattle.fmp_kernel_objects.specs.Objects.{AllObjects, objects_of}
 use Rattle.fmp_kernel_order.specs.Queues.{Queues}
 use Rattle.fmp_kernel_packed.specs.Kept.{KeptParts, ArePartsBefore, ArePartsOnce}

@@ -1,7 +1,7 @@
 -- The numbers of spin locks, processors and ready queues: each kernel has one list of them, which is that of no other.
 use Rattle.std.proofs.Common.{◌≡◌, ℕ, List, ap}
 use Rattle.fmp_interned.proofs.Numbers.{number_stays}
-use Rattle.fmp_kernel_machine.specs.Digests.{dispatching_in}
+use Rattle.fmp_kernel_machine.specs.Parts.{dispatching_in}
 use Rattle.fmp_kernel_order.specs.Queues.{Queues}
 use Rattle.fmp_kernel_packed.specs.Kept.{KeptRest, IsRestBefore, IsRestOnce}
 use Rattle.fmp_kernel_packed.specs.Packed.{IsRest}

@@ -9,7 +9,7 @@ use Rattle.fmp_interned.specs.Chains.{HasChain, IsChain}
 use Rattle.fmp_kernel_assigned.specs.Assignments.{assignments_of}
 use Rattle.fmp_kernel_assigned.specs.Counting.{AreInStep}
 use Rattle.fmp_kernel_assigned.specs.Telling.{times_in}
-use Rattle.fmp_kernel_machine.specs.Digests.{assignments_in, dispatching_in, with_times}
+use Rattle.fmp_kernel_machine.specs.Parts.{assignments_in, dispatching_in, with_times}
 use Rattle.fmp_kernel_objects.specs.Objects.{AreAlike, objects_of}
 use Rattle.fmp_kernel_order.specs.Queues.{Queues}
 use Rattle.fmp_kernel_packed.specs.Kept.{KeptParts}

@@ -1,5 +1,5 @@
 -- What kernels are made of, each part once.
-use Rattle.std.specs.Prelude.{ℕ, Option, List}
+use Rattle.std.specs.Prelude.{ℕ, Option, List, []}
 use Rattle.fmp_codes.specs.declared.numbers.Proc.{Proc}
 use Rattle.fmp_dispatch.specs.Dispatching.{Dispatching}
 use Rattle.fmp_dtq.specs.DataQueue.{DataQueue}
@@ -37,6 +37,16 @@ pub record KeptParts : Type 0 where
   pub rest : KeptRest
   pub counting : List (List ℕ)  -- the numbers that tell what counts
   pub pairs : List (List ℕ)  -- of the chains of the parts' numbers
+
+-- nothing yet
+abbrev pub no_parts : KeptParts
+no_parts = record {
+  handled = record { tasks = []; cyclics = []; alarms = [] };
+  objects = record { semaphores = []; eventflags = []; data_queues = []; pools = [] };
+  rest = record { spins = []; dispatch = []; ready = [] };
+  counting = [];
+  pairs = [];
+}
 
 -- no two that are kept are the same
 pub record AreHandledOnce (k : KeptHandled) : Type 0 where

@@ -4,8 +4,8 @@ use Rattle.fmp_interned.specs.Chains.{IsChain}
 use Rattle.fmp_interned.specs.Parts.{AreNumbersOf}
 use Rattle.fmp_kernel_assigned.specs.Assignments.{Assignments}
 use Rattle.fmp_kernel_assigned.specs.Telling.{times_in, IsTold}
-use Rattle.fmp_kernel_machine.specs.Digests.{assignments_in, dispatching_in}
-use Rattle.fmp_kernel_objects.specs.Digests.{semaphores_in, eventflags_in, queues_in, pools_in}
+use Rattle.fmp_kernel_machine.specs.Parts.{assignments_in, dispatching_in}
+use Rattle.fmp_kernel_objects.specs.Rows.{semaphores_in, eventflags_in, queues_in, pools_in}
 use Rattle.fmp_kernel_objects.specs.Objects.{AllObjects, objects_of}
 use Rattle.fmp_kernel_order.specs.Queues.{Queues}
 use Rattle.fmp_kernel_packed.specs.Kept.{KeptHandled, KeptObjects, KeptRest, KeptParts}

@@ -1,8 +1,9 @@
 //! Kernels of one configuration, packed and unpacked.
 ghost use Rattle.std.specs.Prelude.{◌≡◌, IfOk, OnErr};
-ghost use Rattle.fmp_kernel_order.specs.Queues.{Queues};
+ghost use Rattle.fmp_kernel_order.specs.Queues.{no_queues, Queues};
 ghost use Rattle.fmp_kernel_packed.specs.Kept.{ArePartsBefore};
 ghost use Rattle.fmp_kernel_packed.specs.Kernels.{IsKernel};
+ghost use Rattle.fmp_rules.specs.Boot.{blank};
 ghost use Rattle.fmp_rules.specs.World.{World};
 
 use crate::packed::{Packed, Parts, are_shaped};
@@ -11,8 +12,11 @@ use fmp_kernel_machine::KernelMachine;
 use fmp_rules::Config;
 use std::alloc::AllocError;
 
-/// A machine of a configuration, in memory of its own, into which kernels can be unpacked. The error is want of memory.
-pub fn room_for(config: &Config) -> Result<Box<KernelMachine>, AllocError> {
+/// A machine of a configuration, in memory of its own, into which kernels can be unpacked: every task is dormant, and no processor runs one. The error is want of
+/// memory.
+pub fn room_for(config: &Config) -> Result<Box<KernelMachine>, AllocError>
+    ensures { IfOk result (λ m. m.value ≡ blank (no_queues config.now) config.now) }
+{
     let blank = KernelMachine::blank(config)?;
     Ok(Box::new(config.allocator(), blank)?)
 }

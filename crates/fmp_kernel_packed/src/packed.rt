@@ -1,7 +1,7 @@
 //! Kernels by the numbers of their parts.
 ghost use Rattle.std.specs.Prelude.{◌≡◌, ◌↔◌, ◌+◌, ◌≤◌, [], length, IfOk, IsTrue};
 ghost use Rattle.fmp_kernel_order.specs.Queues.{Queues};
-ghost use Rattle.fmp_kernel_packed.specs.Kept.{ArePartsBefore, ArePartsOnce};
+ghost use Rattle.fmp_kernel_packed.specs.Kept.{no_parts, ArePartsBefore, ArePartsOnce};
 ghost use Rattle.fmp_kernel_packed.specs.Packed.{IsPacked};
 ghost use Rattle.fmp_kernel_packed.specs.Shaped.{AreShaped};
 ghost use Rattle.fmp_rules.specs.World.{World};
@@ -69,7 +69,9 @@ pub fn are_shaped(machine: &KernelMachine, other: &KernelMachine) -> bool
 
 impl Parts {
     /// Of no kernel yet.
-    pub fn new(alloc: Global) -> Self {
+    pub fn new(alloc: Global) -> Self
+        ensures { result ≡ no_parts }
+    {
         Parts {
             handled: Handled::new(alloc),
             objects: Objects::new(alloc),

@@ -1,6 +1,6 @@
 //! A number that tells values apart.
-ghost use Rattle.std.specs.Prelude.{◌≡◌};
-ghost use Rattle.fmp_kernel_parts.specs.Digests.{seed, added, told};
+ghost use Rattle.std.specs.Prelude.{◌≡◌, ℕ};
+ghost use Rattle.fmp_kernel_parts.specs.Digests.{seed, added, added_all, told};
 
 use std::marker::Model;
 
@@ -47,5 +47,24 @@ impl Digest {
 impl Default for Digest {
     fn default() -> Self {
         Digest::new()
+    }
+}
+
+/// What a digest tells apart, as a part of a kernel that is kept once.
+pub trait ToDigest {
+    // What a digest is after it was added.
+    ghost digested: { Self → ℕ → ℕ };
+
+    /// Adds what it is to a digest. Those that are the same add the same; no answer may depend on it.
+    fn add_to(&self, digest: &mut Digest)
+        ensures { digest.new ≡ digested self.now digest.old };
+}
+
+/// Adds those of a list to a digest.
+pub fn add_all<T: ToDigest>(items: &[T], digest: &mut Digest)
+    ensures { digest.new ≡ added_all T.digested items.now digest.old }
+{
+    for item in items {
+        item.add_to(digest);
     }
 }

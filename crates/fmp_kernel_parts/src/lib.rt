@@ -17,7 +17,7 @@ mod links;
 mod part;
 mod task_list;
 
-pub use digest::Digest;
+pub use digest::{Digest, ToDigest, add_all};
 pub use links::Links;
-pub use part::{Part, add_all, are_same, copy_all};
+pub use part::{Part, are_same, copy_all};
 pub use task_list::TaskList;

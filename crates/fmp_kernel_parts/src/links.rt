@@ -6,7 +6,7 @@ ghost use Rattle.fmp_kernel_parts.specs.Lists.{has, list_at, first_of, push_last
 ghost use Rattle.fmp_kernel_parts.specs.Rings.{item_at};
 ghost use Rattle.fmp_kernel_parts.specs.Digests.{added_items};
 
-use crate::{Digest, Part};
+use crate::{Digest, Part, ToDigest};
 use std::marker::Model;
 
 /// Lists of the items below `ITEMS`, as many as there are nodes beyond the items. Each item stands in at most one, once.
@@ -183,8 +183,6 @@ impl<const NODES: usize, const ITEMS: usize> Links<NODES, ITEMS> {
 impl<const NODES: usize, const ITEMS: usize> Part for Links<NODES, ITEMS> {
     ghost fits = { λ a b. Unit {0} };
 
-    ghost digested = { λ q sum. added_items ITEMS q ITEMS sum };
-
     fn is_same(&self, other: &Self) -> bool {
         are_equal(&self.next, &other.next)
     }
@@ -194,6 +192,10 @@ impl<const NODES: usize, const ITEMS: usize> Part for Links<NODES, ITEMS> {
         self.prev = other.prev;
         self.place = other.place;
     }
+}
+
+impl<const NODES: usize, const ITEMS: usize> ToDigest for Links<NODES, ITEMS> {
+    ghost digested = { λ q sum. added_items ITEMS q ITEMS sum };
 
     fn add_to(&self, digest: &mut Digest) {
         for item in 0..ITEMS {

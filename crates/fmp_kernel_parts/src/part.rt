@@ -1,16 +1,10 @@
 //! Parts, and lists of them.
 ghost use Rattle.std.specs.Prelude.{◌≡◌, ◌↔◌, ℕ, ◌<◌, length, slice_index_or, IsTrue};
-ghost use Rattle.fmp_kernel_parts.specs.Digests.{added_all};
 
-use crate::digest::Digest;
-
-/// A part of a kernel, of which a search keeps the place and not a copy.
+/// A part of a kernel, which is compared with another and becomes as another is.
 pub trait Part {
     // It has the memory that it needs to become as another part is.
     ghost fits: { Self → Self → Type 0 };
-
-    // What a digest is after it was added.
-    ghost digested: { Self → ℕ → ℕ };
 
     /// Whether it is the same as another part.
     fn is_same(&self, other: &Self) -> bool
@@ -20,10 +14,6 @@ pub trait Part {
     fn copy_from(&mut self, other: &Self)
         requires { fits self.old other.now }
         ensures { self.new ≡ other.now };
-
-    /// Adds what it is to a digest. Parts that are the same add the same; no answer may depend on it.
-    fn add_to(&self, digest: &mut Digest)
-        ensures { digest.new ≡ digested self.now digest.old };
 }
 
 /// Whether the parts of two lists are the same.
@@ -49,14 +39,5 @@ pub fn copy_all<T: Part>(parts: &mut [T], others: &[T])
 {
     for at in 0..others.len() {
         parts[at].copy_from(&others[at]);
-    }
-}
-
-/// Adds the parts of a list to a digest.
-pub fn add_all<T: Part>(parts: &[T], digest: &mut Digest)
-    ensures { digest.new ≡ added_all T.digested parts.now digest.old }
-{
-    for part in parts {
-        part.add_to(digest);
     }
 }

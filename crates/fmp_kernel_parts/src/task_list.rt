@@ -6,7 +6,7 @@ ghost use Rattle.fmp_kernel_parts.specs.Lists.{first_of};
 ghost use Rattle.fmp_kernel_parts.specs.Tasks.{has_task, without, inserted, AreDistinct};
 
 use crate::links::Links;
-use crate::{Digest, Part};
+use crate::{Digest, Part, ToDigest};
 use arrayvec::ArrayVec;
 use fmp_codes::Task;
 use std::marker::Model;
@@ -122,8 +122,6 @@ impl TaskList {
 impl Part for TaskList {
     ghost fits = { λ a b. Unit {0} };
 
-    ghost digested = { λ ts sum. added_all added_task ts sum };
-
     fn is_same(&self, other: &Self) -> bool {
         self.are_empty(other) || self.links.is_same(&other.links)
     }
@@ -133,6 +131,10 @@ impl Part for TaskList {
             self.links.copy_from(&other.links);
         }
     }
+}
+
+impl ToDigest for TaskList {
+    ghost digested = { λ ts sum. added_all added_task ts sum };
 
     /// Adds the tasks, the first one first.
     fn add_to(&self, digest: &mut Digest) {

@@ -8,4 +8,4 @@ mod same;
 mod setups;
 
 pub use lone::{Lone, number_records};
-pub use same::{Same, add_each, are_equal};
+pub use same::{Same, ValueToDigest, add_each, are_equal};

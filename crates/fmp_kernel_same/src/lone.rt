@@ -4,7 +4,7 @@ ghost use Rattle.fmp_interned.specs.Parts.{AddsNumbers};
 ghost use Rattle.fmp_interned.specs.Values.{IsBeginning};
 ghost use Rattle.fmp_kernel_parts.specs.Digests.{seed, told};
 
-use crate::same::Same;
+use crate::same::ValueToDigest;
 use fmp_interned::{Interned, Value, Words};
 use fmp_kernel_parts::Digest;
 use std::alloc::AllocError;
@@ -12,17 +12,17 @@ use std::marker::Model;
 
 /// A record by itself, which can be kept once. Contracts see it as the record.
 #[derive(Drop)]
-pub struct Lone<T: Same + Copy> {
+pub struct Lone<T: ValueToDigest + Copy> {
     record: T,
 }
 
-impl<T: Same + Copy> Model for Lone<T> {
+impl<T: ValueToDigest + Copy> Model for Lone<T> {
     ghost Value = { T };
 
     ghost view = { λ lone. lone.record };
 }
 
-impl<T: Same + Copy> Lone<T> {
+impl<T: ValueToDigest + Copy> Lone<T> {
     /// The record.
     pub fn get(&self) -> T
         ensures { result ≡ self.now }
@@ -31,7 +31,7 @@ impl<T: Same + Copy> Lone<T> {
     }
 }
 
-impl<T: Same + Copy> Value for Lone<T> {
+impl<T: ValueToDigest + Copy> Value for Lone<T> {
     ghost hashed = { λ r. told (T.digested r seed) };
 
     fn is_same(&self, other: &Self) -> bool {
@@ -53,7 +53,7 @@ impl<T: Same + Copy> Value for Lone<T> {
 
 /// Adds the numbers of records, each of which is kept from then on. A record that has the number which stands at its place in another list is found sooner: no
 /// answer depends on that list. The error is want of memory, or that 2^32 - 1 records are kept, and leaves the numbers of other records as they were.
-pub fn number_records<T: Same + Copy>(
+pub fn number_records<T: ValueToDigest + Copy>(
     kept: &mut Interned<Lone<T>>,
     records: &[T],
     near: &[u32],

@@ -3,17 +3,19 @@ ghost use Rattle.std.specs.Prelude.{◌≡◌, IsTrue};
 ghost use Rattle.fmp_kernel_parts.specs.Digests.{added};
 ghost use Rattle.fmp_kernel_same.specs.Digests.{added_runner};
 
-use crate::same::Same;
+use crate::same::{Same, ValueToDigest};
 use fmp_codes::{Object, Pri, Proc, Runner, Task};
 use fmp_kernel_parts::Digest;
 
 impl Same for Proc {
-    ghost digested = { λ value sum. added sum value.number };
-
     #[tactic(auto, using(fmp_codes::proofs::Same::processors_same))]
     fn is_same(&self, other: &Self) -> bool {
         self.number == other.number
     }
+}
+
+impl ValueToDigest for Proc {
+    ghost digested = { λ value sum. added sum value.number };
 
     fn add_to(&self, digest: &mut Digest) {
         digest.add(u64::from(self.number));
@@ -21,12 +23,14 @@ impl Same for Proc {
 }
 
 impl Same for Task {
-    ghost digested = { λ value sum. added sum value.number };
-
     #[tactic(auto, using(fmp_codes::proofs::Same::tasks_same))]
     fn is_same(&self, other: &Self) -> bool {
         self.number == other.number
     }
+}
+
+impl ValueToDigest for Task {
+    ghost digested = { λ value sum. added sum value.number };
 
     fn add_to(&self, digest: &mut Digest) {
         digest.add(u64::from(self.number));
@@ -34,34 +38,20 @@ impl Same for Task {
 }
 
 impl Same for Object {
-    ghost digested = { λ value sum. added sum value.number };
-
     #[tactic(auto, using(fmp_codes::proofs::Same::objects_same))]
     fn is_same(&self, other: &Self) -> bool {
         self.number == other.number
     }
-
-    fn add_to(&self, digest: &mut Digest) {
-        digest.add(u64::from(self.number));
-    }
 }
 
 impl Same for Pri {
-    ghost digested = { λ value sum. added sum value.number };
-
     #[tactic(auto, using(fmp_codes::proofs::Same::priorities_same))]
     fn is_same(&self, other: &Self) -> bool {
         self.number == other.number
     }
-
-    fn add_to(&self, digest: &mut Digest) {
-        digest.add(u64::from(self.number));
-    }
 }
 
 impl Same for Runner {
-    ghost digested = { λ value sum. added_runner value sum };
-
     fn is_same(&self, other: &Self) -> bool {
         match (*self, *other) {
             (Runner::Task(one), Runner::Task(other)) => one.is_same(&other),
@@ -70,6 +60,10 @@ impl Same for Runner {
             _ => false,
         }
     }
+}
+
+impl ValueToDigest for Runner {
+    ghost digested = { λ value sum. added_runner value sum };
 
     fn add_to(&self, digest: &mut Digest) {
         match self {

@@ -3,13 +3,11 @@ ghost use Rattle.std.specs.Prelude.{◌≡◌, IsTrue};
 ghost use Rattle.fmp_kernel_parts.specs.Digests.{added};
 ghost use Rattle.fmp_kernel_same.specs.Digests.{added_wait, added_record, added_processor};
 
-use crate::same::Same;
+use crate::same::{Same, ValueToDigest};
 use fmp_kernel_parts::Digest;
 use fmp_rules::{Alarm, Cyclic, Processor, TaskRecord, Wait};
 
 impl Same for Wait {
-    ghost digested = { λ value sum. added_wait value sum };
-
     fn is_same(&self, other: &Self) -> bool {
         match (*self, *other) {
             (Wait::Sleep, Wait::Sleep) => true,
@@ -26,6 +24,10 @@ impl Same for Wait {
             _ => false,
         }
     }
+}
+
+impl ValueToDigest for Wait {
+    ghost digested = { λ value sum. added_wait value sum };
 
     fn add_to(&self, digest: &mut Digest) {
         match self {
@@ -43,8 +45,6 @@ impl Same for Wait {
 }
 
 impl Same for TaskRecord {
-    ghost digested = { λ value sum. added_record value sum };
-
     fn is_same(&self, other: &Self) -> bool {
         self.assigned.is_same(&other.assigned)
             && self.priority.is_same(&other.priority)
@@ -56,6 +56,10 @@ impl Same for TaskRecord {
             && self.wakeups == other.wakeups
             && self.setup.is_same(&other.setup)
     }
+}
+
+impl ValueToDigest for TaskRecord {
+    ghost digested = { λ value sum. added_record value sum };
 
     #[tactic(auto, unfolding(crate::specs::Digests::numbers_of))]
     fn add_to(&self, digest: &mut Digest) {
@@ -73,14 +77,16 @@ impl Same for TaskRecord {
 }
 
 impl Same for Processor {
-    ghost digested = { λ value sum. added_processor value sum };
-
     fn is_same(&self, other: &Self) -> bool {
         self.running.is_same(&other.running)
             && self.locked == other.locked
             && self.disabled == other.disabled
             && self.latch == other.latch
     }
+}
+
+impl ValueToDigest for Processor {
+    ghost digested = { λ value sum. added_processor value sum };
 
     #[tactic(auto, unfolding(crate::specs::Digests::flags_of))]
     fn add_to(&self, digest: &mut Digest) {
@@ -92,11 +98,13 @@ impl Same for Processor {
 }
 
 impl Same for Cyclic {
-    ghost digested = { λ value sum. added sum value.assigned.number };
-
     fn is_same(&self, other: &Self) -> bool {
         self.assigned.is_same(&other.assigned) && self.setup.is_same(&other.setup)
     }
+}
+
+impl ValueToDigest for Cyclic {
+    ghost digested = { λ value sum. added sum value.assigned.number };
 
     fn add_to(&self, digest: &mut Digest) {
         self.assigned.add_to(digest);
@@ -104,11 +112,13 @@ impl Same for Cyclic {
 }
 
 impl Same for Alarm {
-    ghost digested = { λ value sum. added sum value.assigned.number };
-
     fn is_same(&self, other: &Self) -> bool {
         self.assigned.is_same(&other.assigned) && self.setup.is_same(&other.setup)
     }
+}
+
+impl ValueToDigest for Alarm {
+    ghost digested = { λ value sum. added sum value.assigned.number };
 
     fn add_to(&self, digest: &mut Digest) {
         self.assigned.add_to(digest);

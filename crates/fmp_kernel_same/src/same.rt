@@ -7,12 +7,15 @@ use fmp_kernel_parts::Digest;
 
 /// A value of which is told whether it is the same as another.
 pub trait Same {
-    // What a digest is after it was added.
-    ghost digested: { Self → ℕ → ℕ };
-
     /// Whether it is the same as another one.
     fn is_same(&self, other: &Self) -> bool
         ensures { IsTrue result ↔ (self.now ≡ other.now) };
+}
+
+/// A value that a digest tells apart, too.
+pub trait ValueToDigest: Same {
+    // What a digest is after it was added.
+    ghost digested: { Self → ℕ → ℕ };
 
     /// Adds it to a digest. Values that are the same add the same; no answer may depend on it.
     fn add_to(&self, digest: &mut Digest)
@@ -35,7 +38,7 @@ pub fn are_equal<T: Same>(values: &[T], others: &[T]) -> bool
 }
 
 /// Adds the values of a list to a digest.
-pub fn add_each<T: Same>(values: &[T], digest: &mut Digest)
+pub fn add_each<T: ValueToDigest>(values: &[T], digest: &mut Digest)
     ensures { digest.new ≡ added_all T.digested values.now digest.old }
 {
     for value in values {
@@ -44,8 +47,6 @@ pub fn add_each<T: Same>(values: &[T], digest: &mut Digest)
 }
 
 impl<T: Same> Same for Option<T> {
-    ghost digested = { λ value sum. added_option T.digested value sum };
-
     fn is_same(&self, other: &Self) -> bool {
         match (self, other) {
             (Some(one), Some(other)) => one.is_same(other),
@@ -53,6 +54,10 @@ impl<T: Same> Same for Option<T> {
             _ => false,
         }
     }
+}
+
+impl<T: ValueToDigest> ValueToDigest for Option<T> {
+    ghost digested = { λ value sum. added_option T.digested value sum };
 
     fn add_to(&self, digest: &mut Digest) {
         match self {

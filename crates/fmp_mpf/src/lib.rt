@@ -20,7 +20,7 @@ use crate::marks::{all_marks, first_free, is_marked, no_marks, with_mark};
 use arrayvec::ArrayVec;
 use fmp_codes::{Pri, Task};
 use fmp_interned::{Value, part_hash};
-use fmp_kernel_parts::{Digest, Part};
+use fmp_kernel_parts::{Digest, Part, ToDigest};
 use fmp_kernel_same::Same;
 use fmp_rules::{Pool, PoolSetup};
 use fmp_waitq::WaitQueue;
@@ -139,8 +139,6 @@ impl Mpf {
 impl Part for Mpf {
     ghost fits = { λ a b. Unit {0} };
 
-    ghost digested = { λ m sum. added_pool m sum };
-
     #[tactic(auto, using(crate::proofs::Bits::marks_same))]
     fn is_same(&self, other: &Self) -> bool {
         self.handed == other.handed
@@ -153,6 +151,10 @@ impl Part for Mpf {
         self.handed = other.handed;
         self.queue.copy_from(&other.queue);
     }
+}
+
+impl ToDigest for Mpf {
+    ghost digested = { λ m sum. added_pool m sum };
 
     #[tactic(auto, using(crate::proofs::Bits::word_told), unfolding(crate::specs::MemoryPool::added_pool))]
     fn add_to(&self, digest: &mut Digest) {

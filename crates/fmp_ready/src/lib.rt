@@ -23,7 +23,7 @@ ghost use Rattle.fmp_ready.specs.Kept.{tasks_of, IsKept};
 use arrayvec::ArrayVec;
 use fmp_codes::{Pri, Proc, Task};
 use fmp_interned::{Value, part_hash};
-use fmp_kernel_parts::{Digest, Links, Part};
+use fmp_kernel_parts::{Digest, Links, Part, ToDigest};
 use std::alloc::AllocError;
 use std::marker::Model;
 
@@ -154,8 +154,6 @@ impl ReadyQueues {
 impl Part for ReadyQueues {
     ghost fits = { λ a b. Unit {0} };
 
-    ghost digested = { λ q sum. added_lists q.lists sum };
-
     fn is_same(&self, other: &Self) -> bool {
         self.links.is_same(&other.links)
     }
@@ -165,6 +163,10 @@ impl Part for ReadyQueues {
         self.words = other.words;
         self.tops = other.tops;
     }
+}
+
+impl ToDigest for ReadyQueues {
+    ghost digested = { λ q sum. added_lists q.lists sum };
 
     fn add_to(&self, digest: &mut Digest) {
         self.links.add_to(digest);

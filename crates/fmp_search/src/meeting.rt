@@ -35,7 +35,7 @@ pub(crate) fn met_of(survey: Survey) -> Option<Met>
     }
 }
 
-/// What `meet` gives, by these four.
+/// What `meet` gives, by these two.
 fn met_by<W: Space + Drop, P: Progress>(
     alloc: Global,
     walker: &mut W,

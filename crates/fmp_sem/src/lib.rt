@@ -17,7 +17,7 @@ mod operations;
 use arrayvec::ArrayVec;
 use fmp_codes::{Pri, Task};
 use fmp_interned::{Value, part_hash};
-use fmp_kernel_parts::{Digest, Part};
+use fmp_kernel_parts::{Digest, Part, ToDigest};
 use fmp_kernel_same::Same;
 use fmp_rules::{Semaphore, SemaphoreSetup};
 use fmp_waitq::WaitQueue;
@@ -109,8 +109,6 @@ impl Sem {
 impl Part for Sem {
     ghost fits = { λ a b. Unit {0} };
 
-    ghost digested = { λ s sum. added_semaphore s sum };
-
     fn is_same(&self, other: &Self) -> bool {
         self.count == other.count
             && self.queue.is_same(&other.queue)
@@ -122,6 +120,10 @@ impl Part for Sem {
         self.count = other.count;
         self.queue.copy_from(&other.queue);
     }
+}
+
+impl ToDigest for Sem {
+    ghost digested = { λ s sum. added_semaphore s sum };
 
     fn add_to(&self, digest: &mut Digest) {
         digest.add(u64::from(self.count));

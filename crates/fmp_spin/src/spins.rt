@@ -11,7 +11,7 @@ use crate::holder::{all_free, free_all, is_at};
 use arrayvec::ArrayVec;
 use fmp_codes::{Object, Proc};
 use fmp_interned::{Value, part_hash};
-use fmp_kernel_parts::{Digest, Part};
+use fmp_kernel_parts::{Digest, Part, ToDigest};
 use fmp_kernel_same::{add_each, are_equal};
 use std::alloc::AllocError;
 use std::marker::Model;
@@ -87,8 +87,6 @@ impl Spins {
 impl Part for Spins {
     ghost fits = { λ a b. Unit {0} };
 
-    ghost digested = { λ holders sum. added_all (added_option added_proc) holders sum };
-
     fn is_same(&self, other: &Self) -> bool {
         are_equal(self.holders.as_slice(), other.holders.as_slice())
     }
@@ -99,6 +97,10 @@ impl Part for Spins {
             .try_extend_from_slice(other.holders.as_slice())
             .unwrap();
     }
+}
+
+impl ToDigest for Spins {
+    ghost digested = { λ holders sum. added_all (added_option added_proc) holders sum };
 
     fn add_to(&self, digest: &mut Digest) {
         add_each(self.holders.as_slice(), digest);

@@ -1,14 +1,12 @@
 //! The records of all tasks.
 ghost use Rattle.std.specs.Prelude.{◌≡◌, ◌≤◌, length, map};
-ghost use Rattle.fmp_kernel_parts.specs.Digests.{added_all};
-ghost use Rattle.fmp_kernel_same.specs.Digests.{added_record};
 ghost use Rattle.fmp_rules.specs.World.{item, with_item, no_task, resting};
 
 use crate::resting::all_resting;
 use arrayvec::ArrayVec;
 use fmp_codes::Task;
-use fmp_kernel_parts::{Digest, Part};
-use fmp_kernel_same::{add_each, are_equal};
+use fmp_kernel_parts::Part;
+use fmp_kernel_same::are_equal;
 use fmp_rules::{TaskRecord, TaskSetup};
 use std::marker::Model;
 
@@ -79,8 +77,6 @@ impl Tasks {
 impl Part for Tasks {
     ghost fits = { λ a b. Unit {0} };
 
-    ghost digested = { λ records sum. added_all added_record records sum };
-
     fn is_same(&self, other: &Self) -> bool {
         are_equal(self.records.as_slice(), other.records.as_slice())
     }
@@ -90,9 +86,5 @@ impl Part for Tasks {
         self.records
             .try_extend_from_slice(other.records.as_slice())
             .unwrap();
-    }
-
-    fn add_to(&self, digest: &mut Digest) {
-        add_each(self.records.as_slice(), digest);
     }
 }

@@ -13,5 +13,5 @@ pub mod Waits  -- The waits stay those that have ticks left.
 pub mod Served  -- What is served, by marks.
 pub mod Dues  -- Which items have no ticks left, over all lists.
 pub mod Showing  -- Lists of entries that show the same.
-pub mod Mixing  -- The numbers of the ticks left, by lists and by items.
 pub mod Making  -- Timers that are made from the numbers that tell what they show.
+pub mod Passing  -- Items that do not count tell nothing.

@@ -116,7 +116,7 @@ stays f ts i t h e =
 
 -- The items of a tick.
 
-range_push : (a n : ℕ) → range_with_len a (suc n) ≡ range_with_len a n ++ (a + n) ∷ []
+pub range_push : (a n : ℕ) → range_with_len a (suc n) ≡ range_with_len a n ++ (a + n) ∷ []
 range_push a zero = ap (λ (m : ℕ). m ∷ []) (omega arith)
 range_push a (suc n) = ap (λ (r : List ℕ). a ∷ r) (range_push (a + 1) n ∙ ap (λ (m : ℕ). range_with_len (a + 1) n ++ m ∷ []) (omega arith))
 

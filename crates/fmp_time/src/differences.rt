@@ -1,16 +1,16 @@
 //! Difference lists, one for each processor: items in ascending ticks left, of which each stores what it adds to the sum of
 //! those before it. So a tick lowers one number, and an item that goes hands on what it added to the one after it.
-ghost use Rattle.std.specs.Prelude.{◌≡◌, ◌↔◌, ℕ, ◌+◌, ◌%◌, ◌^◌, ◌<◌, ◌≤◌, ◌||◌, false, true, Some, [], IfSome, IsTrue};
+ghost use Rattle.std.specs.Prelude.{◌≡◌, ◌↔◌, ℕ, ◌+◌, ◌^◌, ◌<◌, ◌≤◌, ◌||◌, false, true, Some, [], IfSome, IsTrue};
 ghost use Rattle.std.specs.Prelude.{is_some, length, replicate, slice_index, slice_index_or, slice_set};
+ghost use Rattle.std.specs.List.{list_any, range_with_len};
 ghost use Rattle.std.specs.Option.{option_map};
 ghost use Rattle.fmp_kernel_parts.specs.Lists as lists;
 ghost use Rattle.fmp_time.specs.Differences.{entries_at, has_entry, sorted_in, take_out, ticks_in, least_of, lowered, due, not_due, entries_from, sum_of, spot_in};
 ghost use Rattle.fmp_time.specs.Differences.{rest_in, first_adding, zeros_of, rest_of, items_of, items_given, IsLeastIn};
-ghost use Rattle.fmp_time.specs.Mixed.{mix, mixed_in, added_below, list_mixed};
 ghost use Rattle.fmp_time.specs.Left.{left_in, left_by, ticks_of, is_over, AreDisjoint};
 
 use arrayvec::ArrayVec;
-use fmp_kernel_parts::{Digest, Links, Part};
+use fmp_kernel_parts::{Links, Part};
 use std::marker::Model;
 
 /// For each processor its items in ascending ticks left.
@@ -91,6 +91,19 @@ impl Differences {
             Some(_list) => true,
             None => false,
         }
+    }
+
+    /// Whether one of eight items from one on stands in a list. All eight are looked at: a loop that does not stop at the first one is compiled to one over
+    /// all of them at a time.
+    pub fn has_any(&self, first: usize) -> bool
+        requires { first + 8 ≤ 128 }
+        ensures { result ≡ list_any (λ k. is_some (left_in self.now k)) (range_with_len first 8) }
+    {
+        let mut any = false;
+        for at in 0..8usize {
+            any |= self.stands(first + at);
+        }
+        any
     }
 
     /// Takes an item out of the list in which it stands, if it stands in one.
@@ -193,16 +206,6 @@ impl Differences {
         }
     }
 
-    /// Adds to a digest the ticks left of all items that stand in a list, whatever the order of those with equal ticks left.
-    pub fn add_to(&self, digest: &mut Digest)
-        ensures sum { digest.new ≡ added_below (list_mixed self.now) 8 digest.old }
-        ensures disjoint { AreDisjoint self.now }
-    {
-        for list in 0..8usize {
-            digest.add(mixed(&self.links, &self.more, list));
-        }
-    }
-
     /// The least ticks left in a list.
     pub fn next(&self, list: usize) -> Option<u64>
         requires { list < 8 }
@@ -273,38 +276,6 @@ impl Differences {
         }
         marks
     }
-}
-
-/// The number of an item with so many ticks left.
-fn mix(item: usize, ticks: u64) -> u64
-    ensures { result ≡ mix item ticks }
-{
-    let mut digest = Digest::new();
-    digest.add(ticks << 7 ^ item as u64);
-    digest.value()
-}
-
-/// A number made of the ticks left of all items of a list, whatever the order of those with equal ticks left.
-fn mixed(links: &Links<136, 128>, more: &[u64; 128], list: usize) -> u64
-    requires list_in { list < 8 }
-    requires bound { sum_of (slice_index more.now) (lists.list_at links.now list) < 2 ^ 64 }
-    ensures sum { result ≡ (list + mixed_in (entries_from (slice_index more.now) 0 (lists.list_at links.now list))) % 2 ^ 64 }
-    ensures disjoint { lists.AreDisjoint 128 links.now }
-{
-    let mut here = links.first(list);
-    let mut ticks = 0;
-    let mut mixed = list as u64;
-    for _ in 0..128usize {
-        match here {
-            Some(item) => {
-                ticks += more[item];
-                mixed = mixed.wrapping_add(mix(item, ticks));
-                here = links.next(item);
-            }
-            None => return mixed,
-        }
-    }
-    mixed
 }
 
 /// The first item of a list that adds something.

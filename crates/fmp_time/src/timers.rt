@@ -1,10 +1,9 @@
 //! The timers. The kernel does not call `tick`, which is this part's own surface: the rule of a tick
 //! stands in `fmp_rules/specs`.
-ghost use Rattle.std.specs.Prelude.{◌≡◌, ◌<◌, ◌++◌, None, [], false, true, filter, is_some, IfOk};
-ghost use Rattle.std.specs.List.{flat_map};
+ghost use Rattle.std.specs.Prelude.{◌≡◌, ◌+◌, ◌<◌, ◌≤◌, ◌++◌, None, [], false, true, filter, is_some, IfOk};
+ghost use Rattle.std.specs.List.{flat_map, range_with_len};
 ghost use Rattle.std.specs.Option.{option_map};
 ghost use Rattle.fmp_time.specs.declared.item.Item.{Item as AnyItem};
-ghost use Rattle.fmp_time.specs.Mixed.{added_times};
 ghost use Rattle.fmp_time.specs.Left.{is_over, ticks_of};
 ghost use Rattle.fmp_time.specs.Times.{wait_of, alarm_of, cyclic_of, all_objects, left_of, armed, cancelled, moved_to, renewed, lowered, ticked, served, began, ended};
 ghost use Rattle.fmp_time.specs.Times.{IsLeastOn, AreWaits, no_times};
@@ -17,7 +16,7 @@ use crate::words::add_left;
 use arrayvec::ArrayVec;
 use fmp_codes::{Object, Proc, Task};
 use fmp_interned::Words;
-use fmp_kernel_parts::{Digest, Part, TaskList};
+use fmp_kernel_parts::{Part, TaskList};
 use std::alloc::AllocError;
 use std::marker::Model;
 
@@ -206,12 +205,26 @@ impl Timers {
         Ok(())
     }
 
+    /// Adds what tells those of eight items from a place on that count. Where none of them does, no place is asked by itself.
+    fn add_eight(&self, words: &mut Words, first: usize) -> Result<(), AllocError>
+        requires { first + 8 ≤ 128 }
+        ensures { IfOk result (λ done. words.new ≡ words.old ++ flat_map (words_at self.now) (range_with_len first 8)) }
+    {
+        if !self.differences.has_any(first) {
+            return Ok(());
+        }
+        for at in 0..8usize {
+            self.add_item(words, first + at)?;
+        }
+        Ok(())
+    }
+
     /// Adds what tells the alarms and then the cyclics that count, by number.
     fn add_handlers(&self, words: &mut Words) -> Result<(), AllocError>
         ensures { IfOk result (λ done. words.new ≡ words.old ++ flat_map (words_at self.now) handler_places) }
     {
-        for place in 64..128usize {
-            self.add_item(words, place)?;
+        for group in 0..8usize {
+            self.add_eight(words, 64 + 8 * group)?;
         }
         Ok(())
     }
@@ -254,8 +267,6 @@ impl Timers {
 impl Part for Timers {
     ghost fits = { λ a b. Unit {0} };
 
-    ghost digested = { λ m sum. added_times m sum };
-
     fn is_same(&self, other: &Self) -> bool {
         self.waits.is_same(&other.waits) && self.differences.has_same_lefts(&other.differences)
     }
@@ -263,11 +274,6 @@ impl Part for Timers {
     fn copy_from(&mut self, other: &Self) {
         self.differences.copy_from(&other.differences);
         self.waits.copy_from(&other.waits);
-    }
-
-    fn add_to(&self, digest: &mut Digest) {
-        self.differences.add_to(digest);
-        self.waits.add_to(digest);
     }
 }
 

@@ -17,7 +17,7 @@ ghost use Rattle.fmp_waitq.specs.Kept.{spot_in, rank_in};
 
 use arrayvec::ArrayVec;
 use fmp_codes::{Pri, Task};
-use fmp_kernel_parts::{Digest, Part, TaskList};
+use fmp_kernel_parts::{Digest, Part, TaskList, ToDigest};
 use fmp_rules::Order;
 use std::marker::Model;
 
@@ -121,8 +121,6 @@ impl WaitQueue {
 impl Part for WaitQueue {
     ghost fits = { λ a b. Unit {0} };
 
-    ghost digested = { λ q sum. added_waiters q.waiters sum };
-
     fn is_same(&self, other: &Self) -> bool {
         self.order == other.order
             && (self.tasks.are_empty(&other.tasks)
@@ -136,6 +134,10 @@ impl Part for WaitQueue {
             self.ranks = other.ranks;
         }
     }
+}
+
+impl ToDigest for WaitQueue {
+    ghost digested = { λ q sum. added_waiters q.waiters sum };
 
     /// Adds the tasks, which tell their ranks.
     fn add_to(&self, digest: &mut Digest) {

@@ -1,6 +1,6 @@
 use Rattle.std.proofs.Common.{ap, sym, ◌∙◌}
 use Rattle.fmp_kernel_objects.specs.declared.resources.Resources.TheInside.{Inside}
-use Rattle.fmp_kernel_objects.specs.Digests.{queues_in}
+use Rattle.fmp_kernel_objects.specs.Rows.{queues_in}
 use Rattle.fmp_kernel_objects.proofs.Columns.{queues_told}
 use Rattle.fmp_kernel_objects.proofs.resources.Resources.data_queues.Goals as goal
 

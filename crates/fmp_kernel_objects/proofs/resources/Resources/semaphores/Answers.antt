@@ -1,6 +1,6 @@
 use Rattle.std.proofs.Common.{ap, sym, ◌∙◌}
 use Rattle.fmp_kernel_objects.specs.declared.resources.Resources.TheInside.{Inside}
-use Rattle.fmp_kernel_objects.specs.Digests.{semaphores_in}
+use Rattle.fmp_kernel_objects.specs.Rows.{semaphores_in}
 use Rattle.fmp_kernel_objects.proofs.Columns.{semaphores_told}
 use Rattle.fmp_kernel_objects.proofs.resources.Resources.semaphores.Goals as goal
 

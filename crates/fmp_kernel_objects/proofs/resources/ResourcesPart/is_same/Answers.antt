@@ -1,5 +1,5 @@
 use Rattle.std.proofs.Common.{◌≡◌, ap, sym, ◌∙◌, rules}
-use Rattle.fmp_kernel_objects.specs.Digests.{semaphores_in, eventflags_in, queues_in, pools_in}
+use Rattle.fmp_kernel_objects.specs.Rows.{semaphores_in, eventflags_in, queues_in, pools_in}
 use Rattle.fmp_kernel_objects.proofs.Columns.{semaphores_told, eventflags_told, queues_told, pools_told}
 use Rattle.fmp_kernel_objects.proofs.resources.ResourcesPart.is_same.Goals as goal
 use Rattle.fmp_kernel_objects.proofs.resources.ResourcesPart.is_same.Goals.{After-other}

@@ -4,7 +4,7 @@ use Rattle.fmp_rules.specs.declared.machine.Eventflag.{Eventflag}
 use Rattle.fmp_rules.specs.declared.machine.Pool.{Pool}
 use Rattle.fmp_rules.specs.declared.machine.Semaphore.{Semaphore}
 use Rattle.fmp_waitq.specs.Queue.{Waiter}
-use Rattle.fmp_kernel_objects.specs.Digests.{semaphores_in, eventflags_in, queues_in, pools_in}
+use Rattle.fmp_kernel_objects.specs.Rows.{semaphores_in, eventflags_in, queues_in, pools_in}
 use Rattle.fmp_kernel_objects.specs.Objects.{objects_of, AreAlike, AllObjects}
 use Rattle.fmp_kernel_order.specs.Queues.{Queues}
 use Rattle.fmp_rules.specs.World.{World}

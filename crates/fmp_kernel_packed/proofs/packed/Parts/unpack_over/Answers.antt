@@ -1,7 +1,7 @@
 use Rattle.std.proofs.Common.{◌∙◌, ℕ, List, ap, subst, sym}
 use Rattle.std.specs.Prelude.{Some}
 use Rattle.fmp_interned.specs.Chains.{HasChain}
-use Rattle.fmp_kernel_machine.specs.Digests.{assignments_in}
+use Rattle.fmp_kernel_machine.specs.Parts.{assignments_in}
 use Rattle.fmp_kernel_objects.specs.Objects.{objects_of}
 use Rattle.fmp_kernel_packed.proofs.Unpacking.{alike_still, counted, has_chain, in_step, processors_still, room_taken, unpacks, whole}
 use Rattle.fmp_kernel_packed.proofs.packed.Parts.unpack_over.Goals as goal

@@ -1,12 +1,11 @@
--- All objects of a kind out of their columns, and what a digest is after they were added.
-use Rattle.std.specs.Prelude.{ℕ, ℤ, List, [], ◌∷◌}
+-- All objects of a kind out of their columns.
+use Rattle.std.specs.Prelude.{ℤ, List, [], ◌∷◌}
 use Rattle.fmp_setup.specs.declared.setup.DataQueueSetup.{DataQueueSetup}
 use Rattle.fmp_waitq.specs.Queue.{Waiter}
-use Rattle.fmp_kernel_parts.specs.Digests.{added_all}
-use Rattle.fmp_sem.specs.Semaphores.{SemaphoreState, added_semaphore}
-use Rattle.fmp_flag.specs.Eventflags.{EventflagState, added_eventflag}
-use Rattle.fmp_dtq.specs.DataQueue.{DataQueue, added_queue}
-use Rattle.fmp_mpf.specs.MemoryPool.{MemoryPool, added_pool}
+use Rattle.fmp_sem.specs.Semaphores.{SemaphoreState}
+use Rattle.fmp_flag.specs.Eventflags.{EventflagState}
+use Rattle.fmp_dtq.specs.DataQueue.{DataQueue}
+use Rattle.fmp_mpf.specs.MemoryPool.{MemoryPool}
 use Rattle.fmp_kernel_objects.specs.Objects.{AllObjects}
 
 -- of two columns each row
@@ -36,9 +35,3 @@ queues_in a = rows_of with_receivers (rows_of with_senders (rows_of with_values 
 
 abbrev pub pools_in : AllObjects → List MemoryPool
 pools_in a = rows_of (λ m es. record { pool = m; waiters = es }) a.pools a.waits.pools
-
--- what a digest is after all objects were added
-unfoldable pub added_objects : AllObjects → ℕ → ℕ
-added_objects a sum =
-    added_all added_pool (pools_in a)
-    (added_all added_queue (queues_in a) (added_all added_eventflag (eventflags_in a) (added_all added_semaphore (semaphores_in a) sum)))

@@ -1,16 +1,9 @@
--- What a digest is after a state of the kernel was added.
-use Rattle.std.specs.Prelude.{ℕ}
+-- The parts of a state of the kernel.
 use Rattle.fmp_rules.specs.World.{World}
 use Rattle.fmp_kernel_order.specs.Queues.{Queues}
-use Rattle.fmp_kernel_parts.specs.Digests.{added_all}
-use Rattle.fmp_kernel_same.specs.Digests.{added_option, added_proc}
-use Rattle.fmp_ready.specs.Queues.{added_lists}
-use Rattle.fmp_dispatch.specs.Dispatching.{Dispatching, added_dispatching}
+use Rattle.fmp_dispatch.specs.Dispatching.{Dispatching}
 use Rattle.fmp_kernel_assigned.specs.Assignments.{Assignments, assignments_of}
 use Rattle.fmp_time.specs.Times.{Times}
-use Rattle.fmp_kernel_assigned.specs.Telling.{added_assignments}
-use Rattle.fmp_kernel_objects.specs.Objects.{objects_of}
-use Rattle.fmp_kernel_objects.specs.Digests.{added_objects}
 
 abbrev pub assignments_in : World Queues → Assignments
 assignments_in w = record {
@@ -37,8 +30,3 @@ with_times w m =
       alarms_left = a.alarms_left;
       order = record w.order { timed = a.timed };
     }
-
-unfoldable pub added_world : World Queues → ℕ → ℕ
-added_world w sum =
-    added_all (added_option added_proc) w.holders
-    (added_objects (objects_of w) (added_lists w.order.ready (added_dispatching (dispatching_in w) (added_assignments (assignments_in w) sum))))

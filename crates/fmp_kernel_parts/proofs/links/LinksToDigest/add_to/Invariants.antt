@@ -1,6 +1,6 @@
 use Rattle.std.proofs.Common.{◌≡◌}
 use Rattle.fmp_kernel_parts.specs.Digests.{added_items}
-use Rattle.fmp_kernel_parts.proofs.links.LinksPart.add_to.Given as goal
+use Rattle.fmp_kernel_parts.proofs.links.LinksToDigest.add_to.Given as goal
 
 -- the items so far are added
 abbrev pub invariant-loop-item : goal.invariant-loop-item

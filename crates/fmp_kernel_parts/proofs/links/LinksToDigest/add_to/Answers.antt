@@ -2,8 +2,8 @@ use Rattle.std.proofs.Common.{◌≡◌, sym, ap, ◌∙◌, subst}
 use Rattle.fmp_kernel_parts.specs.Rings.{IsSound}
 use Rattle.fmp_kernel_parts.specs.Digests.{added_item}
 use Rattle.fmp_kernel_parts.proofs.Digests.{item_added_as, item_left, items_none, items_more}
-use Rattle.fmp_kernel_parts.proofs.links.LinksPart.add_to.Goals as goal
-use Rattle.fmp_kernel_parts.proofs.links.LinksPart.add_to.Goals.{then-self-item-ne0, else-self-item-ne0}
+use Rattle.fmp_kernel_parts.proofs.links.LinksToDigest.add_to.Goals as goal
+use Rattle.fmp_kernel_parts.proofs.links.LinksToDigest.add_to.Goals.{then-self-item-ne0, else-self-item-ne0}
 
 pub loop-item-init : goal.loop-item-init
 loop-item-init g c = sym (items_none g.row.ITEMS c.args.self.now c.args.digest.now)

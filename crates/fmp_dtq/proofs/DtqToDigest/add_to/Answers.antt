@@ -4,7 +4,7 @@ use Rattle.fmp_kernel_parts.specs.Digests.{added_all}
 use Rattle.fmp_kernel_parts.proofs.Digests.{all_parted}
 use Rattle.fmp_waitq.specs.Queue.{added_waiters}
 use Rattle.fmp_dtq.specs.DataQueue.{DataQueue, added_value, added_queue}
-use Rattle.fmp_dtq.proofs.DtqPart.add_to.Goals as goal
+use Rattle.fmp_dtq.proofs.DtqToDigest.add_to.Goals as goal
 
 pub returns : goal.returns
 returns c =

@@ -3,7 +3,7 @@ use Rattle.fmp_codes.specs.declared.numbers.Task.{Task}
 use Rattle.fmp_kernel_parts.specs.Digests.{added_all, added_task}
 use Rattle.fmp_waitq.specs.Queue.{Queue, added_waiters}
 use Rattle.fmp_waitq.proofs.Waiters.{map-task_of}
-use Rattle.fmp_waitq.proofs.WaitQueuePart.add_to.Goals as goal
+use Rattle.fmp_waitq.proofs.WaitQueueToDigest.add_to.Goals as goal
 
 pub returns : goal.returns
 returns c =

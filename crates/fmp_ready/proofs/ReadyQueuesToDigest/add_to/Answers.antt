@@ -2,7 +2,7 @@ use Rattle.std.proofs.Common.{List, ℕ, sym, ap, ◌∙◌}
 use Rattle.fmp_kernel_parts.specs.Digests.{added_items}
 use Rattle.fmp_ready.specs.Queues.{PriorityLists, items_in, added_lists}
 use Rattle.fmp_ready.proofs.Tasks.{items_told}
-use Rattle.fmp_ready.proofs.ReadyQueuesPart.add_to.Goals as goal
+use Rattle.fmp_ready.proofs.ReadyQueuesToDigest.add_to.Goals as goal
 
 pub returns : goal.returns
 unfolding added_lists

@@ -3,7 +3,7 @@ use Rattle.fmp_codes.specs.declared.numbers.Task.{Task}
 use Rattle.fmp_kernel_parts.specs.Digests.{added, added_all, added_task}
 use Rattle.fmp_kernel_parts.specs.Lists.{first_of}
 use Rattle.fmp_kernel_parts.proofs.Walking.{part, left_over}
-use Rattle.fmp_kernel_parts.proofs.task_list.TaskListPart.add_to.Goals as goal
+use Rattle.fmp_kernel_parts.proofs.task_list.TaskListToDigest.add_to.Goals as goal
 
 pub loop-preserved : goal.loop-preserved
 loop-preserved c =
