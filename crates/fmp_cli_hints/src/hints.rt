@@ -8,14 +8,14 @@ ghost use Rattle.fmp_names.specs.Names.{names_of};
 
 use crate::rows::{CALL_ROWS, FIELD_ROWS, FIRST_ROWS, JUMP_ROWS, foreign_words, report_of};
 use crate::wanted::Wanted;
-use crate::way::is_code;
 use fmp_bytes::{Class, spelled_number, split_prefix};
 use fmp_calls::find_call;
 use fmp_cli_help::{is_left_out, near_answer, near_call, nearer, put_left_out};
-use fmp_codes::{ArgumentKind, NameKind, ObjectKind};
+use fmp_codes::{ArgumentKind, Code, NameKind, ObjectKind};
 use fmp_names::is_processor_word;
 use fmp_out::Text;
 use fmp_text::{Names, is_name, value_at};
+use fmp_text_scripts::Wanted as ScriptWanted;
 use itoa::Buffer;
 use std::alloc::{AllocError, Global};
 
@@ -36,7 +36,7 @@ fn is_maker(names: &Names, word: &[u8]) -> bool {
 /// What is told of one where a line has none, after it.
 fn maker_words(wanted: Wanted) -> &'static [u8] {
     match wanted {
-        Wanted::Step => {
+        Wanted::Script(_) => {
             b" is to be left out: a step of a script is the call alone, as `act_tsk(T1)`, and who runs the script makes it\n"
         }
         _ =>
@@ -102,7 +102,7 @@ fn put_call_hint(
     } else if text.starts_with(b" ") {
         out.put(BLANK);
     } else {
-        let may_be_label = matches!(wanted, Wanted::Step) && rest.is_empty();
+        let may_be_label = matches!(wanted, Wanted::Script(_)) && rest.is_empty();
         put_other_hint(alloc, out, word, may_be_label)?;
     }
     Ok(())
@@ -271,6 +271,16 @@ fn put_function_hint(out: &mut Text, names: &Names, word: &[u8]) {
     }
 }
 
+/// Whether a word is the name of a code.
+fn is_code(word: &[u8]) -> bool {
+    for code in &Code::ALL {
+        if code.name().as_bytes() == word {
+            return true;
+        }
+    }
+    false
+}
+
 /// Adds the code that may be meant by a word, if one is near.
 fn put_code_hint(alloc: Global, out: &mut Text, word: &[u8]) -> Result<(), AllocError> {
     match near_answer(alloc, word)? {
@@ -314,7 +324,9 @@ pub(crate) fn put_hint(
 ) -> Result<(), AllocError> {
     let (word, _rest) = split_prefix(Class::Word, text);
     match wanted {
-        Wanted::Happening | Wanted::Step => put_call_hint(alloc, out, names, wanted, text)?,
+        Wanted::Happening | Wanted::Script(ScriptWanted::Step) => {
+            put_call_hint(alloc, out, names, wanted, text)?;
+        }
         Wanted::Jumps => out.put(report_of(&JUMP_ROWS, word)),
         Wanted::Runner if is_event(word) => out.put(RUNNER),
         Wanted::LineNumber(_) | Wanted::Processor if text.starts_with(b"#") => out.put(NO_COMMENT),
@@ -325,9 +337,9 @@ pub(crate) fn put_hint(
             let (word, _rest) = split_prefix(Class::Argument, text);
             put_argument_hint(alloc, out, names, kind, word)?;
         }
-        Wanted::Function => put_function_hint(out, names, word),
-        Wanted::Answered => put_code_hint(alloc, out, word)?,
-        Wanted::Goal if is_other_answer(text, word) => out.put(ONE_ANSWER),
+        Wanted::Script(ScriptWanted::Function) => put_function_hint(out, names, word),
+        Wanted::Script(ScriptWanted::Answered) => put_code_hint(alloc, out, word)?,
+        Wanted::Script(ScriptWanted::Goal) if is_other_answer(text, word) => out.put(ONE_ANSWER),
         Wanted::LineByte | Wanted::PrintedByte => out.put(foreign_words(text)),
         _ => {}
     }

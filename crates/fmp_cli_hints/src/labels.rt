@@ -5,39 +5,12 @@ ghost use Rattle.fmp_cli_help.specs.Near.{nearest};
 
 use crate::hints::put_near;
 use crate::wanted::Wanted;
-use fmp_bytes::{Class, cut, following, skip, split_prefix};
+use fmp_bytes::cut;
 use fmp_cli_help::nearer;
 use fmp_out::Text;
+use fmp_text::Names;
+use fmp_text_scripts::{Name, Said, Wanted as ScriptWanted, said_in};
 use std::alloc::{AllocError, Global};
-use std::marker::Model;
-
-/// The name of a label, as it stands in the text.
-#[derive(Drop)]
-struct Name<'t> {
-    text: &'t [u8],
-}
-
-impl<'t> Model for Name<'t> {
-    ghost use Rattle.std.specs.Prelude.{ℕ, List};
-
-    ghost Value = { List ℕ };
-
-    ghost view = { λ n. n.text.now };
-}
-
-impl<'t> Name<'t> {
-    /// The bytes of the name.
-    fn text(&self) -> &'t [u8]
-        ensures { result.now ≡ self.now }
-    {
-        self.text
-    }
-
-    /// Whether two names have the same bytes.
-    fn is_same(&self, other: &Name<'_>) -> bool {
-        self.text == other.text
-    }
-}
 
 /// The line of this number jumps to the label of this name.
 #[derive(Drop)]
@@ -46,54 +19,10 @@ struct Jump<'t> {
     name: Name<'t>,
 }
 
-/// The name in a line that is a label.
-fn label_of(line: &[u8]) -> Option<&[u8]> {
-    let (name, rest) = split_prefix(Class::Word, skip(Class::Blank, line));
-    match following(b':', skip(Class::Blank, rest)) {
-        Some(_) => Some(name),
-        None => None,
-    }
-}
-
-/// The name after `goto`, where a text begins with that.
-fn goal_of(text: &[u8]) -> Option<&[u8]> {
-    let (word, rest) = split_prefix(Class::Word, skip(Class::Blank, text));
-    if word != b"goto".as_slice() {
-        return None;
-    }
-    let (name, _rest) = split_prefix(Class::Word, skip(Class::Blank, rest));
-    Some(name)
-}
-
-/// What follows an answer: a word, or a word with a value after its colon.
-fn after_answer(text: &[u8]) -> &[u8] {
-    let rest = skip(Class::Word, skip(Class::Blank, text));
-    match following(b':', rest) {
-        Some(value) => skip(Class::Argument, value),
-        None => rest,
-    }
-}
-
-/// The name of the label in a line that is a jump.
-fn jump_of(line: &[u8]) -> Option<&[u8]> {
-    let (word, rest) = split_prefix(Class::Word, skip(Class::Blank, line));
-    if word == b"on".as_slice() {
-        goal_of(after_answer(rest))
-    } else {
-        goal_of(line)
-    }
-}
-
-/// Whether a line begins a script.
-fn is_head(line: &[u8]) -> bool {
-    let (word, _rest) = split_prefix(Class::Word, skip(Class::Blank, line));
-    word == b"script".as_slice()
-}
-
 /// Whether one of these labels has this name.
 fn has_label(labels: &[Name<'_>], name: &Name<'_>) -> bool {
     for label in labels {
-        if label.is_same(name) {
+        if label.text() == name.text() {
             return true;
         }
     }
@@ -141,37 +70,30 @@ impl<'t> Marks<'t> {
         }
     }
 
-    /// Adds a label, if there is one.
-    fn add_label(&mut self, label: Option<&'t [u8]>) -> Result<(), AllocError> {
-        if let Some(text) = label {
-            self.labels.push(Name { text })?;
+    /// Takes in a line of this number: one that ends a script leaves nothing of those before it.
+    fn take_in(&mut self, names: &Names, number: u32, line: &'t [u8]) -> Result<(), AllocError> {
+        match said_in(names, true, line) {
+            Ok(Some(Said::Stands(name))) => self.labels.push(name)?,
+            Ok(Some(Said::Jumps(_, name))) => {
+                self.jumps.push(Jump { line: number, name })?;
+            }
+            Ok(Some(Said::Closes)) => {
+                self.labels.clear();
+                self.jumps.clear();
+            }
+            _ => {}
         }
         Ok(())
-    }
-
-    /// Adds a jump in the line of this number, if there is one.
-    fn add_jump(&mut self, line: u32, goal: Option<&'t [u8]>) -> Result<(), AllocError> {
-        if let Some(text) = goal {
-            let name = Name { text };
-            self.jumps.push(Jump { line, name })?;
-        }
-        Ok(())
-    }
-
-    /// Takes in a line of this number: one that begins a script leaves nothing of those before it.
-    fn take_in(&mut self, number: u32, line: &'t [u8]) -> Result<(), AllocError> {
-        if is_head(line) {
-            self.labels.clear();
-            self.jumps.clear();
-            return Ok(());
-        }
-        self.add_label(label_of(line))?;
-        self.add_jump(number, jump_of(line))
     }
 }
 
 /// The labels and the jumps of the script that the lines before this one leave open.
-fn marks_before<'t>(alloc: Global, line: u32, text: &'t [u8]) -> Result<Marks<'t>, AllocError> {
+fn marks_before<'t>(
+    alloc: Global,
+    names: &Names,
+    line: u32,
+    text: &'t [u8],
+) -> Result<Marks<'t>, AllocError> {
     let mut marks = Marks::new(alloc);
     let mut rest = Some(text);
     for number in 1..line {
@@ -179,7 +101,7 @@ fn marks_before<'t>(alloc: Global, line: u32, text: &'t [u8]) -> Result<Marks<'t
             return Ok(marks);
         };
         let (own, after) = cut(b'\n', lines);
-        marks.take_in(number, own)?;
+        marks.take_in(names, number, own)?;
         rest = after;
     }
     Ok(marks)
@@ -211,13 +133,14 @@ fn put_without_label(alloc: Global, out: &mut Text, marks: &Marks<'_>) -> Result
 pub(crate) fn put_label_hint(
     alloc: Global,
     out: &mut Text,
+    names: &Names,
     line: u32,
     text: &[u8],
     wanted: Option<Wanted>,
 ) -> Result<(), AllocError> {
     match wanted {
-        Some(Wanted::Labels) => {
-            let marks = marks_before(alloc, line, text)?;
+        Some(Wanted::Script(ScriptWanted::Labels)) => {
+            let marks = marks_before(alloc, names, line, text)?;
             put_without_label(alloc, out, &marks)
         }
         _ => Ok(()),

@@ -1,8 +1,8 @@
 //! What stands beside a fault line: the line of the text, a caret under the first byte at fault, and what is wanted there.
 //!
-//! A [`Walk`] is how far a line is read. In a line of events the reader itself says where it refuses (`event_or_misfit`), and that is the place
-//! (`specs/Places`); the law `places_are_in_their_lines` says that it is in that line. [`text_spot`] is the place of the caret as numbers: of a fault of
-//! events it is that place (`specs/Texts`). A near name is a nearest one (`specs/Hints`, `specs/Things`).
+//! A [`Walk`] is how far a line is read. In a line of events or scripts the reader itself says where it refuses (`event_or_misfit`, `line_misfit`), and
+//! that is the place (`specs/Places`, `specs/Scripts`); the law `places_are_in_their_lines` says that it is in that line. [`text_spot`] is the place of the
+//! caret as numbers: of a fault of events or scripts it is that place (`specs/Texts`). A near name is a nearest one (`specs/Hints`, `specs/Things`).
 //!
 //! The texts that are told, the places in the lines of other texts, and that the caret there is where the reader refuses are only tested. Begin at
 //! [`text_context`]. What stands beside a fault of a configuration is `fmp_cli_hints_config`, and of a question `fmp_cli_hints_question`.
@@ -17,12 +17,12 @@ mod likeness;
 mod line;
 mod partial;
 mod rows;
+mod script;
 mod text;
 mod things;
 mod trace;
 mod walk;
 mod wanted;
-mod way;
 
 pub use event::event_place;
 pub use excerpt::{put_excerpt, put_line};

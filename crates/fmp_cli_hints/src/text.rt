@@ -1,7 +1,6 @@
 //! What stands beside a fault line of events, scripts or a trace.
-ghost use Rattle.std.specs.Prelude.{◌≡◌, IfOk};
+ghost use Rattle.std.specs.Prelude.{◌≡◌, true, IfOk};
 ghost use Rattle.std.specs.Option.{option_copied};
-ghost use Rattle.fmp_cli_hints.specs.declared.text.TextForm.TheVariants.{Events};
 ghost use Rattle.fmp_cli_hints.specs.Texts as spec;
 
 use crate::event::{column_of, event_place};
@@ -11,17 +10,17 @@ use crate::labels::put_label_hint;
 use crate::likeness::{put_text_likeness, without_mark};
 use crate::line::line_after;
 use crate::partial::partial_place;
+use crate::script::script_place;
 use crate::trace::trace_place;
-use crate::walk::{Walk, ending};
+use crate::walk::Walk;
 use crate::wanted::{Wanted, put_wanted};
-use crate::way::{barred_place, line_place, word_place};
-use fmp_bytes::{Class, all_of, is_identifier, skip, split_prefix};
-use fmp_calls::find_call;
+use fmp_bytes::{Class, skip, split_prefix};
 use fmp_cli_diagnostics::Spot;
 use fmp_cli_help::put_text_advice;
 use fmp_codes::{ArgumentKind, ObjectKind};
 use fmp_out::Text;
-use fmp_text::{Names, TextFault, TextKind, call_after, without_return};
+use fmp_text::{Names, TextFault, TextKind, without_return};
+use fmp_text_scripts::Wanted as ScriptWanted;
 use std::alloc::{AllocError, Global};
 
 /// The texts that are read beside a configuration.
@@ -34,50 +33,7 @@ pub enum TextForm {
     Partial,
 }
 
-/// A function's name, or what stands after it.
-fn function_place<'a>(text: &'a [u8]) -> Walk<'a> {
-    let (name, rest) = split_prefix(Class::Word, text);
-    if is_identifier(name) && !all_of(Class::Blank, rest) {
-        Walk::stuck(skip(Class::Blank, rest), Wanted::LineEnd)
-    } else {
-        Walk::stuck(text, Wanted::Function)
-    }
-}
-
-/// How far a line of a script fits, by its first word.
-pub(crate) fn step_place<'a>(names: &Names, text: &'a [u8]) -> Walk<'a> {
-    let (word, rest) = split_prefix(Class::Word, text);
-    if word == b"script".as_slice() {
-        return function_place(skip(Class::Blank, rest));
-    }
-    if word == b"end".as_slice() {
-        return ending(Wanted::LineEnd, rest);
-    }
-    let Some(call) = find_call(word) else {
-        return Walk::stuck(text, Wanted::Step);
-    };
-    match call_after(names, call, rest) {
-        Ok(_call) => Walk::going(&[]),
-        Err(misfit) => Walk::refused(misfit),
-    }
-}
-
-/// Where a line of a script text is at fault, by the kind of the fault.
-fn script_place<'a>(names: &Names, line: &'a [u8], kind: TextKind) -> Walk<'a> {
-    match kind {
-        TextKind::BadByte => barred_place(line),
-        TextKind::UnknownName | TextKind::WrongArguments => {
-            line_place(names, false, skip(Class::Blank, line))
-        }
-        TextKind::NumberOutOfRange => line_place(names, true, skip(Class::Blank, line)),
-        TextKind::BadWord => word_place(skip(Class::Blank, line)),
-        TextKind::CutShort | TextKind::TooMany | TextKind::Memory => {
-            Walk::going(skip(Class::Blank, line))
-        }
-    }
-}
-
-/// Where a line with this fault is at fault that ends with a line feed.
+/// Where a line with this fault is at fault that ends with a line feed, with a carriage return before it or not.
 fn whole_place<'a>(
     alloc: Global,
     names: &Names,
@@ -85,14 +41,17 @@ fn whole_place<'a>(
     line: &'a [u8],
     fault: TextFault,
 ) -> Result<Walk<'a>, AllocError>
-    ensures { IfOk result (λ walk. form ≡ Events → walk ≡ spec.whole_place names.now line.now fault.kind) }
+    ensures { IfOk result (λ walk. spec.is_told form ≡ true → walk ≡ spec.whole_place form names.now line.now fault.kind) }
 {
-    match (form, fault.kind) {
-        (TextForm::Events, TextKind::TooMany) => Ok(Walk::going(skip(Class::Blank, line))),
-        (TextForm::Events, _) => Ok(event_place(names, line)),
-        (TextForm::Scripts, kind) => Ok(script_place(names, line, kind)),
-        (TextForm::Trace, kind) => trace_place(alloc, names, fault.line, line, kind),
-        (TextForm::Partial, kind) => partial_place(alloc, names, fault.line, line, kind),
+    let whole = without_return(line);
+    match form {
+        TextForm::Events if fault.kind == TextKind::TooMany => {
+            Ok(Walk::going(skip(Class::Blank, whole)))
+        }
+        TextForm::Events => Ok(event_place(names, line)),
+        TextForm::Scripts => Ok(script_place(names, line, fault.kind)),
+        TextForm::Trace => trace_place(alloc, names, fault.line, whole, fault.kind),
+        TextForm::Partial => partial_place(alloc, names, fault.line, whole, fault.kind),
     }
 }
 
@@ -105,7 +64,7 @@ fn place<'a>(
     after: Option<&[u8]>,
     fault: TextFault,
 ) -> Result<Walk<'a>, AllocError>
-    ensures { IfOk result (λ walk. form ≡ Events → walk ≡ spec.place names.now line.now (option_copied after.entry) fault.kind) }
+    ensures { IfOk result (λ walk. spec.is_told form ≡ true → walk ≡ spec.place form names.now line.now (option_copied after.entry) fault.kind) }
 {
     match after {
         None => Ok(Walk::going(&[])),
@@ -143,11 +102,11 @@ fn report_line(
 ) -> Result<Vec<u8>, AllocError> {
     let whole = without_return(line);
     let shown = without_mark(whole);
-    let walk = place(alloc, names, form, whole, after, fault)?;
+    let walk = place(alloc, names, form, line, after, fault)?;
     let mut out = Text::new(alloc);
     put_excerpt(&mut out, shown, column_of(shown, &walk));
     put_report(alloc, &mut out, names, &walk, fault.kind)?;
-    put_label_hint(alloc, &mut out, fault.line, text, walk.wanted())?;
+    put_label_hint(alloc, &mut out, names, fault.line, text, walk.wanted())?;
     put_text_likeness(&mut out, form, fault.kind, line);
     out.finish()
 }
@@ -188,11 +147,10 @@ fn line_spot(
     line: &[u8],
     after: Option<&[u8]>,
 ) -> Result<Spot, AllocError>
-    ensures { IfOk result (λ spot. form ≡ Events → spot ≡ spec.line_spot names.now fault line.now (option_copied after.entry)) }
+    ensures { IfOk result (λ spot. spec.is_told form ≡ true → spot ≡ spec.line_spot form names.now fault line.now (option_copied after.entry)) }
 {
-    let whole = without_return(line);
-    let walk = place(alloc, names, form, whole, after, fault)?;
-    let column = column_of(without_mark(whole), &walk);
+    let walk = place(alloc, names, form, line, after, fault)?;
+    let column = column_of(without_mark(without_return(line)), &walk);
     Ok(Spot::Column(fault.line as usize, column + 1))
 }
 
@@ -206,7 +164,7 @@ pub fn text_spot(
     text: &[u8],
     fault: TextFault,
 ) -> Result<Spot, AllocError>
-    ensures { IfOk result (λ spot. form ≡ Events → spot ≡ spec.text_spot names.now text.now fault) }
+    ensures { IfOk result (λ spot. spec.is_told form ≡ true → spot ≡ spec.text_spot form names.now text.now fault) }
 {
     if fault.line == 0 {
         return Ok(Spot::Nowhere);
@@ -220,7 +178,7 @@ pub fn text_spot(
 /// The word that stands where a function is wanted.
 fn word_for_function<'a>(walk: Walk<'a>) -> Option<&'a [u8]> {
     match walk.wanted() {
-        Some(Wanted::Function) => {
+        Some(Wanted::Script(ScriptWanted::Function)) => {
             let (word, _rest) = split_prefix(Class::Word, walk.rest());
             Some(word)
         }
@@ -253,7 +211,7 @@ pub fn task_at<'a>(
     let Some((line, after)) = line_after(fault.line - 1, text) else {
         return Ok(None);
     };
-    let walk = place(alloc, names, form, without_return(line), after, fault)?;
+    let walk = place(alloc, names, form, line, after, fault)?;
     Ok(word_for_task(walk))
 }
 
@@ -270,13 +228,6 @@ pub fn function_at<'a>(
     let Some((line, after)) = line_after(fault.line - 1, text) else {
         return Ok(None);
     };
-    let walk = place(
-        alloc,
-        names,
-        TextForm::Scripts,
-        without_return(line),
-        after,
-        fault,
-    )?;
+    let walk = place(alloc, names, TextForm::Scripts, line, after, fault)?;
     Ok(word_for_function(walk))
 }

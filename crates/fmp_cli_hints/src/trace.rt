@@ -5,7 +5,7 @@ ghost use Rattle.fmp_bytes.specs.Bytes.{cut_at};
 
 use crate::partial::is_told;
 use crate::walk::Walk;
-use crate::wanted::{Wanted, wanted_of};
+use crate::wanted::{Wanted, event_wanted};
 use fmp_bytes::{Class, cut, following, skip, split_prefix};
 use fmp_calls::{find_call, form};
 use fmp_codes::{Call, Event, NameKind, ObjectKind, Proc, Record};
@@ -170,7 +170,8 @@ fn called<'a>(
         Ok(call) => printed_so(alloc, names, call, written, text),
         Err(misfit) => {
             let place = written.len().saturating_sub(misfit.rest.len());
-            Ok(Walk::stuck(&text[place..], wanted_of(misfit)))
+            let wanted = event_wanted(misfit.rest, misfit.wanted);
+            Ok(Walk::stuck(&text[place..], wanted))
         }
     }
 }

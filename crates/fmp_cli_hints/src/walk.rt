@@ -3,8 +3,7 @@ ghost use Rattle.std.specs.Prelude.{◌≡◌};
 ghost use Rattle.fmp_cli_hints.specs.Places as spec;
 ghost use Rattle.fmp_text.specs.Places.{place_of};
 
-use crate::wanted::{Wanted, wanted_of};
-use fmp_bytes::{Class, skip};
+use crate::wanted::{Wanted, event_wanted};
 use fmp_text::Misfit;
 use std::marker::Model;
 
@@ -49,7 +48,7 @@ impl<'a> Walk<'a> {
     pub(crate) fn refused(misfit: Misfit<'a>) -> Self
         ensures { result ≡ spec.refused (place_of misfit.entry) }
     {
-        Walk::stuck(misfit.rest, wanted_of(misfit))
+        Walk::stuck(misfit.rest, event_wanted(misfit.rest, misfit.wanted))
     }
 
     /// The line from the place on.
@@ -64,15 +63,5 @@ impl<'a> Walk<'a> {
         ensures { result ≡ self.now.wanted }
     {
         self.wanted
-    }
-}
-
-/// Nothing more but blanks in the line.
-pub(crate) fn ending<'a>(wanted: Wanted, text: &'a [u8]) -> Walk<'a> {
-    let text = skip(Class::Blank, text);
-    if text.is_empty() {
-        Walk::going(text)
-    } else {
-        Walk::stuck(text, wanted)
     }
 }

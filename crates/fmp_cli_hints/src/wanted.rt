@@ -5,7 +5,8 @@ ghost use Rattle.fmp_cli_hints.specs.Places as spec;
 use fmp_cli_help::{put_argument, put_call};
 use fmp_codes::{ArgumentKind, Call, Event, Proc};
 use fmp_out::Text;
-use fmp_text::{Misfit, Names, Wanted as EventWanted};
+use fmp_text::{Names, Wanted as EventWanted};
+use fmp_text_scripts::Wanted as ScriptWanted;
 use fmp_trace::put_event;
 use std::alloc::{AllocError, Global};
 
@@ -26,30 +27,14 @@ pub enum Wanted {
     Argument(Call, ArgumentKind),
     /// Nothing more in the line of a call.
     CallEnd(Call),
-    /// What may stand in a line of a script text.
-    Step,
+    /// This in a script, but for what a line of events has as well.
+    Script(ScriptWanted),
     /// Labels and `goto`, which are all by which a script chooses and repeats.
     Jumps,
     /// A line without a brace.
     NoBrace,
-    /// A call before a jump.
-    JumpPlace,
-    /// The answers of an `on`.
-    Answered,
-    /// The value of such an answer.
-    AnsweredValue,
     /// An answer as a whole, and no part of its value.
     WholeAnswer,
-    /// `goto` and a label.
-    Goal,
-    /// The name of a label.
-    LabelName,
-    /// A label that the script does not have.
-    NewLabel,
-    /// A label for each jump of a script.
-    Labels,
-    /// A function that has no script.
-    Function,
     /// The end of the line in place of a `;`.
     NoStop,
     /// A line of its own for a comment.
@@ -58,8 +43,6 @@ pub enum Wanted {
     NoSum,
     /// A number or a name without a `&`.
     NoAddress,
-    /// The end of the script before a line that begins another one.
-    ScriptEnd,
     /// This number of a trace's line.
     LineNumber(u32),
     /// Who runs.
@@ -99,12 +82,12 @@ pub(crate) fn byte_wanted(text: &[u8]) -> Wanted
     }
 }
 
-/// What is wanted where a line of events, or a call, is refused.
-pub(crate) fn wanted_of(misfit: Misfit<'_>) -> Wanted
-    ensures { result ≡ spec.event_wanted misfit.entry.rest.now misfit.entry.wanted }
+/// What is wanted where a line of events, or a call, is refused, from which place on the text is left.
+pub(crate) fn event_wanted(text: &[u8], wanted: EventWanted) -> Wanted
+    ensures { result ≡ spec.event_wanted text.now wanted }
 {
-    match misfit.wanted {
-        EventWanted::LineByte => byte_wanted(misfit.rest),
+    match wanted {
+        EventWanted::LineByte => byte_wanted(text),
         EventWanted::Processor => Wanted::Processor,
         EventWanted::Happening => Wanted::Happening,
         EventWanted::LineEnd => Wanted::LineEnd,
@@ -117,36 +100,46 @@ pub(crate) fn wanted_of(misfit: Misfit<'_>) -> Wanted
 /// What stands before what is wanted.
 pub const LABEL: &[u8] = b"  expected: ";
 
-/// What is wanted in a script where no call is.
-fn script_words(wanted: Wanted) -> &'static [u8] {
+/// What is wanted in a script alone.
+fn script_words(wanted: ScriptWanted) -> &'static [u8] {
     match wanted {
-        Wanted::Step => {
+        ScriptWanted::Step => {
             b"`script` and a function, or in a script `end`, a label, as `again:`, `on <answer> goto <label>`, `goto <label>`, or a call that `fmpsim list` has, but not `ret_hdr`\n"
         }
+        ScriptWanted::ScriptEnd => b"`end` before this line, which begins another script\n",
+        ScriptWanted::JumpPlace => {
+            b"a call right before it, or another `on` of that call: `on` and `goto` say where a script goes on after a call\n"
+        }
+        ScriptWanted::Function => b"a function of the configuration that has no script yet\n",
+        ScriptWanted::Answered => {
+            b"an answer: a code, as `E_TMOUT`, a code and its value, as `E_OK:3`, or `refused`, which is each code but `E_OK`\n"
+        }
+        ScriptWanted::AnsweredValue => {
+            b"a number of 64 bits with a sign, without a leading zero\n"
+        }
+        ScriptWanted::Goal => b"`goto` and the name of a label\n",
+        ScriptWanted::LabelName => {
+            b"the name of a label: a letter or `_`, then letters, digits and `_`, but not `script`, `end`, `on`, `goto` or `ret_hdr`\n"
+        }
+        ScriptWanted::NewLabel => b"a label that the script does not have yet\n",
+        ScriptWanted::Labels => b"before it a label for each `goto` of the script\n",
+        ScriptWanted::LineByte | ScriptWanted::LineEnd | ScriptWanted::Call(_) => b"",
+    }
+}
+
+/// What is wanted in a script in place of what C has.
+fn jump_words(wanted: Wanted) -> &'static [u8] {
+    match wanted {
+        Wanted::Script(wanted) => script_words(wanted),
         Wanted::Jumps => {
             b"labels and `goto`, which are all that a script has of the kind: `again:` before a call, and `on E_TMOUT goto again` or `goto again` after one\n"
         }
         Wanted::NoBrace => {
             b"a line without a brace: a script ends with `end`; `again:` before a call and `on E_TMOUT goto again` after it are all by which it chooses and repeats\n"
         }
-        Wanted::JumpPlace => {
-            b"a call right before it, or another `on` of that call: `on` and `goto` say where a script goes on after a call\n"
-        }
-        Wanted::Answered => {
-            b"an answer: a code, as `E_TMOUT`, a code and its value, as `E_OK:3`, or `refused`, which is each code but `E_OK`\n"
-        }
-        Wanted::AnsweredValue => b"a number of 64 bits with a sign, without a leading zero\n",
         Wanted::WholeAnswer => {
             b"a code alone, as `on E_OK goto a`, or with one value, as `on E_OK:3 goto a`: for a bit of a pattern a line for each value that has it, or `pol_flg(F1, 1, TWF_ORW)` and `on E_OK goto a`\n"
         }
-        Wanted::Goal => b"`goto` and the name of a label\n",
-        Wanted::LabelName => {
-            b"the name of a label: a letter or `_`, then letters, digits and `_`, but not `script`, `end`, `on`, `goto` or `ret_hdr`\n"
-        }
-        Wanted::Labels => b"before it a label for each `goto` of the script\n",
-        Wanted::NewLabel => b"a label that the script does not have yet\n",
-        Wanted::Function => b"a function of the configuration that has no script yet\n",
-        Wanted::ScriptEnd => b"`end` before this line, which begins another script\n",
         _ => b"",
     }
 }
@@ -167,7 +160,7 @@ fn partial_words(wanted: Wanted) -> &'static [u8] {
         Wanted::FewUnderWay => {
             b"at most 16 lines before this one that may still come after it, by their `by=` or since they are `open`\n"
         }
-        _ => script_words(wanted),
+        _ => jump_words(wanted),
     }
 }
 

@@ -116,8 +116,11 @@ other_said names inside text None = asks names inside text
 other_said names inside text (Some rest) = stands inside (prefix Word (after Blank text)) rest
 
 -- the bytes of a line of a script text: those of an event's line, and the colon
+abbrev pub may_stand : ℕ → Bool
+may_stand b = is_of Line b || b == colon
+
 abbrev pub are_line : List ℕ → Bool
-are_line line = list_all (λ b. is_of Line b || b == colon) line
+are_line line = list_all may_stand line
 
 -- a line that is not skipped, by its first word. The return of a handler is no step
 unfoldable pub said_by : NameLists → Bool → List ℕ → Result (Option Said) TextKind

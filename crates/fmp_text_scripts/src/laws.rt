@@ -1,5 +1,5 @@
 //! Laws of the grammar of script texts: what is spelled is read, and what is read is spelled.
-ghost use Rattle.std.specs.Prelude.{◌≡◌, ℕ, List, Ok, Err};
+ghost use Rattle.std.specs.Prelude.{◌≡◌, ◌≢◌, ℕ, List, Ok, Err};
 ghost use Rattle.fmp_names.specs.Names.{NameLists, AreValid};
 ghost use Rattle.fmp_text_scripts.specs.Scripts.{Steps};
 ghost use Rattle.fmp_text_scripts.specs.Texts.{Reading, scripts_in, with_line};
@@ -8,6 +8,8 @@ ghost use Rattle.fmp_text_scripts.specs.FirstFaults.{FirstFault};
 ghost use Rattle.fmp_text_scripts.specs.ScriptFaults.{ScriptFault};
 ghost use Rattle.fmp_text.specs.declared.fault.TextFault.{TextFault};
 ghost use Rattle.fmp_text.specs.declared.fault.TextKind.{TextKind};
+ghost use Rattle.fmp_text.specs.declared.fault.TextKind.TheVariants.{TooMany};
+ghost use Rattle.fmp_text_scripts.specs.Refusals.{place};
 
 /// What spells scripts, within the limits, is read as these scripts.
 pub fn spelled_scripts_are_read()
@@ -42,4 +44,10 @@ pub fn faults_are_those_of_the_table()
         → with_line names n r line ≡ Err fault → ScriptFault names r.scripts r.unclosed line fault }
     ensures report { (names : NameLists) (n : ℕ) (r : Reading) (line : List ℕ) (fault : TextKind) → AreValid names
         → ScriptFault names r.scripts r.unclosed line fault → with_line names n r line ≡ Err fault }
+{}
+
+/// The fault at the place of a line that is refused is the reader's, but of a line that is one too many, in which nothing is at fault.
+pub fn places_have_their_fault()
+    ensures { (names : NameLists) (n : ℕ) (r : Reading) (line : List ℕ) (fault : TextKind)
+        → with_line names n r line ≡ Err fault → fault ≢ TooMany → (place names fault line).kind ≡ fault }
 {}

@@ -29,6 +29,13 @@ impl<'t> Name<'t> {
         Name { text }
     }
 
+    /// The bytes of the name.
+    pub fn text(&self) -> &'t [u8]
+        ensures { result.now ≡ self.now }
+    {
+        self.text
+    }
+
     /// Whether two names have the same bytes.
     fn is_same(&self, other: &Name<'_>) -> bool
         ensures { result ≡ spec.is_same self.now other.now }
