@@ -1,5 +1,5 @@
 -- The numbers of values in lists, where others are added.
-use Rattle.std.proofs.Common.{◌≡◌, ◌⊎◌, inl, inr, ℕ, zero, suc, ◌<◌, ◌≤◌, List, [], ◌∷◌, ◌++◌, length, refl, sym, ◌∙◌, subst, ap, append_assoc, arith}
+use Rattle.std.proofs.Common.{◌≡◌, ◌⊎◌, inl, inr, ℕ, zero, suc, ◌≤◌, List, [], ◌∷◌, ◌++◌, length, refl, sym, ◌∙◌, subst, ap, append_assoc, arith}
 use Rattle.std.specs.Prelude.{Some, slice_get}
 use Rattle.std.proofs.lemmas.Option.{none-some, same_Some, slice_get_within}
 use Rattle.fmp_interned.specs.Values.{IsAdded, IsBeginning, IsNew}
@@ -29,21 +29,12 @@ slice_get-pushed (z ∷ xs) x y (suc k) is = elim (slice_get-pushed xs x y k is)
   | inr before ↦ inr before
 ]
 
-module _ {V : Type 0} (values more : List V) (v : V) (n : ℕ) where
-  -- where a value got a number that was there before it was kept, and none was added
-  pub was_kept : IsAdded values v more → slice_get more n ≡ Some v → n < length values → more ≡ values
-  was_kept (inl same) at low = same
-  was_kept (inr added) at low = elim (slice_get-pushed values v v n (subst (λ (vs : List V). slice_get vs n ≡ Some v) added.1 at)) [
-    | inl last ↦ let is = last.0 in absurd (omega (arith, is, low))
-    | inr before ↦ absurd (added.0 n before)
-  ]
-
-  -- where it got another, it is new, and was added after the others
-  pub was_new : IsAdded values v more → slice_get more n ≡ Some v → length values ≤ n → IsNew values v × (n ≡ length values) × (more ≡ values ++ v ∷ [])
-  was_new (inl same) at past =
-      let low = slice_get_within values n v (subst (λ (vs : List V). slice_get vs n ≡ Some v) same at) in
-      absurd (omega (arith, low, past))
-  was_new (inr added) at past = elim (slice_get-pushed values v v n (subst (λ (vs : List V). slice_get vs n ≡ Some v) added.1 at)) [
-    | inl last ↦ (added.0, last.0, added.1)
-    | inr before ↦ let low = slice_get_within values n v before in absurd (omega (arith, low, past))
-  ]
+-- where a value got a number that was not there before it is new, and was added after the others
+pub was_new : {V : Type 0} → (values more : List V) (v : V) (n : ℕ) → IsAdded values v more → slice_get more n ≡ Some v → length values ≤ n → IsNew values v × (n ≡ length values) × (more ≡ values ++ v ∷ [])
+was_new {V} values more v n (inl same) at past =
+    let low = slice_get_within values n v (subst (λ (vs : List V). slice_get vs n ≡ Some v) same at) in
+    absurd (omega (arith, low, past))
+was_new {V} values more v n (inr added) at past = elim (slice_get-pushed values v v n (subst (λ (vs : List V). slice_get vs n ≡ Some v) added.1 at)) [
+  | inl last ↦ (added.0, last.0, added.1)
+  | inr before ↦ let low = slice_get_within values n v before in absurd (omega (arith, low, past))
+]

@@ -1,5 +1,5 @@
 -- Lists of values that are kept by the numbers of their values: each has one list of numbers, which is that of no other.
-use Rattle.std.proofs.Common.{◌≡◌, ◌∙◌, ℕ, List, [], ◌∷◌, ◌++◌, refl, ap, sym, append_assoc, append-nil}
+use Rattle.std.proofs.Common.{◌≡◌, ◌∙◌, ℕ, List, [], ◌∷◌, ◌++◌, refl, ap, sym, append_assoc}
 use Rattle.std.specs.Prelude.{Some, slice_get}
 use Rattle.std.proofs.lemmas.Option.{same_Some}
 use Rattle.fmp_interned.specs.Values.{AreDistinct, IsBeginning}
@@ -52,7 +52,3 @@ module _ {V : Type 0} where
     is ∙ ap (λ (ns : List ℕ). ns ++ n ∷ []) added.1 ∙ append_assoc old added.0 (n ∷ []),
     numbers_next more added.0 values n v (numbers_stay kept more added.0 values begins added.2) there,
   )
-
-  -- no value
-  pub none_added : (kept : List V) (old : List ℕ) → AddsNumbers kept [] old old
-  none_added kept old = ([], sym (append-nil old), tt)

@@ -4,7 +4,6 @@ use Rattle.std.proofs.Math.Nat.{eq-or-lt_of_le}
 use Rattle.std.proofs.Math.Nat.{mod-lt}
 use Rattle.std.proofs.lemmas.Bool.{cases_lt}
 use Rattle.std.proofs.lemmas.Bool.Decides.{eqb_tells}
-use Rattle.std.proofs.lemmas.Option.{none-some}
 use Rattle.std.proofs.lemmas.List.{get_or-set_other, get_or-set_same, length-set, length-take, take_more}
 use Rattle.std.proofs.lemmas.List.Sums.{sum_by-cons, sum_by-set}
 use Rattle.std.proofs.lemmas.Grind.{common_steps}
@@ -132,10 +131,6 @@ holds_more old new hashes hash number is holds is_put =
     let slots = slots_stay old new hash number is_put in
     let long : length (hashes ++ hash ∷ []) ≡ length hashes + 1 = grind (arith, common_steps) in
     record { free = omega (arith, free, fewer, slots, long); met = met_more old new hashes hash number is holds.met is_put }
-
--- a free table has those of none
-pub holds_none : (table : List ℕ) → free_in table ≡ length table → Holds table []
-holds_none table free = record { free = omega (arith, free); met = λ k h at. absurd (none-some h at) }
 
 -- where it has those of the first hashes, and the next one's number was put in, it has that too
 pub holds_next : (old new hashes : List ℕ) (at hash : ℕ) → at < length hashes → hash ≡ get_or hashes at 0 → Holds old (take at hashes) → IsPut old new hash (at + 1) → Holds new (take (at + 1) hashes)

@@ -1,4 +1,4 @@
--- A number made of others, in their order.
+-- A number made of others, in their order, or of one.
 use Rattle.std.specs.Prelude.{ℕ, ◌*◌, ◌/◌, ◌%◌, ◌^◌, List, [], ◌∷◌, bit_xor}
 
 -- one number more
@@ -13,3 +13,6 @@ mixed_all (word ∷ words) sum = mixed_all words (mixed sum word)
 
 unfoldable pub hash_of : List ℕ → ℕ
 hash_of words = mixed_all words 11400714819323198485
+
+unfoldable pub hash_of_number : ℕ → ℕ
+hash_of_number number = number * 11400714819323198485 % 2 ^ 64 / 2 ^ 32

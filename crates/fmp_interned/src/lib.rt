@@ -4,17 +4,18 @@
 //! where each is kept as the numbers of its parts.
 #![tactic(auto)]
 
-mod chain;
 mod hash;
 mod interned;
+mod lists;
+mod number;
 mod part;
 mod table;
 mod value;
 mod words;
 
-pub use chain::{number_of_list, number_of_list_near, put_list};
 pub use hash::part_hash;
 pub use interned::Interned;
+pub use lists::Lists;
 pub use part::number_each;
 pub use value::Value;
 pub use words::Words;

@@ -69,6 +69,16 @@ impl Words {
         other.get(self.words.len()).copied().unwrap_or(0)
     }
 
+    /// Becomes a list of these numbers. The error is want of memory, and leaves none.
+    pub fn become_slice(&mut self, words: &[u32]) -> Result<(), AllocError>
+        ensures is { IfOk result (λ done. self.new ≡ words.now) }
+        ensures none { OnErr result (self.new ≡ []) }
+    {
+        self.words.clear();
+        self.words.extend_from_slice(words)?;
+        Ok(())
+    }
+
     /// Adds a number after the others. The error is want of memory, and leaves them as they were.
     pub fn push(&mut self, word: u32) -> Result<(), AllocError>
         ensures added { IfOk result (λ done. self.new ≡ self.old ++ word ∷ []) }

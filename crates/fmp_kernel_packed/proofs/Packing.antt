@@ -2,8 +2,8 @@
 use Rattle.std.proofs.Common.{◌≡◌, ◌∙◌, ℕ, List, ◌++◌, length, sym, ap, subst, arith}
 use Rattle.std.proofs.lemmas.Option.{same_Some}
 use Rattle.std.proofs.lemmas.Grind.{common_steps}
-use Rattle.fmp_interned.specs.Chains.{IsChain}
-use Rattle.fmp_interned.proofs.Chains.{chain_stays, one_key, one_list}
+use Rattle.fmp_interned.specs.Trees.{IsTree}
+use Rattle.fmp_interned.proofs.Trees.{one_tree, tree_list, tree_stays}
 use Rattle.fmp_interned.proofs.Numbers.{number_stays}
 use Rattle.std.specs.Prelude.{Option}
 use Rattle.fmp_codes.specs.declared.numbers.Proc.{Proc}
@@ -32,7 +32,7 @@ packed_one kept w m n c d once one two =
     let objects : two.objects ≡ one.objects = objects_one kept.objects (objects_of w) two.objects one.objects once.objects two.of_objects one.of_objects in
     let rest : two.rest ≡ one.rest = rest_one kept.rest w two.rest one.rest once.rest two.of_rest one.of_rest in
     let all : two.handled ++ (two.objects ++ two.rest) ≡ one.handled ++ (one.objects ++ one.rest) = cc in (
-      one_key kept.pairs 0 n m (one.handled ++ (one.objects ++ one.rest)) once.pairs (subst (λ (ns : List ℕ). IsChain kept.pairs ns n) all two.chain) one.chain,
+      one_tree kept.pairs (one.handled ++ (one.objects ++ one.rest)) n m once.pairs (subst (λ (ns : List ℕ). IsTree kept.pairs ns n) all two.tree) one.tree,
       once.counting d c (words_of (times_in (assignments_in w))) two.of_counting one.of_counting,
     )
 
@@ -41,7 +41,7 @@ packed_stays kept more w m c before is = record {
   handled = is.handled;
   objects = is.objects;
   rest = is.rest;
-  chain = chain_stays kept.pairs more.pairs 0 m (is.handled ++ (is.objects ++ is.rest)) before.pairs is.chain;
+  tree = tree_stays kept.pairs more.pairs (is.handled ++ (is.objects ++ is.rest)) m before.pairs is.tree;
   of_handled = handled_stays kept.handled more.handled (assignments_in w) is.handled before.handled is.of_handled;
   of_objects = objects_stays kept.objects more.objects (objects_of w) is.objects before.objects is.of_objects;
   of_rest = rest_stays kept.rest more.rest w is.rest before.rest is.of_rest;
@@ -120,7 +120,7 @@ module _ (kept : KeptParts) (v w : World Queues) (m c : ℕ) (shaped : AreShaped
       let objects = long.1 in
       let rest = long.2 in
       let all : length (one.handled ++ (one.objects ++ one.rest)) ≡ length (two.handled ++ (two.objects ++ two.rest)) = grind (arith, common_steps, handled, objects, rest) in
-      let lists = one_list kept.pairs m (one.handled ++ (one.objects ++ one.rest)) (two.handled ++ (two.objects ++ two.rest)) all one.chain two.chain in
+      let lists = tree_list kept.pairs (one.handled ++ (one.objects ++ one.rest)) (two.handled ++ (two.objects ++ two.rest)) m all one.tree two.tree in
       let first = same_parts one.handled two.handled (one.objects ++ one.rest) (two.objects ++ two.rest) handled lists in
       let then = same_parts one.objects two.objects one.rest two.rest objects first.1 in
       (first.0, then.0, then.1)

@@ -5,7 +5,7 @@ use Rattle.std.proofs.Math.Seq.{drop-append_seam, take-append_seam}
 use Rattle.std.proofs.lemmas.Grind.{common_steps}
 use Rattle.std.proofs.lemmas.List.{length-take, take_rest}
 use Rattle.std.proofs.lemmas.Option.{same_Some, slice_get_within}
-use Rattle.fmp_interned.specs.Chains.{HasChain, IsChain}
+use Rattle.fmp_interned.specs.Trees.{HasTree, IsTree}
 use Rattle.fmp_kernel_assigned.specs.Assignments.{assignments_of}
 use Rattle.fmp_kernel_assigned.specs.Counting.{AreInStep}
 use Rattle.fmp_kernel_assigned.specs.Telling.{times_in}
@@ -72,27 +72,27 @@ module _ (kept : KeptParts) (v w : World Queues) (m n h o : ℕ) (is : IsPacked 
       let few = rest_long kept w is.rest is.of_rest in
       grind (arith, common_steps, first, next, few)
 
-  chained : HasChain kept.pairs (h + o + 3) m
-  chained = (is.handled ++ (is.objects ++ is.rest), all_many, is.chain)
+  rooted : HasTree kept.pairs (h + o + 3) m
+  rooted = (is.handled ++ (is.objects ++ is.rest), all_many, is.tree)
 
-  apart : (ns : List ℕ) → ((xs : List ℕ) → length xs ≡ h + o + 3 → IsChain kept.pairs xs m → ns ≡ xs) → Unpacks kept w h o ns
+  apart : (ns : List ℕ) → ((xs : List ℕ) → length xs ≡ h + o + 3 → IsTree kept.pairs xs m → ns ≡ xs) → Unpacks kept w h o ns
   apart ns put =
-      let are : ns ≡ is.handled ++ (is.objects ++ is.rest) = put (is.handled ++ (is.objects ++ is.rest)) all_many is.chain in record {
+      let are : ns ≡ is.handled ++ (is.objects ++ is.rest) = put (is.handled ++ (is.objects ++ is.rest)) all_many is.tree in record {
         of_handled = subst (λ (xs : List ℕ). AreHandled kept.handled (assignments_in w) xs) (sym (begun ns is.handled is.objects is.rest h are handled_many)) is.of_handled;
         of_objects = subst (λ (xs : List ℕ). AreObjects kept.objects (objects_of w) xs) (sym (then ns is.handled is.objects is.rest h o are handled_many objects_many)) is.of_objects;
         of_rest = subst (λ (xs : List ℕ). IsRest kept.rest w xs) (sym (last ns is.handled is.objects is.rest h o are handled_many objects_many)) is.of_rest;
       }
 
 -- a list of so many numbers has the key
-pub has_chain : (inside kept : KeptParts) (v w : World Queues) (m n h o : ℕ) → inside ≡ kept → IsPacked kept w m n → AreShaped v w →
-    h ≡ length v.alarms + length v.cyclics + length v.tasks → o ≡ length v.pools + length v.eventflags + length v.semaphores + length v.data_queues → HasChain inside.pairs (h + o + 3) m
-has_chain inside kept v w m n h o same is shaped handled objects =
-    chained inside v w m n h o (subst (λ (k : KeptParts). IsPacked k w m n) (sym same) is) shaped handled objects
+pub has_tree : (inside kept : KeptParts) (v w : World Queues) (m n h o : ℕ) → inside ≡ kept → IsPacked kept w m n → AreShaped v w →
+    h ≡ length v.alarms + length v.cyclics + length v.tasks → o ≡ length v.pools + length v.eventflags + length v.semaphores + length v.data_queues → HasTree inside.pairs (h + o + 3) m
+has_tree inside kept v w m n h o same is shaped handled objects =
+    rooted inside v w m n h o (subst (λ (k : KeptParts). IsPacked k w m n) (sym same) is) shaped handled objects
 
 -- what the only list of so many numbers that has the key tells
 pub unpacks : (inside kept : KeptParts) (v w : World Queues) (m n h o : ℕ) (ns : List ℕ) → inside ≡ kept → IsPacked kept w m n → AreShaped v w →
     h ≡ length v.alarms + length v.cyclics + length v.tasks → o ≡ length v.pools + length v.eventflags + length v.semaphores + length v.data_queues →
-    ((xs : List ℕ) → length xs ≡ h + o + 3 → IsChain inside.pairs xs m → ns ≡ xs) → Unpacks inside w h o ns
+    ((xs : List ℕ) → length xs ≡ h + o + 3 → IsTree inside.pairs xs m → ns ≡ xs) → Unpacks inside w h o ns
 unpacks inside kept v w m n h o ns same is shaped handled objects put =
     apart inside v w m n h o (subst (λ (k : KeptParts). IsPacked k w m n) (sym same) is) shaped handled objects ns put
 

@@ -36,7 +36,7 @@ pub record KeptParts : Type 0 where
   pub objects : KeptObjects
   pub rest : KeptRest
   pub counting : List (List ℕ)  -- the numbers that tell what counts
-  pub pairs : List (List ℕ)  -- of the chains of the parts' numbers
+  pub pairs : List (List ℕ)  -- of the trees of the parts' numbers
 
 -- nothing yet
 abbrev pub no_parts : KeptParts

@@ -1,6 +1,6 @@
 -- The numbers of a kernel's parts.
 use Rattle.std.specs.Prelude.{◌≡◌, ℕ, Some, List, [], ◌∷◌, ◌++◌, map, slice_get}
-use Rattle.fmp_interned.specs.Chains.{IsChain}
+use Rattle.fmp_interned.specs.Trees.{IsTree}
 use Rattle.fmp_interned.specs.Parts.{AreNumbersOf}
 use Rattle.fmp_kernel_assigned.specs.Assignments.{Assignments}
 use Rattle.fmp_kernel_assigned.specs.Telling.{times_in, IsTold}
@@ -63,7 +63,7 @@ pub record IsPacked (kept : KeptParts) (w : World Queues) (machine counting : �
   pub handled : List ℕ
   pub objects : List ℕ
   pub rest : List ℕ
-  pub chain : IsChain kept.pairs (handled ++ (objects ++ rest)) machine
+  pub tree : IsTree kept.pairs (handled ++ (objects ++ rest)) machine
   pub of_handled : AreHandled kept.handled (assignments_in w) handled
   pub of_objects : AreObjects kept.objects (objects_of w) objects
   pub of_rest : IsRest kept.rest w rest

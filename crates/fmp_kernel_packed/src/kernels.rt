@@ -37,14 +37,15 @@ pub fn pack(parts: &mut Parts, kernel: &Kernel, start: &Kernel) -> Result<Packed
 /// A kernel becomes as that was of which these are the numbers, in the memory of a machine, which is given its own for it. The error comes where the machine is
 /// not of the configuration of the kernel at boot: `room_for` gives one that is, but no clause says so. It leaves the kernel as it was.
 pub fn unpack(
-    parts: &Parts,
+    parts: &mut Parts,
     packed: Packed,
     room: &mut Box<KernelMachine>,
     kernel: &mut Kernel,
     start: &Kernel,
 ) -> Result<(), AllocError>
-    requires { (w : World Queues) × IsKernel parts.now start.now w packed.machine packed.counting }
-    ensures is { IfOk result (λ done. (w : World Queues) → IsKernel parts.now start.now w packed.machine packed.counting → kernel.new ≡ w) }
+    requires { (w : World Queues) × IsKernel parts.old start.now w packed.machine packed.counting }
+    ensures is { IfOk result (λ done. (w : World Queues) → IsKernel parts.old start.now w packed.machine packed.counting → kernel.new ≡ w) }
+    ensures same { parts.new ≡ parts.old }
     ensures left { OnErr result (kernel.new ≡ kernel.old) }
 {
     if !are_shaped(room, start.machine()) {

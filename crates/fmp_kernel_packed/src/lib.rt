@@ -9,6 +9,8 @@ mod kernels;
 mod objects;
 mod packed;
 mod rest;
+mod told;
 
 pub use kernels::{pack, room_for, unpack};
 pub use packed::{Packed, Parts};
+pub use told::thing_count;

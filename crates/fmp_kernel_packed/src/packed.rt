@@ -9,7 +9,7 @@ ghost use Rattle.fmp_rules.specs.World.{World};
 use crate::handled::Handled;
 use crate::objects::Objects;
 use crate::rest::Rest;
-use fmp_interned::{Interned, Words, number_of_list_near, put_list};
+use fmp_interned::{Interned, Lists, Words};
 use fmp_kernel_machine::KernelMachine;
 use fmp_kernel_same::Same;
 use fmp_step_words::Words as _;
@@ -34,11 +34,11 @@ pub struct Parts {
     handled: Handled,
     objects: Objects,
     rest: Rest,
-    counting: Interned<Words>,
-    pairs: Interned<[u32; 2]>,
-    /// The numbers of the kernel that was packed last, and their key: the next one is often near to it.
-    last: Words,
-    key: u32,
+    pub(crate) counting: Interned<Words>,
+    /// Of the numbers of a kernel.
+    pub(crate) lists: Lists,
+    /// The number of what counts of the kernel that was unpacked last.
+    near: u32,
     /// Room for the numbers of a kernel, and of what counts.
     numbers: Words,
     words: Words,
@@ -49,7 +49,7 @@ impl Model for Parts {
 
     ghost Value = { KeptParts };
 
-    ghost view = { λ p. record { handled = p.handled; objects = p.objects; rest = p.rest; counting = p.counting; pairs = p.pairs } };
+    ghost view = { λ p. record { handled = p.handled; objects = p.objects; rest = p.rest; counting = p.counting; pairs = p.lists } };
 }
 
 /// Whether two kernels have as many of each kind, and the same of what no event changes, as those of one configuration have.
@@ -77,9 +77,8 @@ impl Parts {
             objects: Objects::new(alloc),
             rest: Rest::new(alloc),
             counting: Interned::new(alloc),
-            pairs: Interned::new(alloc),
-            last: Words::new(alloc),
-            key: 0,
+            lists: Lists::new(alloc),
+            near: 0,
             numbers: Words::new(alloc),
             words: Words::new(alloc),
         }
@@ -93,58 +92,60 @@ impl Parts {
         self.objects.validity();
         self.rest.validity();
         self.counting.validity();
-        self.pairs.validity();
+        self.lists.validity();
     }
 
-    /// The numbers of what a kernel is made of, which are kept from then on. It comes soonest where the kernel is near to that which was packed before it: no
+    /// The numbers of what a kernel is made of, which are kept from then on. It comes soonest where the kernel is near to that which was unpacked last: no
     /// answer depends on that. The error is want of memory, or that 2^32 - 1 of some part are kept, and leaves other kernels' numbers as they were.
     pub fn pack(&mut self, machine: &KernelMachine) -> Result<Packed, AllocError>
         ensures packed { IfOk result (λ k. IsPacked self.new machine.now k.machine k.counting) }
         ensures kept { ArePartsBefore self.old self.new }
     {
         self.numbers.clear();
-        let (near, numbers) = (self.last.as_slice(), &mut self.numbers);
+        let (near, numbers) = (self.lists.last(), &mut self.numbers);
         self.handled.add(machine.assigned(), near, numbers)?;
         self.objects.add(machine.resources(), near, numbers)?;
         self.rest.add(machine, near, numbers)?;
-        self.key = number_of_list_near(&mut self.pairs, numbers.as_slice(), self.key)?;
-        std::mem::swap(&mut self.numbers, &mut self.last);
+        let key = self.lists.key_of(numbers.as_slice())?;
         self.words.clear();
         machine.assigned().add_words(&mut self.words)?;
-        let counting = self.counting.number_of(&self.words)?;
+        let counting = self.counting.number_of_near(&self.words, self.near)?;
         Ok(Packed {
-            machine: self.key,
+            machine: key,
             counting,
         })
     }
 
     /// A kernel becomes as that was of which these are the numbers, where both are of one configuration.
-    pub fn unpack(&self, packed: Packed, machine: &mut KernelMachine)
-        requires { (w : World Queues) × IsPacked self.now w packed.machine packed.counting × AreShaped machine.old w }
-        ensures { (w : World Queues) → IsPacked self.now w packed.machine packed.counting → AreShaped machine.old w → machine.new ≡ w }
+    pub fn unpack(&mut self, packed: Packed, machine: &mut KernelMachine)
+        requires { (w : World Queues) × IsPacked self.old w packed.machine packed.counting × AreShaped machine.old w }
+        ensures is { (w : World Queues) → IsPacked self.old w packed.machine packed.counting → AreShaped machine.old w → machine.new ≡ w }
+        ensures same { self.new ≡ self.old }
     {
         self.unpack_over(packed, &mut [0; MOST], machine);
     }
 
     /// As `unpack`, with room for the numbers of the parts.
-    fn unpack_over(&self, packed: Packed, room: &mut [u32], machine: &mut KernelMachine)
+    fn unpack_over(&mut self, packed: Packed, room: &mut [u32], machine: &mut KernelMachine)
         requires room { 259 ≤ length room.old }
-        requires there { (w : World Queues) × IsPacked self.now w packed.machine packed.counting × AreShaped machine.old w }
-        ensures { (w : World Queues) → IsPacked self.now w packed.machine packed.counting → AreShaped machine.old w → machine.new ≡ w }
+        requires there { (w : World Queues) × IsPacked self.old w packed.machine packed.counting × AreShaped machine.old w }
+        ensures is { (w : World Queues) → IsPacked self.old w packed.machine packed.counting → AreShaped machine.old w → machine.new ≡ w }
+        ensures same { self.new ≡ self.old }
     {
         let handled = handled_count(machine);
         let count = handled + object_count(machine);
         let numbers = &mut room[..count + 3];
-        put_list(&self.pairs, packed.machine, numbers);
+        self.lists.put(packed.machine, numbers);
         self.handled.put(&numbers[..handled], machine);
         self.objects.put(&numbers[handled..count], machine);
         self.rest.put(&numbers[count..], machine);
         machine.put_words(self.counting.get(packed.counting).as_slice());
+        self.near = packed.counting;
     }
 }
 
 /// How many alarms, cyclic handlers and tasks a kernel has.
-fn handled_count(machine: &KernelMachine) -> usize
+pub(crate) fn handled_count(machine: &KernelMachine) -> usize
     ensures value { result ≡ length machine.now.alarms + length machine.now.cyclics + length machine.now.tasks }
     ensures few { result ≤ 128 }
 {
@@ -153,7 +154,7 @@ fn handled_count(machine: &KernelMachine) -> usize
 }
 
 /// How many objects a kernel has for which tasks wait.
-fn object_count(machine: &KernelMachine) -> usize
+pub(crate) fn object_count(machine: &KernelMachine) -> usize
     ensures value { result ≡ length machine.now.pools + length machine.now.eventflags + length machine.now.semaphores + length machine.now.data_queues }
     ensures few { result ≤ 128 }
 {

@@ -61,7 +61,7 @@ path-step ns k d following lt =
 -- ---- where it leads
 
 abbrev pub nobody : Node
-nobody = record { key = 0; parent = 0; step = 0 }
+nobody = record { parent = 0; step = 0 }
 
 module _ {P : Type 0} (after : P → ℕ → Option P) (q : P) where
   pub tree-following : (ns : List Node) → IsTree after q ns → AreAfter ns

@@ -13,6 +13,7 @@ use Rattle.fmp_search.specs.Answers.{HasMore, IsShortest}
 use Rattle.fmp_search.specs.Charts.{Adds, AreLeft}
 use Rattle.fmp_search.specs.Fronts.{Advances, IsFront, IsOpen, IsStopped, Stays}
 use Rattle.fmp_search.specs.Growth.{AreTried, Extends, IsTried}
+use Rattle.fmp_search.specs.Keys.{AreKeyed}
 use Rattle.fmp_search.specs.declared.space.Noted.{Noted}
 use Rattle.fmp_search.specs.Runs.{AreClosed, told_of, Watches}
 use Rattle.fmp_interned.specs.Keys.{AreKeptBy}
@@ -64,13 +65,13 @@ module _ {P X : Type 0} (place : X → P) (room : X → ℕ) (origin : X → P) 
     roomy = at.roomy;
   }
 
-module _ {P : Type 0} (after : P → ℕ → Option P) (IsKey : ℕ → P → Type 0) (zeroth : ℕ) (wanted : P → Bool) (q : P) (n first : ℕ) where
+module _ {P : Type 0} (after : P → ℕ → Option P) (IsKey : ℕ → P → Type 0) (keys : List ℕ) (wanted : P → Bool) (q : P) (n first : ℕ) where
   abbrev Front : List Node → ℕ → ℕ → Type 0
-  Front nodes at step = IsFront after IsKey zeroth wanted q n first nodes at step
+  Front nodes at step = IsFront after IsKey keys wanted q n first nodes at step
 
   -- there are more keys
-  pub front_later : (later : ℕ → P → Type 0) (nodes : List Node) (at step : ℕ) → AreKeptBy IsKey later → Front nodes at step → IsFront after later zeroth wanted q n first nodes at step
-  front_later later nodes at step kept x = record { explored = x.explored; tried = x.tried; keys = keyed_later after q IsKey later zeroth nodes kept x.keys }
+  pub front_later : (later : ℕ → P → Type 0) (nodes : List Node) (at step : ℕ) → AreKeptBy IsKey later → Front nodes at step → IsFront after later keys wanted q n first nodes at step
+  front_later later nodes at step kept x = record { explored = x.explored; tried = x.tried; keyed = keyed_later after q IsKey later keys nodes kept x.keyed }
 
   -- a step led to a place that was found before
   pub front_known : (nodes : List Node) (at step number : ℕ) (r : P) → at < first → after (found_at after q nodes at).place step ≡ Some r → IsAt after q nodes number r →
@@ -82,18 +83,18 @@ module _ {P : Type 0} (after : P → ℕ → Option P) (IsKey : ℕ → P → Ty
         record {
           explored = x.explored;
           tried = tried_more after q nodes nodes at step low same x.tried (tried_at after q nodes nodes at step number r low made same is);
-          keys = x.keys;
+          keyed = x.keyed;
         },
         same,
         is,
       )
 
   -- or to one that was added
-  pub front_more : (next : ℕ) (nodes more : List Node) (at step key number : ℕ) (r : P) → next ≡ zeroth → at < first → after (found_at after q nodes at).place step ≡ Some r → wanted r ≡ false →
-      IsNew after q nodes r → IsKey key r → more ≡ nodes ++ record { key = key; parent = at; step = step } ∷ [] → number ≡ length more → Front nodes at step →
+  pub front_more : (next : List ℕ) (nodes more : List Node) (at step key number : ℕ) (r : P) → next ≡ keys ++ key ∷ [] → at < first → after (found_at after q nodes at).place step ≡ Some r → wanted r ≡ false →
+      IsNew after q nodes r → IsKey key r → more ≡ nodes ++ record { parent = at; step = step } ∷ [] → number ≡ length more → Front nodes at step →
       IsFront after IsKey next wanted q n first more at (step + 1) × Extends after q nodes more × IsAt after q more number r
   front_more next nodes more at step key number r same lt made clean new of is last x =
-      let node : Node = record { key = key; parent = at; step = step } in
+      let node : Node = record { parent = at; step = step } in
       let got = stepped after q wanted nodes more n first at node r x.explored lt refl made clean new is in
       let few = x.explored.few in
       let low : at ≤ length nodes = omega (arith, lt, few) in
@@ -101,15 +102,16 @@ module _ {P : Type 0} (after : P → ℕ → Option P) (IsKey : ℕ → P → Ty
         record {
           explored = got.0;
           tried = tried_more after q nodes more at step low got.1 x.tried (tried_at after q nodes more at step _ r low made got.1 got.2);
-          keys = keyed_more after q IsKey next zeroth nodes more node r same is x.keys of got.2;
+          keyed = subst (λ (ks : List ℕ). AreKeyed after IsKey q ks more) (sym same) (subst (λ (ns : List Node). AreKeyed after IsKey q (keys ++ key ∷ []) ns) (sym is)
+              (keyed_more after q IsKey keys nodes key node r x.keyed of (subst (λ (ns : List Node). IsAt after q ns (length nodes + 1) r) is got.2)));
         },
         got.1,
         subst (λ m. IsAt after q more m r) (sym (last ∙ long)) got.2,
       )
 
-module _ {P : Type 0} (after : P → ℕ → Option P) (IsKey : ℕ → P → Type 0) (zeroth : ℕ) (passes tells : P → ℕ → ℕ) (wanted : P → Bool) (q : P) (n first : ℕ) where
+module _ {P : Type 0} (after : P → ℕ → Option P) (IsKey : ℕ → P → Type 0) (keys : List ℕ) (passes tells : P → ℕ → ℕ) (wanted : P → Bool) (q : P) (n first : ℕ) where
   abbrev Open : List Node → Chart → ℕ → ℕ → Type 0
-  Open nodes chart at step = IsOpen after IsKey zeroth passes tells wanted q n first nodes chart at step
+  Open nodes chart at step = IsOpen after IsKey keys passes tells wanted q n first nodes chart at step
 
   -- no more steps are tried
   pub stopped_here : (nodes : List Node) (chart : Chart) (at step : ℕ) → at < first → Open nodes chart at step → IsStopped after passes q n nodes chart
@@ -124,7 +126,7 @@ module _ {P : Type 0} (after : P → ℕ → Option P) (IsKey : ℕ → P → Ty
 
   -- what is known where not all steps were tried is the same for later ones
   pub stops_on : (most : ℕ) (over : Bool) (nodes : List Node) (chart : Chart) (at step later next : ℕ) (how : Layer) → (how ≡ layer.Done → ⊥) →
-      Advances after IsKey zeroth passes tells wanted q n first most false nodes chart at step how → Advances after IsKey zeroth passes tells wanted q n first most over nodes chart later next how
+      Advances after IsKey keys passes tells wanted q n first most false nodes chart at step how → Advances after IsKey keys passes tells wanted q n first most over nodes chart later next how
   stops_on most over nodes chart at step later next (layer.Found steps) not x = x
   stops_on most over nodes chart at step later next layer.Full not x = x
   stops_on most over nodes chart at step later next layer.Wanting not x = x
@@ -142,7 +144,7 @@ module _ {P : Type 0} (after : P → ℕ → Option P) (IsKey : ℕ → P → Ty
           front = record {
             explored = x.front.explored;
             tried = tried_more after q nodes nodes at step low (extends_same after q nodes) x.front.tried last;
-            keys = x.front.keys;
+            keyed = x.front.keyed;
           };
           charting = charting_same after passes tells q nodes chart at step (not_there after passes tells q nodes chart.edges at step p r there none)
               (not_marked after passes tells p (found_at after q nodes at).place r chart.marks.items step there none) x.charting;
@@ -177,7 +179,7 @@ module _ {P : Type 0} (after : P → ℕ → Option P) (IsKey : ℕ → P → Ty
           record { steps = path_at nodes at ++ step ∷ []; place = r; short = omega (arith, near, long); leads = over.0; new = new }
 
       -- or for which there is, and its edge was not added
-      pub stopped_more : (later : ℕ → P → Type 0) (next : ℕ) (more : List Node) (new : Chart) → IsFront after later next wanted q n first more at (step + 1) → Extends after q nodes more → AreLeft chart new →
+      pub stopped_more : (later : ℕ → P → Type 0) (next : List ℕ) (more : List Node) (new : Chart) → IsFront after later next wanted q n first more at (step + 1) → Extends after q nodes more → AreLeft chart new →
           IsStopped after passes q n more new
       stopped_more later next more new front extends left =
           let few = x.front.explored.few in
@@ -194,7 +196,7 @@ module _ {P : Type 0} (after : P → ℕ → Option P) (IsKey : ℕ → P → Ty
           }
 
       -- or it was added
-      pub open_more : (later : ℕ → P → Type 0) (next : ℕ) (more : List Node) (new : Chart) (number : ℕ) → IsFront after later next wanted q n first more at (step + 1) → Extends after q nodes more → IsAt after q more number r →
+      pub open_more : (later : ℕ → P → Type 0) (next : List ℕ) (more : List Node) (new : Chart) (number : ℕ) → IsFront after later next wanted q n first more at (step + 1) → Extends after q nodes more → IsAt after q more number r →
           Adds (record { passes = t.passes; from = at; to = number; step = step }) t.number chart new →
           IsOpen after later next passes tells wanted q n first more new at (step + 1)
       open_more later next more new number front extends is adds =
@@ -236,7 +238,7 @@ module _ {P : Type 0} (after : P → ℕ → Option P) (IsKey : ℕ → P → Ty
                 opened_next after q nodes at m e.all_opened x.front.tried rest j s r (let le : j ≤ at = omega (arith, lt) in eq-or-lt_of_le le) (cases_lt s m) goes;
           };
           tried = λ s lt. absurd (omega (arith, lt));
-          keys = x.front.keys;
+          keyed = x.front.keyed;
         };
         charting = charting_next after passes tells q nodes chart at m low (λ t le. none_needed after passes tells q nodes chart.edges at t p there (none t le))
             (noted_next after passes tells q nodes chart.marks.items at m (λ t le. none_marked after passes tells p _ chart.marks.items t there (none t le)) x.charting.noted) x.charting;

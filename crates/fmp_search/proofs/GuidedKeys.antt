@@ -1,7 +1,6 @@
 -- Keys of places with how many choices were made before.
-use Rattle.std.proofs.Common.{◌≡◌, ◌∙◌, ℕ, ◌+◌, ◌-◌, ◌*◌, ◌/◌, ◌%◌, ◌^◌, ◌≤◌, Some, List, ◌∷◌, drop, length, refl, ap, sym, subst, arith}
+use Rattle.std.proofs.Common.{◌≡◌, ◌∙◌, ℕ, ◌-◌, ◌≤◌, Some, List, ◌∷◌, drop, length, refl, ap, sym, subst, arith}
 use Rattle.std.specs.Prelude.{slice_get}
-use Rattle.std.proofs.Math.Nat.{mod-add-div'}
 use Rattle.std.proofs.lemmas.List.{length-drop}
 use Rattle.std.proofs.lemmas.Option.{same_Some}
 use Rattle.fmp_interned.specs.Keys.{AreKeptBy, IsKeyOf}
@@ -10,6 +9,7 @@ use Rattle.fmp_interned.proofs.Numbers.{number_stays}
 use Rattle.fmp_search.specs.declared.guided.Choice.{Choice}
 use Rattle.fmp_search.specs.Guides.{Guide, guide}
 use Rattle.fmp_search.specs.GuidedKeys.{words_of, IsGuidedKey}
+use Rattle.fmp_search.proofs.InHalves.{halves_same}
 
 -- where as many have to be chosen still, as many were chosen
 made_same : (m n : ℕ) (cs : List Choice) → m ≤ length cs → n ≤ length cs → drop m cs ≡ drop n cs → m ≡ n
@@ -24,10 +24,6 @@ first_same a b xs ys is = cc
 
 rest_same : (a b : ℕ) (xs ys : List ℕ) → a ∷ xs ≡ b ∷ ys → xs ≡ ys
 rest_same a b xs ys is = cc
-
--- a number is known by its halves
-halves_same : (m n : ℕ) → m / 2 ^ 32 ≡ n / 2 ^ 32 → m % 2 ^ 32 ≡ n % 2 ^ 32 → m ≡ n
-halves_same m n high low = sym (mod-add-div' m (2 ^ 32)) ∙ ap (λ k. k + m / 2 ^ 32 * 2 ^ 32) low ∙ ap (λ k. n % 2 ^ 32 + k * 2 ^ 32) high ∙ mod-add-div' n (2 ^ 32)
 
 words_same : (k m j n : ℕ) → words_of k m ≡ words_of j n → (k ≡ j) × (m ≡ n)
 words_same k m j n is =

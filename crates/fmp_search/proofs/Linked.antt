@@ -7,7 +7,9 @@ use Rattle.std.proofs.lemmas.Option.{slice_get-map, slice_get_within, slice_get-
 use Rattle.fmp_search.specs.declared.edges.Edge.{Edge}
 use Rattle.fmp_search.specs.declared.edges.Link.{Link}
 use Rattle.fmp_search.specs.declared.kinds.Kind.{Kind}
-use Rattle.fmp_search.specs.Kinds.{no_kind, edge_of, edges_of, AreKnown, AreKindsOf}
+use Rattle.fmp_interned.specs.Values.{IsBeginning}
+use Rattle.fmp_interned.proofs.Numbers.{number_stays}
+use Rattle.fmp_search.specs.Kinds.{no_kind, edge_of, edges_of, AreKnown}
 use Rattle.fmp_search.proofs.Charted.{item_of}
 
 pub edges_long : (kinds : List Kind) (links : List Link) → length (edges_of kinds links) ≡ length links
@@ -31,9 +33,9 @@ unfolding edges_of
 edge_at kinds links k l kind is has =
     slice_get-map (edge_of kinds) links k ∙ ap (option_map (edge_of kinds)) is ∙ ap (λ (e : Edge). Some e) (edge_is kinds l kind has)
 
-module _ (kinds more : List Kind) (kept : AreKindsOf kinds more) where
+module _ (kinds more : List Kind) (kept : IsBeginning kinds more) where
   edge_stays : (l : Link) → l.kind < length kinds → edge_of more l ≡ edge_of kinds l
-  edge_stays l lt = edge_is more l _ (kept l.kind _ (slice_get-get_or kinds l.kind no_kind lt))
+  edge_stays l lt = edge_is more l _ (number_stays kinds more l.kind _ kept (slice_get-get_or kinds l.kind no_kind lt))
 
   mapped_stay : (links : List Link) → AreKnown kinds links → map (edge_of more) links ≡ map (edge_of kinds) links
   mapped_stay [] known = refl
@@ -45,7 +47,7 @@ module _ (kinds more : List Kind) (kept : AreKindsOf kinds more) where
   pub known_stay : (links list : List Link) → list ≡ links → AreKnown kinds links → AreKnown more list
   known_stay links list same known k l is =
       let lt = known k l (subst (λ (ls : List Link). slice_get ls k ≡ Some l) same is) in
-      slice_get_within more l.kind _ (kept l.kind _ (slice_get-get_or kinds l.kind no_kind lt))
+      slice_get_within more l.kind _ (number_stays kinds more l.kind _ kept (slice_get-get_or kinds l.kind no_kind lt))
 
   -- the same links are the same edges
   pub edges_stay : (links list : List Link) → list ≡ links → AreKnown kinds links → edges_of more list ≡ edges_of kinds links

@@ -61,10 +61,10 @@ module _ {P : Type 0} (after : P → ℕ → Option P) (q : P) where
       passed = subst (λ k. IsPassed after q nodes k first) is before;
     })
 
-module _ {P : Type 0} (after : P → ℕ → Option P) (IsKey : ℕ → P → Type 0) (zeroth : ℕ) (passes tells : P → ℕ → ℕ) (wanted : P → Bool) (q : P) (n first most : ℕ) (over : Bool) (nodes : List Node)
+module _ {P : Type 0} (after : P → ℕ → Option P) (IsKey : ℕ → P → Type 0) (keys : List ℕ) (passes tells : P → ℕ → ℕ) (wanted : P → Bool) (q : P) (n first most : ℕ) (over : Bool) (nodes : List Node)
     (chart : Chart) (at step : ℕ) where
   -- what is known where not all steps were tried
-  pub stopped_by : (how : Layer) → (how ≡ layer.Done → ⊥) → Advances after IsKey zeroth passes tells wanted q n first most over nodes chart at step how →
+  pub stopped_by : (how : Layer) → (how ≡ layer.Done → ⊥) → Advances after IsKey keys passes tells wanted q n first most over nodes chart at step how →
       IsStopped after passes q n nodes chart × IsOverBy over how
   stopped_by (layer.Found steps) not x = (x.0, tt)
   stopped_by layer.Full not x = (x.0, tt)
@@ -73,7 +73,7 @@ module _ {P : Type 0} (after : P → ℕ → Option P) (IsKey : ℕ → P → Ty
   stopped_by layer.Done not x = absurd (not refl)
 
   pub through_by : (how : Layer) (turns asked opened : ℕ) → (how ≡ layer.Done → ⊥) → n < turns → NoneWithin after wanted q n → most ≡ asked →
-      Advances after IsKey zeroth passes tells wanted q n first most over nodes chart at step how → GoesSo after wanted q turns asked nodes n opened how
+      Advances after IsKey keys passes tells wanted q n first most over nodes chart at step how → GoesSo after wanted q turns asked nodes n opened how
   through_by (layer.Found steps) turns asked opened not lt none same x = let few = x.1 in (omega (arith, lt), omega (arith, lt, few), x.2)
   through_by layer.Full turns asked opened not lt none same x = (lt, none, x.1 ∙ same, x.2)
   through_by layer.Wanting turns asked opened not lt none same x = (lt, none)
@@ -81,12 +81,12 @@ module _ {P : Type 0} (after : P → ℕ → Option P) (IsKey : ℕ → P → Ty
   through_by layer.Done turns asked opened not lt none same x = absurd (not refl)
 
   -- where all steps from the places of a layer were tried, the next one begins
-  pub open_layer : first ≡ at → IsOpen after IsKey zeroth passes tells wanted q n first nodes chart at 0 → IsOpen after IsKey zeroth passes tells wanted q (n + 1) (length nodes + 1) nodes chart at 0
+  pub open_layer : first ≡ at → IsOpen after IsKey keys passes tells wanted q n first nodes chart at 0 → IsOpen after IsKey keys passes tells wanted q (n + 1) (length nodes + 1) nodes chart at 0
   open_layer is x = record {
     front = record {
       explored = layer-more after wanted q nodes n at (subst (λ k. Explored after wanted q nodes n k at) is x.front.explored);
       tried = x.front.tried;
-      keys = x.front.keys;
+      keyed = x.front.keyed;
     };
     charting = x.charting;
   }

@@ -27,14 +27,14 @@ pub record IsStopped {P : Type 0} (after : P → ℕ → Option P) (passes : P �
   pub short : chart.kept ≡ true → AreShort after q nodes chart.edges (n + 1)
   pub left : chart.opened ≤ length nodes
 
-module _ {P : Type 0} (after : P → ℕ → Option P) (IsKey : ℕ → P → Type 0) (zeroth : ℕ) (wanted : P → Bool) (q : P)
+module _ {P : Type 0} (after : P → ℕ → Option P) (IsKey : ℕ → P → Type 0) (keys : List ℕ) (wanted : P → Bool) (q : P)
     (n first : ℕ) where
   -- of the first places, which are those of all runs of n steps, all steps from the first were tried, and the first steps from the next, and the keys of all
   -- places that were found are kept
   pub record IsFront (nodes : List Node) (at step : ℕ) : Type 0 where
     pub explored : Explored after wanted q nodes n first at
     pub tried : AreTried after q nodes at step
-    pub keys : AreKeyed after IsKey q zeroth nodes
+    pub keyed : AreKeyed after IsKey q keys nodes
 
   -- the number that a place has, to which a step leads: it is one of the places that were found, or was added to them. Else none was added: it is new and there is no room for it, or
   -- there was no memory for it or for its parts
@@ -43,11 +43,11 @@ module _ {P : Type 0} (after : P → ℕ → Option P) (IsKey : ℕ → P → Ty
   Numbers most nodes at step r placed.Full more = (more ≡ nodes) × (most ≤ length nodes) × IsNew after q nodes r
   Numbers most nodes at step r placed.Wanting more = more ≡ nodes
 
-module _ {P : Type 0} (after : P → ℕ → Option P) (IsKey : ℕ → P → Type 0) (zeroth : ℕ) (passes tells : P → ℕ → ℕ)
+module _ {P : Type 0} (after : P → ℕ → Option P) (IsKey : ℕ → P → Type 0) (keys : List ℕ) (passes tells : P → ℕ → ℕ)
     (wanted : P → Bool) (q : P) (n first : ℕ) where
   -- and the edges of these steps are there
   pub record IsOpen (nodes : List Node) (chart : Chart) (at step : ℕ) : Type 0 where
-    pub front : IsFront after IsKey zeroth wanted q n first nodes at step
+    pub front : IsFront after IsKey keys wanted q n first nodes at step
     pub charting : Charting after passes tells q nodes chart at step
 
   -- how steps went: those before one were all tried, or it is known why they were not

@@ -40,12 +40,12 @@ impl Chart {
     }
 
     /// Marks the number that is told of a step, and adds the edge of the step after the others, if they are kept. The error is want of memory, and leaves all as it was.
-    pub(crate) fn add(&mut self, alloc: Global, edge: Edge, number: u32) -> Result<(), AllocError>
+    pub(crate) fn add(&mut self, edge: Edge, number: u32) -> Result<(), AllocError>
         ensures adds { IfOk result (λ done. Adds edge number self.old self.new) }
         ensures left { OnErr result (AreLeft self.old self.new) }
     {
         if self.kept {
-            self.edges.push(alloc, edge)?;
+            self.edges.push(edge)?;
         }
         mark(&mut self.marks, number);
         Ok(())

@@ -1,7 +1,8 @@
 //! The steps between places that were found, in 12 bytes each.
 ghost use Rattle.std.specs.Prelude.{◌≡◌, ◌<◌, ◌++◌, ◌∷◌, [], length, slice_get, Some, OnOk, OnErr};
 
-use crate::kinds::{Kind, Kinds};
+use crate::kinds::Kind;
+use fmp_interned::Interned;
 use std::alloc::{AllocError, Global};
 use std::marker::Model;
 
@@ -26,7 +27,7 @@ pub(crate) struct Link {
 #[derive(Drop)]
 pub(crate) struct Edges {
     links: Vec<Link>,
-    kinds: Kinds,
+    kinds: Interned<Kind>,
 }
 
 impl Model for Edges {
@@ -36,9 +37,9 @@ impl Model for Edges {
 
     ghost Value = { List Edge };
 
-    ghost view = { λ e. edges_of e.kinds.all.items e.links.items };
+    ghost view = { λ e. edges_of e.kinds e.links.items };
 
-    ghost invariant = { λ e. AreKnown e.kinds.all.items e.links.items };
+    ghost invariant = { λ e. AreKnown e.kinds e.links.items };
 }
 
 impl Edges {
@@ -48,7 +49,7 @@ impl Edges {
     {
         Edges {
             links: Vec::new(alloc),
-            kinds: Kinds::new(alloc),
+            kinds: Interned::new(alloc),
         }
     }
 
@@ -75,17 +76,14 @@ impl Edges {
     }
 
     /// Adds an edge after the others. The error is want of memory, and leaves them as they were.
-    pub(crate) fn push(&mut self, alloc: Global, edge: Edge) -> Result<(), AllocError>
+    pub(crate) fn push(&mut self, edge: Edge) -> Result<(), AllocError>
         ensures added { OnOk result (self.new ≡ self.old ++ edge ∷ []) }
         ensures left { OnErr result (self.new ≡ self.old) }
     {
-        let kind = self.kinds.number(
-            alloc,
-            Kind {
-                passes: edge.passes,
-                step: edge.step,
-            },
-        )?;
+        let kind = self.kinds.number_of(&Kind {
+            passes: edge.passes,
+            step: edge.step,
+        })?;
         self.links.push(Link {
             from: edge.from,
             to: edge.to,

@@ -1,10 +1,11 @@
 //! Runs whose first steps are given.
-ghost use Rattle.std.specs.Prelude.{◌≡◌, ℕ, ◌+◌, ◌*◌, ◌/◌, ◌%◌, ◌<◌, ◌≤◌, ◌^◌, drop, length, nat_lt, IfOk, if◌then◌else◌};
+ghost use Rattle.std.specs.Prelude.{◌≡◌, ℕ, ◌+◌, ◌<◌, ◌≤◌, ◌^◌, drop, length, nat_lt, IfOk, if◌then◌else◌};
 ghost use Rattle.fmp_search.specs.Answers.{IsEndedBy};
 ghost use Rattle.fmp_search.specs.Guides.{Guide, SaysAlong, guided_after, guided_wanted, is_empty, is_of, may_choose};
 ghost use Rattle.fmp_search.specs.GuidedKeys.{words_of, IsGuidedKey};
 
 use crate::exploring::{Answer, explore};
+use crate::halving::{halves, joined};
 use crate::progress::Progress;
 use crate::space::{Noted, Space};
 use fmp_interned::Interned;
@@ -69,23 +70,6 @@ pub struct GuidedTables<T: Drop> {
     kept: Interned<[u32; 4]>,
 }
 
-// Two halves make a number of 64 bits.
-const HALF: u64 = 4_294_967_296;
-
-/// A number of 64 bits in two halves.
-fn halves(number: u64) -> (u32, u32)
-    ensures { (result.0 ≡ number / 2 ^ 32) × (result.1 ≡ number % 2 ^ 32) }
-{
-    ((number / HALF) as u32, (number % HALF) as u32)
-}
-
-/// The number of two halves.
-fn joined(high: u32, low: u32) -> u64
-    ensures { result ≡ high * 2 ^ 32 + low }
-{
-    u64::from(high) * HALF + u64::from(low)
-}
-
 /// A key and how many choices were made, in halves.
 fn words_of(key: u64, made: usize) -> [u32; 4]
     ensures { result ≡ words_of key made }
@@ -140,10 +124,10 @@ impl<'a, W: Space + Drop> Space for Guided<'a, W> {
         Ok(u64::from(number))
     }
 
-    fn unpack(&mut self, tables: &GuidedTables<W::Tables>, key: u64) -> Result<(), AllocError> {
+    fn unpack(&mut self, tables: &mut GuidedTables<W::Tables>, key: u64) -> Result<(), AllocError> {
         tables.kept.validity();
         let (key, made) = of_words(tables.kept.get(key as u32));
-        self.walker.unpack(&tables.tables, key)?;
+        self.walker.unpack(&mut tables.tables, key)?;
         self.made = made;
         Ok(())
     }

@@ -54,30 +54,29 @@ fn number_of<W: Space + Drop>(
     at: usize,
     step: u8,
 ) -> Placed
-    requires front { IsFront W.after (W.IsKey (W.origin walker.now) store.old.tables) store.old.first W.wanted (W.origin walker.now) front.depth front.end
+    requires front { IsFront W.after (W.IsKey (W.origin walker.now) store.old.tables) store.old.keys W.wanted (W.origin walker.now) front.depth front.end
         store.old.nodes.items at step }
     requires place { at < front.end }
     requires made { W.after (found_at W.after (W.origin walker.now) store.old.nodes.items at).place step ≡ Some (W.place walker.now) }
     requires clean { W.wanted (W.place walker.now) ≡ false }
-    ensures number { Numbers W.after (W.IsKey (W.origin walker.now) store.new.tables) store.new.first W.wanted (W.origin walker.now) front.depth
+    ensures number { Numbers W.after (W.IsKey (W.origin walker.now) store.new.tables) store.new.keys W.wanted (W.origin walker.now) front.depth
         front.end store.old.most store.old.nodes.items at step (W.place walker.now) result store.new.nodes.items }
     ensures stays { store.new.most ≡ store.old.most }
 {
     let Ok(key) = walker.pack(&mut store.tables) else {
         return Placed::Wanting;
     };
-    if let Some(number) = store.find(key) {
+    if let Some(number) = store.keys.find(&key) {
         return Placed::At(number);
     }
     if store.is_full() {
         return Placed::Full;
     }
     let node = Node {
-        key,
         parent: at as u32,
         step,
     };
-    match store.push(node) {
+    match store.push(node, key) {
         Ok(()) => Placed::At(store.nodes.len() as u32),
         Err(AllocError) => Placed::Wanting,
     }
@@ -132,12 +131,12 @@ fn try_step<W: Space + Drop>(
     step: u8,
     closed: &mut u64,
 ) -> Result<Layer, AllocError>
-    requires opening { IsOpen W.after (W.IsKey (W.origin walker.old) store.old.tables) store.old.first W.passes W.tells W.wanted (W.origin walker.old) front.depth front.end
+    requires opening { IsOpen W.after (W.IsKey (W.origin walker.old) store.old.tables) store.old.keys W.passes W.tells W.wanted (W.origin walker.old) front.depth front.end
         store.old.nodes.items chart.old at step }
     requires place { at < front.end }
     requires base { Stands W.place W.room W.origin W.after (W.origin walker.old) store.old.nodes.items at base.now }
     requires closed { AreClosed W.after (W.place base.now) closed.old }
-    ensures advances { IfOk result (Advances W.after (W.IsKey (W.origin walker.old) store.new.tables) store.new.first W.passes W.tells W.wanted (W.origin walker.old) front.depth
+    ensures advances { IfOk result (Advances W.after (W.IsKey (W.origin walker.old) store.new.tables) store.new.keys W.passes W.tells W.wanted (W.origin walker.old) front.depth
         front.end store.old.most false store.new.nodes.items chart.new at (step + 1)) }
     ensures stays { IfOk result (λ how. Stays W.origin (W.origin walker.old) walker.new base.now store.old.most store.new.most
         chart.old.kept (length chart.old.marks.items) chart.new) }
@@ -161,7 +160,7 @@ fn try_step<W: Space + Drop>(
         to,
         step,
     };
-    match chart.add(alloc, edge, noted.number) {
+    match chart.add(edge, noted.number) {
         Ok(()) => Ok(Layer::Done),
         Err(AllocError) => Ok(Layer::Wanting),
     }
@@ -178,17 +177,17 @@ fn open_place<W: Space + Drop>(
     front: Front,
     at: usize,
 ) -> Result<Layer, AllocError>
-    requires opening { IsOpen W.after (W.IsKey (W.origin walker.old) store.old.tables) store.old.first W.passes W.tells W.wanted (W.origin walker.old) front.depth front.end
+    requires opening { IsOpen W.after (W.IsKey (W.origin walker.old) store.old.tables) store.old.keys W.passes W.tells W.wanted (W.origin walker.old) front.depth front.end
         store.old.nodes.items chart.old at 0 }
     requires place { at < front.end }
     requires origin { W.origin base.old ≡ W.origin walker.old }
-    ensures advances { IfOk result (Advances W.after (W.IsKey (W.origin walker.old) store.new.tables) store.new.first W.passes W.tells W.wanted (W.origin walker.old) front.depth
+    ensures advances { IfOk result (Advances W.after (W.IsKey (W.origin walker.old) store.new.tables) store.new.keys W.passes W.tells W.wanted (W.origin walker.old) front.depth
         front.end store.old.most false store.new.nodes.items chart.new (at + 1) 0) }
     ensures stays { IfOk result (λ how. Stays W.origin (W.origin walker.old) walker.new base.new store.old.most store.new.most
         chart.old.kept (length chart.old.marks.items) chart.new) }
 {
     let key = store.key_of(at);
-    base.unpack(&store.tables, key)?;
+    base.unpack(&mut store.tables, key)?;
     let steps = base.steps();
     let mut closed = 0;
     for step in 0..steps {
@@ -222,11 +221,11 @@ pub(crate) fn open_layer<W: Space + Drop, P: Progress>(
     front: Front,
     begin: usize,
 ) -> Result<Layer, AllocError>
-    requires opening { IsOpen W.after (W.IsKey (W.origin walker.old) store.old.tables) store.old.first W.passes W.tells W.wanted (W.origin walker.old) front.depth front.end
+    requires opening { IsOpen W.after (W.IsKey (W.origin walker.old) store.old.tables) store.old.keys W.passes W.tells W.wanted (W.origin walker.old) front.depth front.end
         store.old.nodes.items chart.old begin 0 }
     requires place { begin ≤ front.end }
     requires origin { W.origin base.old ≡ W.origin walker.old }
-    ensures advances { IfOk result (Advances W.after (W.IsKey (W.origin walker.old) store.new.tables) store.new.first W.passes W.tells W.wanted (W.origin walker.old) front.depth
+    ensures advances { IfOk result (Advances W.after (W.IsKey (W.origin walker.old) store.new.tables) store.new.keys W.passes W.tells W.wanted (W.origin walker.old) front.depth
         front.end store.old.most (P.over progress.new) store.new.nodes.items chart.new front.end 0) }
     ensures stays { IfOk result (λ how. Stays W.origin (W.origin walker.old) walker.new base.new store.old.most store.new.most
         chart.old.kept (length chart.old.marks.items) chart.new) }

@@ -6,12 +6,9 @@ use crate::paths::path_to;
 use crate::space::Space;
 use std::alloc::{AllocError, Global};
 
-/// A place, by its key, and by the place before it and the step between them. Place 0 is where all runs begin, and has no node; the node of number k
-/// is that of place k + 1.
+/// A place, by the place before it and the step between them. Place 0 is where all runs begin, and has no node; the node of number k is that of place k + 1.
 #[derive(Clone, Copy)]
 pub struct Node {
-    /// By which the place is told apart, and made again.
-    pub key: u64,
     pub parent: u32,
     pub step: u8,
 }

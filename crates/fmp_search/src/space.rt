@@ -53,10 +53,11 @@ pub trait Space {
         ensures key { IfOk result (IsKeyOf (IsKey (origin self.now) tables.new) (place self.now)) }
         ensures kept { AreKeptBy (IsKey (origin self.now) tables.old) (IsKey (origin self.now) tables.new) };
 
-    /// Goes to the place of a key. The error is want of memory.
-    fn unpack(&mut self, tables: &Self::Tables, key: u64) -> Result<(), AllocError>
-        requires { (p : Place) × IsKey (origin self.old) tables.now key p }
-        ensures there { IfOk result (λ done. (p : Place) → IsKey (origin self.old) tables.now key p → place self.new ≡ p) }
+    /// Goes to the place of a key. The keys of places near to it are found sooner from then on: no answer depends on that. The error is want of memory.
+    fn unpack(&mut self, tables: &mut Self::Tables, key: u64) -> Result<(), AllocError>
+        requires { (p : Place) × IsKey (origin self.old) tables.old key p }
+        ensures there { IfOk result (λ done. (p : Place) → IsKey (origin self.old) tables.old key p → place self.new ≡ p) }
+        ensures same { tables.new ≡ tables.old }
         ensures room { IfOk result (λ done. 0 < room self.new) }
         ensures origin { origin self.new ≡ origin self.old };
 

@@ -1,16 +1,17 @@
 -- Keys of places: each place has one, which is that of no other.
-use Rattle.std.proofs.Common.{◌≡◌, ◌∙◌, ℕ, ◌+◌, ◌*◌, ◌^◌, ◌<◌, ◌≤◌, List, ◌++◌, ◌-◌, length, take, refl, ap, ap₂, sym, subst, arith}
+use Rattle.std.proofs.Common.{◌≡◌, ◌∙◌, ℕ, ◌+◌, ◌*◌, ◌/◌, ◌%◌, ◌^◌, ◌≤◌, List, ◌++◌, ◌-◌, length, take, refl, ap, sym, subst, arith}
 use Rattle.std.specs.Prelude.{replicate, slice_index, slice_range}
 use Rattle.std.proofs.lemmas.List.{length-take-le}
-use Rattle.fmp_interned.specs.Chains.{IsChain}
+use Rattle.fmp_interned.specs.Trees.{IsTree}
 use Rattle.fmp_interned.specs.Keys.{AreKeptBy, IsKeyOf}
 use Rattle.fmp_interned.specs.Values.{AreDistinct, IsBeginning}
-use Rattle.fmp_interned.proofs.Chains.{chain_stays, one_key, one_list}
+use Rattle.fmp_interned.proofs.Trees.{one_tree, tree_list, tree_stays}
 use Rattle.fmp_kernel_order.specs.Queues.{Queues}
 use Rattle.fmp_kernel_packed.specs.Kept.{ArePartsBefore, ArePartsOnce, KeptParts}
 use Rattle.fmp_kernel_packed.specs.Kernels.{IsKernel}
 use Rattle.fmp_kernel_packed.proofs.Laws.{kernel_one, kernel_only, kernel_stays}
 use Rattle.fmp_rules.specs.World.{World}
+use Rattle.fmp_search.proofs.InHalves.{halves_same}
 use Rattle.fmp_setup.specs.Setup.{Setup}
 use Rattle.fmp_search_orders.specs.Places.{Place}
 use Rattle.fmp_search_kernel.specs.Keys.{count_of_words, words_of, IsPackable, IsPadded, IsPlaceKey, KeptPlaces}
@@ -80,36 +81,29 @@ kernel_moved kept kept' start start' w w' m m' n n' parts begun machine number c
     (subst (λ (x : World Queues). IsKernel kept' start' x m n) machine
     (subst (λ (x : World Queues). IsKernel kept' x w m n) begun (subst (λ (x : KeptParts). IsKernel x start w m n) parts is))))
 
-halves_one : (m w n v : ℕ) → w < 2 ^ 32 → v < 2 ^ 32 → m * 2 ^ 32 + w ≡ n * 2 ^ 32 + v → (m ≡ n) × (w ≡ v)
-halves_one m w n v one other is = (omega (arith, one, other, is), omega (arith, one, other, is))
-
 module _ (o : Place) (kept : KeptPlaces) where
   -- a key is of one place alone
   pub one_place : (p r : Place) (key : ℕ) → IsPlaceKey o kept key p → IsPlaceKey o kept key r → p ≡ r
   one_place p r key g h =
       let from : origin_of p ≡ origin_of r = g.origin ∙ sym h.origin in
       let config : p.config ≡ r.config = ap (λ (x : Place). x.config) from in
-      let halves = halves_one g.machine g.words h.machine h.words g.small h.small (sym g.is ∙ h.is) in
-      let list =
-      one_list kept.pairs h.words (words_of p g.counting) (words_of r h.counting) (words_long p r g.counting h.counting g.packable h.packable config)
-      (subst (λ (w : ℕ). IsChain kept.pairs (words_of p g.counting) w) halves.1 g.chain) h.chain
-      in
+      let list = tree_list kept.pairs (words_of p g.counting) (words_of r h.counting) (key % 2 ^ 32) (words_long p r g.counting h.counting g.packable h.packable config) g.tree h.tree in
       let alike = words_same p r g.counting h.counting g.packable h.packable config list in
       let kernel =
-      kernel_moved kept.parts kept.parts (origin_of p).machine (origin_of r).machine p.machine p.machine g.machine h.machine g.counting h.counting refl (ap (λ (x : Place). x.machine) from) refl
-      halves.0 alike.counting g.kernel
+      kernel_moved kept.parts kept.parts (origin_of p).machine (origin_of r).machine p.machine p.machine (key / 2 ^ 32) (key / 2 ^ 32) g.counting h.counting refl
+      (ap (λ (x : Place). x.machine) from) refl refl alike.counting g.kernel
       in
       place_same p r g.counting h.counting g.packable h.packable config from
-      (kernel_only kept.parts (origin_of r).machine p.machine r.machine h.machine h.counting kernel h.kernel) alike
+      (kernel_only kept.parts (origin_of r).machine p.machine r.machine (key / 2 ^ 32) h.counting kernel h.kernel) alike
 
   -- a place has one key, which is of no other
   pub place_key : (r : Place) (key : ℕ) → ArePartsOnce kept.parts → AreDistinct kept.pairs → IsPlaceKey o kept key r → IsKeyOf (IsPlaceKey o kept) r key
   place_key r key once distinct h = record {
     there = h;
     one = λ k g.
-        let same = kernel_one kept.parts (origin_of r).machine r.machine h.machine g.machine h.counting g.counting once h.kernel g.kernel in
-        let words = one_key kept.pairs 0 g.words h.words (words_of r h.counting) distinct (subst (λ (n : ℕ). IsChain kept.pairs (words_of r n) g.words) same.1 g.chain) h.chain in
-        g.is ∙ ap₂ (λ (m w : ℕ). m * 2 ^ 32 + w) same.0 words ∙ sym h.is;
+        let same = kernel_one kept.parts (origin_of r).machine r.machine (key / 2 ^ 32) (k / 2 ^ 32) h.counting g.counting once h.kernel g.kernel in
+        let tree = subst (λ (n : ℕ). IsTree kept.pairs (words_of r n) (k % 2 ^ 32)) same.1 g.tree in
+        halves_same k key same.0 (one_tree kept.pairs (words_of r h.counting) (k % 2 ^ 32) (key % 2 ^ 32) distinct tree h.tree);
     only = λ p g. one_place p r key g h;
   }
 
@@ -118,13 +112,9 @@ pub place_kept : (o : Place) (old new : KeptPlaces) → ArePartsBefore old.parts
 place_kept o old new before begins k p g = record {
   origin = g.origin;
   packable = g.packable;
-  machine = g.machine;
   counting = g.counting;
-  words = g.words;
-  small = g.small;
-  is = g.is;
-  kernel = kernel_stays old.parts new.parts (origin_of p).machine p.machine g.machine g.counting before g.kernel;
-  chain = chain_stays old.pairs new.pairs 0 g.words (words_of p g.counting) begins g.chain;
+  kernel = kernel_stays old.parts new.parts (origin_of p).machine p.machine (k / 2 ^ 32) g.counting before g.kernel;
+  tree = tree_stays old.pairs new.pairs (words_of p g.counting) (k % 2 ^ 32) begins g.tree;
 }
 
 -- a list becomes a part of numbers, and 0 after it

@@ -1,13 +1,13 @@
 -- Places by keys: what a kernel is made of, and the positions and counts beside it.
-use Rattle.std.specs.Prelude.{◌≡◌, ℕ, ◌+◌, ◌*◌, ◌<◌, ◌^◌, List, [], ◌∷◌, ◌++◌, drop, length, replicate, take}
-use Rattle.fmp_interned.specs.Chains.{IsChain}
+use Rattle.std.specs.Prelude.{◌≡◌, ℕ, ◌+◌, ◌*◌, ◌/◌, ◌%◌, ◌^◌, List, [], ◌∷◌, ◌++◌, drop, length, replicate, take}
+use Rattle.fmp_interned.specs.Trees.{IsTree}
 use Rattle.fmp_kernel_packed.specs.Kept.{KeptParts}
 use Rattle.fmp_kernel_packed.specs.Kernels.{IsKernel}
 use Rattle.fmp_search_kernel.specs.Walked.{origin_of, IsRoomy}
 use Rattle.fmp_search_orders.specs.Places.{Place}
 use Rattle.fmp_setup.specs.Setup.{Setup}
 
--- what kernels are made of, and the pairs of the chains of the numbers beside them
+-- what kernels are made of, and the pairs of the trees of the numbers beside them
 pub record KeptPlaces : Type 0 where
   pub parts : KeptParts
   pub pairs : List (List ℕ)
@@ -34,14 +34,11 @@ words_of p counting =
     let n = p.config.processors in
     p.seen ∷ (take n p.taken ++ (take n p.idled ++ (take n p.handlers ++ (take (length p.config.tasks) p.tasks ++ counting ∷ []))))
 
--- where all runs begin at one place, a number is the key of another
+-- where all runs begin at one place, a number is the key of another: its upper half is that of what its kernel is made of, and its lower half that of the
+-- numbers beside it
 pub record IsPlaceKey (o : Place) (kept : KeptPlaces) (key : ℕ) (p : Place) : Type 0 where
   pub origin : origin_of p ≡ origin_of o
   pub packable : IsPackable p
-  pub machine : ℕ
   pub counting : ℕ
-  pub words : ℕ
-  pub small : words < 2 ^ 32
-  pub is : key ≡ machine * 2 ^ 32 + words
-  pub kernel : IsKernel kept.parts (origin_of p).machine p.machine machine counting
-  pub chain : IsChain kept.pairs (words_of p counting) words
+  pub kernel : IsKernel kept.parts (origin_of p).machine p.machine (key / 2 ^ 32) counting
+  pub tree : IsTree kept.pairs (words_of p counting) (key % 2 ^ 32)

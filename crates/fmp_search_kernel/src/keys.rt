@@ -1,6 +1,6 @@
 //! Places by keys: what a kernel is made of, and the positions and counts beside it.
 ghost use Rattle.std.specs.Prelude.{◌≡◌, ◌≤◌, ◌+◌, ◌-◌, ◌*◌, ◌<◌, ◌^◌, ◌++◌, ℕ, length, replicate, slice_index, IfOk, IsTrue};
-ghost use Rattle.fmp_interned.specs.Chains.{IsChain};
+ghost use Rattle.fmp_interned.specs.Trees.{IsTree};
 ghost use Rattle.fmp_interned.specs.Values.{AreDistinct, IsBeginning};
 ghost use Rattle.fmp_kernel_packed.specs.Kept.{ArePartsOnce};
 ghost use Rattle.fmp_search_kernel.specs.Keys.{count_of_words, words_of, IsPackable, IsPadded};
@@ -9,7 +9,7 @@ ghost use Rattle.fmp_search_orders.specs.Places.{Place};
 ghost use Rattle.fmp_setup.specs.Valid.{IsValid};
 
 use crate::walker::Walker;
-use fmp_interned::{Interned, Words, number_of_list_near};
+use fmp_interned::{Lists, Words};
 use fmp_kernel_packed::Parts;
 use std::alloc::{AllocError, Global};
 use std::marker::Model;
@@ -17,17 +17,12 @@ use std::marker::Model;
 /// How many numbers there are beside a kernel at most.
 pub(crate) const MOST_WORDS: usize = 90;
 
-// Two halves make a number of 64 bits.
-const HALF: u64 = 4_294_967_296;
-
 /// By which places have keys.
 #[derive(Drop)]
 pub struct PlaceTables {
     pub(crate) parts: Parts,
-    /// Of the chains of the numbers beside a kernel.
-    pub(crate) pairs: Interned<[u32; 2]>,
-    /// The key of the chain that was found last: the next one is often near to it.
-    last: u32,
+    /// Of the numbers beside a kernel.
+    pub(crate) lists: Lists,
     /// Room for such numbers.
     words: Words,
 }
@@ -37,7 +32,7 @@ impl Model for PlaceTables {
 
     ghost Value = { KeptPlaces };
 
-    ghost view = { λ t. record { parts = t.parts; pairs = t.pairs } };
+    ghost view = { λ t. record { parts = t.parts; pairs = t.lists } };
 }
 
 impl PlaceTables {
@@ -45,8 +40,7 @@ impl PlaceTables {
     pub(crate) fn new(alloc: Global) -> PlaceTables {
         PlaceTables {
             parts: Parts::new(alloc),
-            pairs: Interned::new(alloc),
-            last: 0,
+            lists: Lists::new(alloc),
             words: Words::new(alloc),
         }
     }
@@ -57,22 +51,8 @@ impl PlaceTables {
         ensures pairs { AreDistinct self.now.pairs }
     {
         self.parts.validity();
-        self.pairs.validity();
+        self.lists.validity();
     }
-}
-
-/// The key of two halves.
-pub(crate) fn key_of(machine: u32, words: u32) -> u64
-    ensures { result ≡ machine * 2 ^ 32 + words }
-{
-    u64::from(machine) * HALF + u64::from(words)
-}
-
-/// The halves of a key.
-pub(crate) fn parts_of(key: u64) -> (u32, u32)
-    ensures { (machine words : ℕ) → words < 2 ^ 32 → key ≡ machine * 2 ^ 32 + words → (result.0 ≡ machine) × (result.1 ≡ words) }
-{
-    ((key / HALF) as u32, (key % HALF) as u32)
 }
 
 /// Whether all numbers from a place on are 0.
@@ -107,7 +87,7 @@ fn fill(numbers: &mut [u32], with: &[u32])
 }
 
 /// Adds these numbers after others. The error is want of memory.
-fn add_all(words: &mut Words, numbers: &[u32]) -> Result<(), AllocError>
+pub(crate) fn add_all(words: &mut Words, numbers: &[u32]) -> Result<(), AllocError>
     ensures { IfOk result (λ done. words.new ≡ words.old ++ numbers.now) }
 {
     for number in numbers {
@@ -148,7 +128,7 @@ impl<'a> Walker<'a> {
         tables: &mut PlaceTables,
         counting: u32,
     ) -> Result<u32, AllocError>
-        ensures is { IfOk result (λ k. IsChain tables.new.pairs (words_of self.now.place counting) k) }
+        ensures is { IfOk result (λ k. IsTree tables.new.pairs (words_of self.now.place counting) k) }
         ensures pairs { IsBeginning tables.old.pairs tables.new.pairs }
         ensures parts { tables.new.parts ≡ tables.old.parts }
     {
@@ -161,9 +141,7 @@ impl<'a> Walker<'a> {
         add_all(words, &self.handlers[..processors])?;
         add_all(words, &self.tasks[..self.config.tasks().len()])?;
         words.push(counting)?;
-        let key = number_of_list_near(&mut tables.pairs, words.as_slice(), tables.last)?;
-        tables.last = key;
-        Ok(key)
+        tables.lists.key_of(words.as_slice())
     }
 
     /// The positions and the counts become those of such numbers, and there is room for one step.

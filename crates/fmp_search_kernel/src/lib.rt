@@ -9,6 +9,7 @@ mod space;
 mod ticks;
 mod walker;
 mod watcher;
+mod weights;
 
 pub use begun::choice_of;
 pub use calls::{NUMBERS, POSITIONS, number_of_call};

@@ -10,12 +10,11 @@ ghost use Rattle.fmp_search_kernel.specs.Keys.{count_of_words, IsPlaceKey};
 ghost use Rattle.fmp_search_kernel.specs.Walked.{origin_of, ClosesMark};
 ghost use Rattle.fmp_setup.specs.Valid.{IsValid};
 
-use crate::keys::{MOST_WORDS, PlaceTables, key_of, parts_of};
+use crate::keys::{MOST_WORDS, PlaceTables};
 use crate::walker::{MOST, Walker, is_marked};
 use fmp_codes::Event;
-use fmp_interned::put_list;
 use fmp_kernel_packed::{Packed, pack, unpack};
-use fmp_search::{Noted, Space};
+use fmp_search::{Noted, Space, halves, joined};
 use std::alloc::AllocError;
 
 /// Adds the bit of the step that makes the event of another with a mark.
@@ -79,23 +78,24 @@ impl<'a> Walker<'a> {
     /// Goes to the place of a key, with room for the numbers beside its kernel. There is room for one step then. The error is that of the kernel's `unpack`.
     fn unpack_by(
         &mut self,
-        tables: &PlaceTables,
+        tables: &mut PlaceTables,
         key: u64,
         numbers: &mut [u32],
     ) -> Result<(), AllocError>
         requires valid { IsValid self.old.place.config }
         requires long { length numbers.old ≡ count_of_words self.old.place.config }
-        requires kept { (p : places.Place) × IsPlaceKey (origin_of self.old.place) tables.now key p }
-        ensures there { IfOk result (λ done. (p : places.Place) → IsPlaceKey (origin_of self.old.place) tables.now key p → self.new.place ≡ p) }
+        requires kept { (p : places.Place) × IsPlaceKey (origin_of self.old.place) tables.old key p }
+        ensures there { IfOk result (λ done. (p : places.Place) → IsPlaceKey (origin_of self.old.place) tables.old key p → self.new.place ≡ p) }
+        ensures same { tables.new ≡ tables.old }
         ensures room { IfOk result (λ done. self.new.left ≡ 1) }
         ensures origin { origin_of self.new.place ≡ origin_of self.old.place }
     {
-        let (machine, words) = parts_of(key);
-        put_list(&tables.pairs, words, numbers);
+        let (machine, words) = halves(key);
+        tables.lists.put(words, numbers);
         let counting = numbers[numbers.len() - 1];
         let packed = Packed { machine, counting };
         unpack(
-            &tables.parts,
+            &mut tables.parts,
             packed,
             &mut self.machine,
             &mut self.kernel,
@@ -140,11 +140,11 @@ impl<'a> Space for Walker<'a> {
         let packed = pack(&mut tables.parts, &self.kernel, &self.start)?;
         let words = self.number_of_words(tables, packed.counting)?;
         tables.validity();
-        Ok(key_of(packed.machine, words))
+        Ok(joined(packed.machine, words))
     }
 
     /// The error is as at `pack`.
-    fn unpack(&mut self, tables: &PlaceTables, key: u64) -> Result<(), AllocError> {
+    fn unpack(&mut self, tables: &mut PlaceTables, key: u64) -> Result<(), AllocError> {
         let mut room = [0; MOST_WORDS];
         let count = self.word_count();
         self.unpack_by(tables, key, &mut room[..count])

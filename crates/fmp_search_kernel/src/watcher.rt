@@ -85,7 +85,7 @@ impl<'a> Space for Watcher<'a> {
         self.walker.pack(tables)
     }
 
-    fn unpack(&mut self, tables: &PlaceTables, key: u64) -> Result<(), AllocError> {
+    fn unpack(&mut self, tables: &mut PlaceTables, key: u64) -> Result<(), AllocError> {
         self.walker.unpack(tables, key)
     }
 

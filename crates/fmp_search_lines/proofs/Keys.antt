@@ -1,20 +1,15 @@
 -- Keys of places of one who takes lines: each is the key of one place, which has no other.
 use Rattle.std.proofs.Common.{◌≡◌, ◌∙◌, ℕ, ◌+◌, ◌*◌, ◌/◌, ◌%◌, ◌^◌, ◌≤◌, List, ◌∷◌, length, take, refl, ap, sym, subst, arith}
-use Rattle.std.proofs.Math.Nat.{mod-add-div'}
 use Rattle.std.proofs.lemmas.List.{length-take}
 use Rattle.std.proofs.lemmas.Grind.{common_steps}
-use Rattle.fmp_interned.specs.Chains.{HasChain, IsChain}
+use Rattle.fmp_interned.specs.Trees.{HasTree, IsTree}
 use Rattle.fmp_interned.specs.Values.{AreDistinct, IsBeginning}
-use Rattle.fmp_interned.proofs.Chains.{chain_stays, one_key, one_list}
+use Rattle.fmp_interned.proofs.Trees.{one_tree, tree_list, tree_stays}
 use Rattle.fmp_interned.specs.Keys.{AreKeptBy, IsKeyOf}
+use Rattle.fmp_search.proofs.InHalves.{halves_same}
 use Rattle.fmp_search_lines.specs.Held.{Held, with_place}
 use Rattle.fmp_search_lines.specs.Keys.{words_of, HasTaken, IsHeldKey, IsTakenKey}
 use Rattle.fmp_search_lines.specs.Places.{Place}
-
--- a number is known by its halves
-pub halves_same : (m n : ℕ) → m / 2 ^ 32 ≡ n / 2 ^ 32 → m % 2 ^ 32 ≡ n % 2 ^ 32 → m ≡ n
-halves_same m n upper lower =
-    sym (mod-add-div' m (2 ^ 32)) ∙ ap (λ k. k + m / 2 ^ 32 * 2 ^ 32) lower ∙ ap (λ k. n % 2 ^ 32 + k * 2 ^ 32) upper ∙ mod-add-div' n (2 ^ 32)
 
 first_same : (a b : ℕ) (xs ys : List ℕ) → a ∷ xs ≡ b ∷ ys → a ≡ b
 first_same a b xs ys is = cc
@@ -43,32 +38,32 @@ module _ (pairs : List (List ℕ)) where
   taken_only key s t top others is js one other =
       let as_many : length is ≡ length js = sym one.count ∙ other.count in
       let long : length (words_of s top is) ≡ length (words_of t others js) = grind (arith, common_steps, as_many) in
-      words_same s t top others is js (one_list pairs (key % 2 ^ 32) (words_of s top is) (words_of t others js) long one.chain other.chain)
+      words_same s t top others is js (tree_list pairs (words_of s top is) (words_of t others js) (key % 2 ^ 32) long one.tree other.tree)
 
   taken_one : (k m s top : ℕ) (is : List ℕ) → AreDistinct pairs → IsTakenKey pairs k s top is → IsTakenKey pairs m s top is → k ≡ m
   taken_one k m s top is distinct one other =
-      halves_same k m (one.count ∙ sym other.count) (one_key pairs 0 (k % 2 ^ 32) (m % 2 ^ 32) (words_of s top is) distinct one.chain other.chain)
+      halves_same k m (one.count ∙ sym other.count) (one_tree pairs (words_of s top is) (k % 2 ^ 32) (m % 2 ^ 32) distinct one.tree other.tree)
 
   taken_stays : (more : List (List ℕ)) (key s top : ℕ) (is : List ℕ) → IsBeginning pairs more → IsTakenKey pairs key s top is → IsTakenKey more key s top is
   taken_stays more key s top is begins one =
-      record { few = one.few; count = one.count; chain = chain_stays pairs more 0 (key % 2 ^ 32) (words_of s top is) begins one.chain }
+      record { few = one.few; count = one.count; tree = tree_stays pairs more (words_of s top is) (key % 2 ^ 32) begins one.tree }
 
   -- the number of how many lines are pending and of the key of such numbers
-  pub taken_key : (key count chain s top : ℕ) (is words : List ℕ) → length is ≤ 16 → key / 2 ^ 32 ≡ count → key % 2 ^ 32 ≡ chain → count ≡ length is → words ≡ words_of s top is →
-      IsChain pairs words chain → IsTakenKey pairs key s top is
-  taken_key key count chain s top is words few upper lower counted told there = record {
+  pub taken_key : (key count list s top : ℕ) (is words : List ℕ) → length is ≤ 16 → key / 2 ^ 32 ≡ count → key % 2 ^ 32 ≡ list → count ≡ length is → words ≡ words_of s top is →
+      IsTree pairs words list → IsTakenKey pairs key s top is
+  taken_key key count list s top is words few upper lower counted told there = record {
     few = few;
     count = upper ∙ counted;
-    chain = subst (λ k. IsChain pairs (words_of s top is) k) (sym lower) (subst (λ (xs : List ℕ). IsChain pairs xs chain) told there);
+    tree = subst (λ k. IsTree pairs (words_of s top is) k) (sym lower) (subst (λ (xs : List ℕ). IsTree pairs xs list) told there);
   }
 
   -- such numbers are those of some list
-  pub some_words : (room : List ℕ) (key count chain : ℕ) → HasTaken pairs key → count ≡ key / 2 ^ 32 → chain ≡ key % 2 ^ 32 → length room ≡ 19 →
-      HasChain pairs (length (take (count + 3) room)) chain
-  some_words room key count chain has upper lower is = (
+  pub some_words : (room : List ℕ) (key count list : ℕ) → HasTaken pairs key → count ≡ key / 2 ^ 32 → list ≡ key % 2 ^ 32 → length room ≡ 19 →
+      HasTree pairs (length (take (count + 3) room)) list
+  some_words room key count list has upper lower is = (
     words_of has.state has.top has.pending,
     long_words room count has.state has.top has.pending is has.is.few (upper ∙ has.is.count),
-    subst (λ k. IsChain pairs (words_of has.state has.top has.pending) k) (sym lower) has.is.chain,
+    subst (λ k. IsTree pairs (words_of has.state has.top has.pending) k) (sym lower) has.is.tree,
   )
 
 place_same : {S : Type 0} (p r : Place S) → p.top ≡ r.top → p.pending ≡ r.pending → p.state ≡ r.state → p ≡ r

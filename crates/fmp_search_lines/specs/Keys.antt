@@ -1,6 +1,6 @@
 -- Keys of places of one who takes lines.
 use Rattle.std.specs.Prelude.{◌≡◌, ℕ, ◌/◌, ◌%◌, ◌^◌, ◌≤◌, List, ◌∷◌, length}
-use Rattle.fmp_interned.specs.Chains.{IsChain}
+use Rattle.fmp_interned.specs.Trees.{IsTree}
 use Rattle.fmp_search_lines.specs.Held.{Held, with_place}
 use Rattle.fmp_search_lines.specs.Orders.{most}
 
@@ -13,7 +13,7 @@ words_of state top pending = state / 2 ^ 32 ∷ state % 2 ^ 32 ∷ top ∷ pendi
 pub record IsTakenKey (pairs : List (List ℕ)) (key state top : ℕ) (pending : List ℕ) : Type 0 where
   pub few : length pending ≤ most
   pub count : key / 2 ^ 32 ≡ length pending
-  pub chain : IsChain pairs (words_of state top pending) (key % 2 ^ 32)
+  pub tree : IsTree pairs (words_of state top pending) (key % 2 ^ 32)
 
 -- it is the key of some
 pub record HasTaken (pairs : List (List ℕ)) (key : ℕ) : Type 0 where

@@ -8,7 +8,6 @@
 mod bracket;
 mod crowding;
 mod goals;
-mod halving;
 mod laws;
 mod packing;
 mod player;
@@ -16,7 +15,6 @@ mod searching;
 mod taken;
 mod taker;
 
-pub use halving::{halves, joined};
 pub use laws::{orders_stand, places_say, steps_are, takers_say, told_by_pending, verdicts_say};
 pub use player::Player;
 pub use searching::{Orders, search_orders};

@@ -3,10 +3,10 @@ ghost use Rattle.std.specs.Prelude.{◌≡◌, ◌≤◌, ◌+◌, ◌++◌, ℕ
 ghost use Rattle.fmp_interned.specs.Values.{IsBeginning};
 ghost use Rattle.fmp_search_lines.specs.Keys.{words_of, HasTaken, IsTakenKey};
 
-use crate::halving::{halves, joined};
 use crate::taken::{Taken, put_all};
 use arrayvec::ArrayVec;
-use fmp_interned::{Interned, Words, number_of_list, put_list};
+use fmp_interned::{Lists, Words};
+use fmp_search::{halves, joined};
 use std::alloc::AllocError;
 
 /// How many numbers tell what is taken and a key at most: the halves of the key, the top, and the pending lines.
@@ -34,19 +34,19 @@ fn put_words(words: &mut Words, state: u64, taken: &Taken) -> Result<(), AllocEr
     add_lines(words, taken.pending.as_slice())
 }
 
-/// The key of the key of a state and of what is taken, by pairs that are kept from then on. The error is want of memory, and leaves other keys as they were.
+/// The key of the key of a state and of what is taken, by lists that are kept from then on. The error is want of memory, and leaves other keys as they were.
 pub(crate) fn pack_taken(
-    pairs: &mut Interned<[u32; 2]>,
+    lists: &mut Lists,
     words: &mut Words,
     state: u64,
     taken: &Taken,
 ) -> Result<u64, AllocError>
-    ensures is { IfOk result (λ k. IsTakenKey pairs.new k state taken.now.top taken.now.pending.items) }
-    ensures kept { IsBeginning pairs.old pairs.new }
+    ensures is { IfOk result (λ k. IsTakenKey lists.new k state taken.now.top taken.now.pending.items) }
+    ensures kept { IsBeginning lists.old lists.new }
 {
     put_words(words, state, taken)?;
-    let chain = number_of_list(pairs, words.as_slice())?;
-    Ok(joined(taken.pending.len() as u32, chain))
+    let list = lists.key_of(words.as_slice())?;
+    Ok(joined(taken.pending.len() as u32, list))
 }
 
 /// The key of a state and what is taken, of the numbers that tell them.
@@ -64,14 +64,15 @@ fn taken_of(numbers: &[u32]) -> (u64, Taken)
 }
 
 /// The key of a state and what is taken, of the key of both.
-pub(crate) fn unpack_taken(pairs: &Interned<[u32; 2]>, key: u64) -> (u64, Taken)
-    requires { HasTaken pairs.now key }
-    ensures { (state top : ℕ) (pending : List ℕ) → IsTakenKey pairs.now key state top pending →
+pub(crate) fn unpack_taken(lists: &mut Lists, key: u64) -> (u64, Taken)
+    requires { HasTaken lists.old key }
+    ensures same { lists.new ≡ lists.old }
+    ensures is { (state top : ℕ) (pending : List ℕ) → IsTakenKey lists.old key state top pending →
         (result.0 ≡ state) × (result.1.top ≡ top) × (result.1.pending.items ≡ pending) }
 {
-    let (count, chain) = halves(key);
+    let (count, list) = halves(key);
     let mut room = [0; MOST];
     let numbers = &mut room[..count as usize + 3];
-    put_list(pairs, chain, numbers);
+    lists.put(list, numbers);
     taken_of(numbers)
 }

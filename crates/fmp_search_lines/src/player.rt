@@ -40,9 +40,10 @@ pub trait Player {
         ensures kept { AreKeptBy (IsKey (begins self.now) tables.old) (IsKey (begins self.now) tables.new) };
 
     /// Becomes as it was in the state of a key. The error is want of memory.
-    fn unpack(&mut self, tables: &Self::Tables, key: u64) -> Result<(), AllocError>
-        requires { (s : State) × IsKey (begins self.old) tables.now key s }
-        ensures there { IfOk result (λ done. (s : State) → IsKey (begins self.old) tables.now key s → state self.new ≡ s) }
+    fn unpack(&mut self, tables: &mut Self::Tables, key: u64) -> Result<(), AllocError>
+        requires { (s : State) × IsKey (begins self.old) tables.old key s }
+        ensures there { IfOk result (λ done. (s : State) → IsKey (begins self.old) tables.old key s → state self.new ≡ s) }
+        ensures same { tables.new ≡ tables.old }
         ensures room { IfOk result (λ done. 0 < room self.new) }
         ensures begins { begins self.new ≡ begins self.old };
 

@@ -7,7 +7,7 @@ ghost use Rattle.fmp_search_lines.specs.Keys.{IsHeldKey};
 use crate::packing::{pack_taken, unpack_taken};
 use crate::player::Player;
 use crate::taken::Taken;
-use fmp_interned::{Interned, Words};
+use fmp_interned::{Lists, Words};
 use fmp_search::{Noted, Space};
 use std::alloc::{AllocError, Global};
 
@@ -25,11 +25,11 @@ pub struct Taker<'a, P: Player + Drop> {
     pub alloc: Global,
 }
 
-/// The tables of the player's states, and the pairs of the lists of numbers that tell a state's key and what is taken.
+/// The tables of the player's states, and the lists of numbers that tell a state's key and what is taken.
 #[derive(Drop)]
 pub struct TakerTables<T: Drop> {
     states: T,
-    pairs: Interned<[u32; 2]>,
+    lists: Lists,
     /// Room for such a list.
     words: Words,
 }
@@ -62,28 +62,28 @@ impl<'a, P: Player + Drop> Space for Taker<'a, P> {
 
     ghost tells = { λ q s. 0 };
 
-    ghost IsKey = { λ q t k p. IsHeldKey (P.IsKey q.place.state t.states) t.pairs q k p };
+    ghost IsKey = { λ q t k p. IsHeldKey (P.IsKey q.place.state t.states) t.lists q k p };
 
     ghost room = { λ w. P.room w.player };
 
     fn tables(&self) -> Result<TakerTables<P::Tables>, AllocError> {
         Ok(TakerTables {
             states: self.player.tables()?,
-            pairs: Interned::new(self.alloc),
+            lists: Lists::new(self.alloc),
             words: Words::new(self.alloc),
         })
     }
 
     fn pack(&self, tables: &mut TakerTables<P::Tables>) -> Result<u64, AllocError> {
         let state = self.player.pack(&mut tables.states)?;
-        let key = pack_taken(&mut tables.pairs, &mut tables.words, state, &self.taken)?;
-        tables.pairs.validity();
+        let key = pack_taken(&mut tables.lists, &mut tables.words, state, &self.taken)?;
+        tables.lists.validity();
         Ok(key)
     }
 
-    fn unpack(&mut self, tables: &TakerTables<P::Tables>, key: u64) -> Result<(), AllocError> {
-        let (state, taken) = unpack_taken(&tables.pairs, key);
-        self.player.unpack(&tables.states, state)?;
+    fn unpack(&mut self, tables: &mut TakerTables<P::Tables>, key: u64) -> Result<(), AllocError> {
+        let (state, taken) = unpack_taken(&mut tables.lists, key);
+        self.player.unpack(&mut tables.states, state)?;
         self.taken = taken;
         Ok(())
     }

@@ -8,7 +8,7 @@ use Rattle.fmp_interned.specs.Keys.{AreKeptBy, IsKeyOf}
 use Rattle.fmp_kernel_packed.specs.Kept.{KeptParts, ArePartsBefore, ArePartsOnce}
 use Rattle.fmp_kernel_packed.specs.Kernels.{IsKernel}
 use Rattle.fmp_kernel_packed.proofs.Laws.{kernel_one, kernel_only, kernel_stays}
-use Rattle.fmp_search_lines.proofs.Keys.{halves_same}
+use Rattle.fmp_search.proofs.InHalves.{halves_same}
 use Rattle.fmp_trace_orders.specs.Keys.{IsPlayingKey}
 use Rattle.fmp_trace_orders.specs.Playing.{Playing, with_machine}
 use Rattle.fmp_trace_orders.specs.Standing.{begun}

@@ -6,7 +6,8 @@ ghost use Rattle.fmp_trace_orders.specs.Playing.{Playing, plays};
 
 use crate::player::{LinePlayer, MOST, is_right_at};
 use fmp_kernel_packed::{Packed, Parts, pack, unpack};
-use fmp_search_lines::{Player, halves, joined};
+use fmp_search::{halves, joined};
+use fmp_search_lines::Player;
 use fmp_trace_partial::read_said;
 use std::alloc::AllocError;
 
@@ -39,7 +40,7 @@ impl<'a> Player for LinePlayer<'a> {
         Ok(joined(packed.machine, packed.counting))
     }
 
-    fn unpack(&mut self, tables: &Parts, key: u64) -> Result<(), AllocError> {
+    fn unpack(&mut self, tables: &mut Parts, key: u64) -> Result<(), AllocError> {
         let (machine, counting) = halves(key);
         let packed = Packed { machine, counting };
         unpack(tables, packed, &mut self.room, &mut self.kernel, self.start)?;

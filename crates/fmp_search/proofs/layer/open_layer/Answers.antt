@@ -14,7 +14,7 @@ returns-then-is_over g c =
     let W = g.W.Space in
     let inv = c.loop-at.invariant in record {
       advances = (
-        stopped_here W.after (W.IsKey (W.origin c.args.walker.now) c.loop-at.store.tables) c.loop-at.store.first W.passes W.tells W.wanted (W.origin c.args.walker.now) c.args.front.depth c.args.front.end c.loop-at.store.nodes.items c.loop-at.chart
+        stopped_here W.after (W.IsKey (W.origin c.args.walker.now) c.loop-at.store.tables) c.loop-at.store.keys W.passes W.tells W.wanted (W.origin c.args.walker.now) c.args.front.depth c.args.front.end c.loop-at.store.nodes.items c.loop-at.chart
             c.loop-at.at 0 c.loop-at-test.true inv.opening,
         c.is_over.ensures c.if-is_over.true,
       );
@@ -26,7 +26,7 @@ open_place-requires g c =
     let W = g.W.Space in
     let inv = c.loop-at.invariant in
     let same = inv.stays.walker_origin in record {
-      opening = subst (λ x. IsOpen W.after (W.IsKey x c.loop-at.store.tables) c.loop-at.store.first W.passes W.tells W.wanted x c.args.front.depth c.args.front.end c.loop-at.store.nodes.items c.loop-at.chart c.loop-at.at 0)
+      opening = subst (λ x. IsOpen W.after (W.IsKey x c.loop-at.store.tables) c.loop-at.store.keys W.passes W.tells W.wanted x c.args.front.depth c.args.front.end c.loop-at.store.nodes.items c.loop-at.chart c.loop-at.at 0)
           (sym same) inv.opening;
       place = c.loop-at-test.true;
       origin = inv.stays.base_origin ∙ sym same;
@@ -43,9 +43,9 @@ loop-at-preserved g c =
     let more = c.open_place.new.store.nodes.items in
     let chart = c.open_place.new.chart in
     let at = c.loop-at.at in
-    let done = subst (λ h. Advances W.after (W.IsKey from c.open_place.new.store.tables) c.open_place.new.store.first W.passes W.tells W.wanted from front.depth front.end c.loop-at.store.most false more chart (at + 1) 0 h) c.in-Done.is is.advances in
+    let done = subst (λ h. Advances W.after (W.IsKey from c.open_place.new.store.tables) c.open_place.new.store.keys W.passes W.tells W.wanted from front.depth front.end c.loop-at.store.most false more chart (at + 1) 0 h) c.in-Done.is is.advances in
     record {
-      opening = subst (λ x. IsOpen W.after (W.IsKey x c.open_place.new.store.tables) c.open_place.new.store.first W.passes W.tells W.wanted x front.depth front.end more chart (at + 1) 0) inv.stays.walker_origin done;
+      opening = subst (λ x. IsOpen W.after (W.IsKey x c.open_place.new.store.tables) c.open_place.new.store.keys W.passes W.tells W.wanted x front.depth front.end more chart (at + 1) 0) inv.stays.walker_origin done;
       stays = stays_on W.origin q c.loop-at.walker c.loop-at.base c.open_place.new.walker c.open_place.new.base _ _ _ _ _ c.loop-at.chart chart inv.stays is.stays;
     }
 
@@ -62,10 +62,10 @@ returns-in_default g c =
     let chart = c.open_place.new.chart in
     let at = c.loop-at.at in
     let most = c.args.store.now.most in
-    let here = subst (λ m. Advances W.after (W.IsKey from c.open_place.new.store.tables) c.open_place.new.store.first W.passes W.tells W.wanted from front.depth front.end m false more chart (at + 1) 0 how) inv.stays.same_room is.advances in
+    let here = subst (λ m. Advances W.after (W.IsKey from c.open_place.new.store.tables) c.open_place.new.store.keys W.passes W.tells W.wanted from front.depth front.end m false more chart (at + 1) 0 how) inv.stays.same_room is.advances in
     record {
-      advances = stops_on W.after (W.IsKey q c.open_place.new.store.tables) c.open_place.new.store.first W.passes W.tells W.wanted q front.depth front.end most _ more chart (at + 1) 0 front.end 0 how c.in_default.not-Done
-          (subst (λ x. Advances W.after (W.IsKey x c.open_place.new.store.tables) c.open_place.new.store.first W.passes W.tells W.wanted x front.depth front.end most false more chart (at + 1) 0 how) inv.stays.walker_origin here);
+      advances = stops_on W.after (W.IsKey q c.open_place.new.store.tables) c.open_place.new.store.keys W.passes W.tells W.wanted q front.depth front.end most _ more chart (at + 1) 0 front.end 0 how c.in_default.not-Done
+          (subst (λ x. Advances W.after (W.IsKey x c.open_place.new.store.tables) c.open_place.new.store.keys W.passes W.tells W.wanted x front.depth front.end most false more chart (at + 1) 0 how) inv.stays.walker_origin here);
       stays = stays_on W.origin q c.loop-at.walker c.loop-at.base c.open_place.new.walker c.open_place.new.base _ _ _ _ _ c.loop-at.chart chart inv.stays is.stays;
     }
 
@@ -76,7 +76,7 @@ returns g c =
     let past = c.loop-at-test.false in
     let within = c.loop-at.auto.at-end c.requires.place in
     let last : c.loop-at.at ≡ c.args.front.end = omega (arith, past, within) in record {
-      advances = subst (λ k. IsOpen W.after (W.IsKey (W.origin c.args.walker.now) c.loop-at.store.tables) c.loop-at.store.first W.passes W.tells W.wanted (W.origin c.args.walker.now) c.args.front.depth c.args.front.end c.loop-at.store.nodes.items
+      advances = subst (λ k. IsOpen W.after (W.IsKey (W.origin c.args.walker.now) c.loop-at.store.tables) c.loop-at.store.keys W.passes W.tells W.wanted (W.origin c.args.walker.now) c.args.front.depth c.args.front.end c.loop-at.store.nodes.items
           c.loop-at.chart k 0) last inv.opening;
       stays = inv.stays;
     }

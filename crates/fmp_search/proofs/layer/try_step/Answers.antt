@@ -22,7 +22,7 @@ returns-in_default g c =
     let r = W.place c.step_from.new.walker in
     let none = none_of c.in_ok-noted.field-0 c.in_default.not-Some in
     let watched = subst (λ (o : Option Noted). Watches (W.after p c.args.step) (told_of W.passes W.tells p c.args.step) o r) none c.in_ok-noted.ensures.watched.goes in record {
-      advances = open_same W.after (W.IsKey q c.args.store.now.tables) c.args.store.now.first W.passes W.tells W.wanted q c.args.front.depth c.args.front.end nodes c.args.chart.now c.args.at c.args.step c.requires.opening
+      advances = open_same W.after (W.IsKey q c.args.store.now.tables) c.args.store.now.keys W.passes W.tells W.wanted q c.args.front.depth c.args.front.end nodes c.args.chart.now c.args.at c.args.step c.requires.opening
           c.requires.place p r c.requires.base.there watched;
       stays = record { walker_origin = c.step_from.ensures.origin; base_origin = c.requires.base.same; same_room = refl; same = refl; marks = refl };
       extends = extends_same W.after q nodes;
@@ -46,7 +46,7 @@ returns-then-is_wanted g c =
     let steps = c.in_ok-steps_over.field-0.items in
     let over = subst (λ (ns : List Node). IsRunOver W.after q ns c.args.at c.args.step steps) c.deref.ensures.value
     (subst (λ x. IsRunOver W.after x c.deref.result.now c.args.at c.args.step steps) c.step_from.ensures.origin c.in_ok-steps_over.ensures) in record {
-      advances = found_there W.after (W.IsKey q c.args.store.now.tables) c.args.store.now.first W.passes W.tells W.wanted q c.args.front.depth c.args.front.end nodes c.args.chart.now c.args.at c.args.step c.requires.opening
+      advances = found_there W.after (W.IsKey q c.args.store.now.tables) c.args.store.now.keys W.passes W.tells W.wanted q c.args.front.depth c.args.front.end nodes c.args.chart.now c.args.at c.args.step c.requires.opening
           c.requires.place p r c.requires.base.there c.in-Some.noted watched steps (sym c.if-is_wanted.ensures) over;
       stays = record { walker_origin = c.step_from.ensures.origin; base_origin = c.requires.base.same; same_room = refl; same = refl; marks = refl };
       extends = extends_same W.after q nodes;
@@ -63,9 +63,9 @@ number_of-requires g c =
     let p = W.place c.args.base.now in
     let r = W.place c.step_from.new.walker in
     let watched = subst (λ (o : Option Noted). Watches (W.after p c.args.step) (told_of W.passes W.tells p c.args.step) o r) c.in-Some.is c.in_ok-noted.ensures.watched.goes in
-    let goes = goes_there W.after (W.IsKey q c.args.store.now.tables) c.args.store.now.first W.passes W.tells W.wanted q front.depth front.end nodes c.args.chart.now c.args.at c.args.step c.requires.opening
+    let goes = goes_there W.after (W.IsKey q c.args.store.now.tables) c.args.store.now.keys W.passes W.tells W.wanted q front.depth front.end nodes c.args.chart.now c.args.at c.args.step c.requires.opening
     c.requires.place p r c.requires.base.there c.in-Some.noted watched in record {
-      front = subst (λ x. IsFront W.after (W.IsKey x c.args.store.now.tables) c.args.store.now.first W.wanted x front.depth front.end nodes c.args.at c.args.step) (sym same) c.requires.opening.front;
+      front = subst (λ x. IsFront W.after (W.IsKey x c.args.store.now.tables) c.args.store.now.keys W.wanted x front.depth front.end nodes c.args.at c.args.step) (sym same) c.requires.opening.front;
       place = c.requires.place;
       made = subst (λ x. W.after (found_at W.after x nodes c.args.at).place c.args.step ≡ Some r) (sym same) goes;
       clean = sym c.if-is_wanted.ensures;
@@ -84,11 +84,11 @@ returns-in-Full-clause-advances g c =
     let all = same.1 in
     let few = c.args.store.now.few in (
       subst (λ (ns : List Node). IsStopped W.after W.passes q front.depth ns c.args.chart.now) (sym same.0)
-          (stopped_here W.after (W.IsKey q c.args.store.now.tables) c.args.store.now.first W.passes W.tells W.wanted q front.depth front.end nodes c.args.chart.now c.args.at c.args.step
+          (stopped_here W.after (W.IsKey q c.args.store.now.tables) c.args.store.now.keys W.passes W.tells W.wanted q front.depth front.end nodes c.args.chart.now c.args.at c.args.step
           c.requires.place c.requires.opening),
       subst (λ (ns : List Node). length ns ≡ c.args.store.now.most) (sym same.0) (omega (arith, all, few)),
       subst (λ (ns : List Node). HasMore W.after q ns (front.depth + 1)) (sym same.0)
-          (more_there W.after (W.IsKey q c.args.store.now.tables) c.args.store.now.first W.passes W.tells W.wanted q front.depth front.end nodes c.args.chart.now c.args.at c.args.step
+          (more_there W.after (W.IsKey q c.args.store.now.tables) c.args.store.now.keys W.passes W.tells W.wanted q front.depth front.end nodes c.args.chart.now c.args.at c.args.step
           c.requires.opening c.requires.place p r c.requires.base.there c.in-Some.noted watched (subst (λ x. IsNew W.after x nodes r) c.step_from.ensures.origin same.2)),
     )
 
@@ -99,7 +99,7 @@ returns-in-Wanting-clause-advances g c =
     let nodes = c.args.store.now.nodes.items in
     let front = c.args.front in
     subst (λ (ns : List Node). IsStopped W.after W.passes q front.depth ns c.args.chart.now) (sym c.in-Wanting.ensures.number)
-    (stopped_here W.after (W.IsKey q c.args.store.now.tables) c.args.store.now.first W.passes W.tells W.wanted q front.depth front.end nodes c.args.chart.now c.args.at c.args.step c.requires.place
+    (stopped_here W.after (W.IsKey q c.args.store.now.tables) c.args.store.now.keys W.passes W.tells W.wanted q front.depth front.end nodes c.args.chart.now c.args.at c.args.step c.requires.place
     c.requires.opening)
 
 pub returns-in-Ok-clause-advances : goal.returns-in-Ok-clause-advances
@@ -113,10 +113,10 @@ returns-in-Ok-clause-advances g c =
     let r = W.place c.step_from.new.walker in
     let to = c.in-At.to in
     let watched = subst (λ (o : Option Noted). Watches (W.after p c.args.step) (told_of W.passes W.tells p c.args.step) o r) c.in-Some.is c.in_ok-noted.ensures.watched.goes in
-    let number = subst (λ x. Numbers W.after (W.IsKey x c.number_of.new.store.tables) c.number_of.new.store.first W.wanted x front.depth front.end c.args.store.now.most nodes c.args.at c.args.step r (At to) more)
+    let number = subst (λ x. Numbers W.after (W.IsKey x c.number_of.new.store.tables) c.number_of.new.store.keys W.wanted x front.depth front.end c.args.store.now.most nodes c.args.at c.args.step r (At to) more)
     c.step_from.ensures.origin c.in-At.ensures.number in
-    open_more W.after (W.IsKey q c.args.store.now.tables) c.args.store.now.first W.passes W.tells W.wanted q front.depth front.end nodes c.args.chart.now c.args.at c.args.step c.requires.opening c.requires.place p r
-    c.requires.base.there c.in-Some.noted watched (W.IsKey q c.number_of.new.store.tables) c.number_of.new.store.first more c.add.new.self to number.0 number.1 number.2 (rw c.in-Ok.is at c.add.ensures.adds)
+    open_more W.after (W.IsKey q c.args.store.now.tables) c.args.store.now.keys W.passes W.tells W.wanted q front.depth front.end nodes c.args.chart.now c.args.at c.args.step c.requires.opening c.requires.place p r
+    c.requires.base.there c.in-Some.noted watched (W.IsKey q c.number_of.new.store.tables) c.number_of.new.store.keys more c.add.new.self to number.0 number.1 number.2 (rw c.in-Ok.is at c.add.ensures.adds)
 
 pub returns-in-Err-clause-advances : goal.returns-in-Err-clause-advances
 returns-in-Err-clause-advances g c =
@@ -129,7 +129,7 @@ returns-in-Err-clause-advances g c =
     let r = W.place c.step_from.new.walker in
     let to = c.in-At.to in
     let watched = subst (λ (o : Option Noted). Watches (W.after p c.args.step) (told_of W.passes W.tells p c.args.step) o r) c.in-Some.is c.in_ok-noted.ensures.watched.goes in
-    let number = subst (λ x. Numbers W.after (W.IsKey x c.number_of.new.store.tables) c.number_of.new.store.first W.wanted x front.depth front.end c.args.store.now.most nodes c.args.at c.args.step r (At to) more)
+    let number = subst (λ x. Numbers W.after (W.IsKey x c.number_of.new.store.tables) c.number_of.new.store.keys W.wanted x front.depth front.end c.args.store.now.most nodes c.args.at c.args.step r (At to) more)
     c.step_from.ensures.origin c.in-At.ensures.number in
-    stopped_more W.after (W.IsKey q c.args.store.now.tables) c.args.store.now.first W.passes W.tells W.wanted q front.depth front.end nodes c.args.chart.now c.args.at c.args.step c.requires.opening c.requires.place p r
-    c.requires.base.there c.in-Some.noted watched (W.IsKey q c.number_of.new.store.tables) c.number_of.new.store.first more c.add.new.self number.0 number.1 (rw c.in-Err.is at c.add.ensures.left)
+    stopped_more W.after (W.IsKey q c.args.store.now.tables) c.args.store.now.keys W.passes W.tells W.wanted q front.depth front.end nodes c.args.chart.now c.args.at c.args.step c.requires.opening c.requires.place p r
+    c.requires.base.there c.in-Some.noted watched (W.IsKey q c.number_of.new.store.tables) c.number_of.new.store.keys more c.add.new.self number.0 number.1 (rw c.in-Err.is at c.add.ensures.left)

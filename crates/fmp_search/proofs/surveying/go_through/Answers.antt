@@ -60,13 +60,12 @@ loop-depth-init g c =
     let clean : W.wanted q ≡ false = subst (λ x. W.wanted x ≡ false) there (sym c.if-is_wanted.ensures) in
     let tables = c.pack.new.tables in
     let key : W.IsKey q tables c.in_ok-first.first q = subst (λ p. W.IsKey q tables c.in_ok-first.first p) there (subst (λ x. W.IsKey x tables c.in_ok-first.first (W.place c.restart.new.self)) same c.in_ok-first.ensures.key.there) in
-    let first : W.IsKey q c.in_ok-store.store.tables c.in_ok-store.store.first q =
-    subst (λ t. W.IsKey q t c.in_ok-store.store.first q) (sym c.in_ok-store.ensures.3) (subst (λ k. W.IsKey q tables k q) (sym c.in_ok-store.ensures.2) key) in record {
+    let first : W.IsKey q c.in_ok-store.store.tables c.in_ok-first.first q = subst (λ t. W.IsKey q t c.in_ok-first.first q) (sym c.in_ok-store.ensures.3) key in record {
       opening = record {
         front = record {
           explored = subst (λ (ns : List Node). Explored W.after W.wanted q ns 0 (length ns + 1) 0) (sym {A = List Node} c.in_ok-store.ensures.0) (explored-root W.after W.wanted q clean);
           tried = none_tried W.after q nodes 0;
-          keys = keyed_first W.after q (W.IsKey q c.in_ok-store.store.tables) c.in_ok-store.store.first nodes c.in_ok-store.ensures.0 first;
+          keyed = keyed_first W.after q (W.IsKey q c.in_ok-store.store.tables) c.in_ok-store.store.keys nodes c.in_ok-first.first c.in_ok-store.ensures.0 c.in_ok-store.ensures.2 first;
         };
         charting = charting_none W.after W.passes W.tells q nodes c.args.kept c.in_ok-chart.chart c.args.count blank;
       };
@@ -120,9 +119,9 @@ open_layer-requires g c =
     let few = inv.few in
     let count = c.count-end.ensures in
     record {
-      opening = subst (λ k. IsOpen W.after (W.IsKey (W.origin c.loop-depth.walker) c.loop-depth.store.tables) c.loop-depth.store.first W.passes W.tells W.wanted (W.origin c.loop-depth.walker) c.loop-depth.depth k nodes c.loop-depth.chart c.loop-depth.begin 0)
+      opening = subst (λ k. IsOpen W.after (W.IsKey (W.origin c.loop-depth.walker) c.loop-depth.store.tables) c.loop-depth.store.keys W.passes W.tells W.wanted (W.origin c.loop-depth.walker) c.loop-depth.depth k nodes c.loop-depth.chart c.loop-depth.begin 0)
           (sym count)
-          (subst (λ x. IsOpen W.after (W.IsKey x c.loop-depth.store.tables) c.loop-depth.store.first W.passes W.tells W.wanted x c.loop-depth.depth (length nodes + 1) nodes c.loop-depth.chart c.loop-depth.begin 0) (sym same) inv.opening);
+          (subst (λ x. IsOpen W.after (W.IsKey x c.loop-depth.store.tables) c.loop-depth.store.keys W.passes W.tells W.wanted x c.loop-depth.depth (length nodes + 1) nodes c.loop-depth.chart c.loop-depth.begin 0) (sym same) inv.opening);
       place = omega (arith, few, count);
       origin = inv.stays.base_origin ∙ sym same;
     }
@@ -138,11 +137,11 @@ loop-depth-preserved g c =
     let chart = c.open_layer.new.chart in
     let is = c.in_ok-how.ensures in
     let from = W.origin c.loop-depth.walker in
-    let done = subst (λ h. Advances W.after (W.IsKey from c.open_layer.new.store.tables) c.open_layer.new.store.first W.passes W.tells W.wanted from depth end c.loop-depth.store.most (g.P.Progress.over c.open_layer.new.progress) nodes chart end 0 h)
+    let done = subst (λ h. Advances W.after (W.IsKey from c.open_layer.new.store.tables) c.open_layer.new.store.keys W.passes W.tells W.wanted from depth end c.loop-depth.store.most (g.P.Progress.over c.open_layer.new.progress) nodes chart end 0 h)
     c.in-Done.is is.advances in
-    let opened_all = subst (λ x. IsOpen W.after (W.IsKey x c.open_layer.new.store.tables) c.open_layer.new.store.first W.passes W.tells W.wanted x depth end nodes chart end 0) inv.stays.walker_origin done in
+    let opened_all = subst (λ x. IsOpen W.after (W.IsKey x c.open_layer.new.store.tables) c.open_layer.new.store.keys W.passes W.tells W.wanted x depth end nodes chart end 0) inv.stays.walker_origin done in
     let before = c.loop-depth-test.true in record {
-      opening = open_layer W.after (W.IsKey q c.open_layer.new.store.tables) c.open_layer.new.store.first W.passes W.tells W.wanted q depth end c.loop-depth.store.most true nodes chart end 0 refl opened_all;
+      opening = open_layer W.after (W.IsKey q c.open_layer.new.store.tables) c.open_layer.new.store.keys W.passes W.tells W.wanted q depth end c.loop-depth.store.most true nodes chart end 0 refl opened_all;
       few = opened_all.front.explored.few;
       stays = stays_on W.origin q c.loop-depth.walker c.loop-depth.base c.open_layer.new.walker c.open_layer.new.base _ _ _ _ _ c.loop-depth.chart chart
           inv.stays is.stays;
@@ -167,13 +166,13 @@ returns-in_default g c =
     let is = c.in_ok-how.ensures in
     let stays = stays_on W.origin q c.loop-depth.walker c.loop-depth.base c.open_layer.new.walker c.open_layer.new.base _ _ _ _ _ c.loop-depth.chart chart
     inv.stays is.stays in
-    let x = subst (λ x. Advances W.after (W.IsKey x c.open_layer.new.store.tables) c.open_layer.new.store.first W.passes W.tells W.wanted x depth end most over nodes chart end 0 how) inv.stays.walker_origin is.advances in
-    let stopped = stopped_by W.after (W.IsKey q c.open_layer.new.store.tables) c.open_layer.new.store.first W.passes W.tells W.wanted q depth end most over nodes chart end 0 how not x in
+    let x = subst (λ x. Advances W.after (W.IsKey x c.open_layer.new.store.tables) c.open_layer.new.store.keys W.passes W.tells W.wanted x depth end most over nodes chart end 0 how) inv.stays.walker_origin is.advances in
+    let stopped = stopped_by W.after (W.IsKey q c.open_layer.new.store.tables) c.open_layer.new.store.keys W.passes W.tells W.wanted q depth end most over nodes chart end 0 how not x in
     record {
       surveys = subst (λ (s : Survey). Surveys W.after W.passes W.tells W.wanted q c.args.turns c.args.most over c.args.kept c.args.count s) (sym c.of-in_default.ensures) (record {
         surveyed = record { found = stopped.0.found; charted = stopped.0.charted; noted = λ is. absurd (not is); left = λ it. stopped.0.left; small = c.open_layer.new.store.small };
         short = λ is. let lt = c.loop-depth-test.true in short_within W.after q nodes chart.edges (depth + 1) c.args.turns (omega (arith, lt)) (stopped.0.short is);
-        through = through_by W.after (W.IsKey q c.open_layer.new.store.tables) c.open_layer.new.store.first W.passes W.tells W.wanted q depth end most over nodes chart end 0 how c.args.turns c.args.most _ not c.loop-depth-test.true
+        through = through_by W.after (W.IsKey q c.open_layer.new.store.tables) c.open_layer.new.store.keys W.passes W.tells W.wanted q depth end most over nodes chart end 0 how c.args.turns c.args.most _ not c.loop-depth-test.true
             (none-within W.after W.wanted q old depth (length old + 1) c.loop-depth.begin inv.opening.front.explored) inv.stays.same_room x;
         ended = stopped.1;
         same = stays.same;

@@ -5,7 +5,7 @@ use Rattle.fmp_search.proofs.edges.Edges.len.Goals as goal
 
 pub returns : goal.returns
 returns c =
-    let long = edges_long c.self.inside.kinds.all.items c.self.inside.links.items in
+    let long = edges_long c.self.inside.kinds c.self.inside.links.items in
     let same = ap (λ (es : List Edge). length es) c.self.view_is in
     let len = c.len.ensures in
     search (arith, long, same, len)

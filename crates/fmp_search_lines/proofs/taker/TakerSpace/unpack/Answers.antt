@@ -8,7 +8,7 @@ unpack-requires g c =
     let P = g.P.Player in
     let p = c.requires.0 in
     let is = c.requires.1 in
-    let same = (c.unpack_taken-state.ensures is.state p.place.top p.place.pending is.taken).0 in
+    let same = (c.unpack_taken-state.ensures.is is.state p.place.top p.place.pending is.taken).0 in
     (p.place.state, subst (λ k. P.IsKey (P.begins c.args.self.now.player) c.args.tables.now.states k p.place.state) (sym same) is.there)
 
 pub returns-clause-there : goal.returns-clause-there
@@ -17,5 +17,5 @@ returns-clause-there g c = λ p is.
     let w = c.args.self.now in
     let o = held w.lasts.now w.musts.now w.count w.goal 0 [] (P.begins w.player) in
     let taken = c.unpack_taken-state.result.1 in
-    held_there o (P.IsKey (P.begins w.player) c.args.tables.now.states) c.args.tables.now.pairs (record { top = taken.top; pending = taken.pending.items; state = P.state c.unpack.new.self }) c.unpack_taken-state.result.0 c.args.key p is
-    c.unpack_taken-state.ensures c.in_ok-unpack.ensures.there
+    held_there o (P.IsKey (P.begins w.player) c.args.tables.now.states) c.args.tables.now.lists (record { top = taken.top; pending = taken.pending.items; state = P.state c.unpack.new.self }) c.unpack_taken-state.result.0 c.args.key p is
+    c.unpack_taken-state.ensures.is c.in_ok-unpack.ensures.there

@@ -1,0 +1,32 @@
+use Rattle.std.proofs.Common.{ℕ, ◌≤◌, Bool, Option, List, subst, arith}
+use Rattle.fmp_search.specs.declared.layer.Layer.{Layer}
+use Rattle.fmp_search.specs.declared.layer.Layer.TheVariants as layer
+use Rattle.fmp_search.specs.declared.nodes.Node.{Node}
+use Rattle.fmp_search.specs.First.{HasKeysOf}
+use Rattle.fmp_search.specs.Surveys.{GoesSo}
+use Rattle.fmp_search.proofs.first.first_places.Goals as goal
+
+-- a search makes no more steps than it may
+within : {P : Type 0} (after : P → ℕ → Option P) (wanted : P → Bool) (q : P) (turns room : ℕ) (nodes : List Node) (n opened : ℕ) (how : Layer) →
+    GoesSo after wanted q turns room nodes n opened how → n ≤ turns
+within after wanted q turns room nodes n opened (layer.Found steps) goes = goes.0
+within after wanted q turns room nodes n opened layer.Full goes = let lt = goes.0 in omega (arith, lt)
+within after wanted q turns room nodes n opened layer.Wanting goes = let lt = goes.0 in omega (arith, lt)
+within after wanted q turns room nodes n opened layer.Over goes = let lt = goes.0 in omega (arith, lt)
+within after wanted q turns room nodes n opened layer.Done goes = goes.within
+
+pub returns : goal.returns
+returns g c =
+    let W = g.W.Space in
+    let survey = c.in_ok-survey.survey in
+    let surveys = c.in_ok-survey.ensures.surveys in
+    let places = c.in_ok-places.places in
+    let keyed : HasKeysOf W.after (W.IsKey (W.origin c.args.walkers.0) places.tables) (W.origin c.args.walkers.0) survey.nodes.items places.keys.items =
+    subst (λ (ns : List Node). HasKeysOf W.after (W.IsKey (W.origin c.args.walkers.0) places.tables) (W.origin c.args.walkers.0) ns places.keys.items) c.deref.ensures.value
+    (subst (λ q. HasKeysOf W.after (W.IsKey q places.tables) q c.deref.result.now places.keys.items) c.in_ok-survey.ensures.origin c.in_ok-places.ensures) in record {
+      nodes = survey.nodes.items;
+      steps = survey.depth;
+      few = within W.after W.wanted (W.origin c.args.walkers.0) c.args.turns c.args.most survey.nodes.items survey.depth survey.chart.opened survey.how surveys.through;
+      found = surveys.surveyed.found;
+      keyed = keyed;
+    }
