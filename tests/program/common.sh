@@ -48,6 +48,7 @@ run() {
     [ "$ended" = "$1" ] || { well=no && echo "status $ended in place of $1"; }
     # how many places a search went through is compared only where that is told
     grep -q '; lines to the farthest: ' "$3" || sed -i '/; lines to the farthest: /d' errors
+    grep -q ': places left where ' "$3" || sed -i '/: places left where /d' errors
     diff "$2" output || well=no
     diff "$3" errors || well=no
     count "$well" "${@:4}"

@@ -1,8 +1,9 @@
 //! How far a search went, and why it went no farther.
+use crate::left::tell_left;
 use crate::notes::{About, tell};
 use fmp_cli::{ExploreRequest, Memory, places_within};
 use fmp_cli_diagnostics::Notes;
-use fmp_run_explore::{Extent, Finding, Outcome};
+use fmp_run_explore::{Extent, Finding, Outcome, Progress};
 
 /// Why a search found no more places.
 #[derive(Clone, Copy)]
@@ -13,8 +14,10 @@ pub(crate) enum Reach {
     Room,
     /// There was no memory for more.
     Wanting,
-    /// It was to go so far and no farther, or was ended.
+    /// It was to go so far and no farther.
     Part,
+    /// It was ended.
+    Over,
 }
 
 /// That of a search that found no order.
@@ -23,7 +26,8 @@ fn reach_of(outcome: &Outcome, request: &ExploreRequest<'_>) -> Reach {
         Finding::Never => Reach::All,
         Finding::NotWithin(lines) if lines < request.bounds.turns.count => Reach::Room,
         Finding::Wanting(_) => Reach::Wanting,
-        Finding::NotWithin(_) | Finding::Ended(_) | Finding::Shown => Reach::Part,
+        Finding::Ended(_) => Reach::Over,
+        Finding::NotWithin(_) | Finding::Shown => Reach::Part,
     }
 }
 
@@ -58,21 +62,34 @@ pub(crate) fn tell_extent<N: Notes>(
         Reach::All => b", all there are".as_slice(),
         Reach::Room => room_of(request),
         Reach::Wanting => b", all for which there was memory".as_slice(),
-        Reach::Part => b"".as_slice(),
+        Reach::Part | Reach::Over => b"".as_slice(),
     });
     line.put(b"; lines to the farthest: ");
     line.put_number(u64::from(extent.farthest));
     tell(notes, line);
 }
 
-/// Tells how far a search went that found no order: through all places, through those for which there was room or memory, or through those within so many lines.
-pub fn note_extent<N: Notes>(
+/// Tells how far a search went that found no order: through all places, through those for which there was room or memory, or through those within so many
+/// lines. Where it did not end it tells, too, without which things fewest of its places are left.
+pub fn note_extent<N: Notes + Progress>(
     notes: &mut N,
     about: About<'_>,
     outcome: &Outcome,
     request: &ExploreRequest<'_>,
 ) {
     if let Some(extent) = outcome.extent {
-        tell_extent(notes, about, extent, reach_of(outcome, request), request);
+        let reach = reach_of(outcome, request);
+        tell_extent(notes, about, extent, reach, request);
+        let orders = outcome.searched.orders();
+        let question = outcome.searched.question();
+        tell_left(
+            notes,
+            about,
+            reach,
+            &orders,
+            question,
+            extent,
+            request.bounds.turns,
+        );
     }
 }

@@ -1,5 +1,5 @@
-//! What stands beside the answer of a search, line by line: how far it went, which calls of the scripts no order makes, how much of a question comes, why
-//! nothing has what it asks for, and from which line on something stays.
+//! What stands beside the answer of a search, line by line: how far it went, what holds it up, which calls of the scripts no order makes, how much of a question
+//! comes, why nothing has what it asks for, and from which line on something stays.
 //!
 //! Who is told is [`Notes`](fmp_cli_diagnostics::Notes), and how far these searches have come a [`Progress`](fmp_run_explore::Progress). Nothing that is told is known by these
 //! functions alone: each line repeats a number, a finding or a word that `fmp_run_explore` or `fmp_run_forever` promises. The words of the lines are tested
@@ -7,6 +7,7 @@
 #![tactic(auto)]
 
 mod extent;
+mod left;
 mod never_so;
 mod notes;
 mod patterns;

@@ -33,8 +33,8 @@ fn report_outcome<D: Desk>(
     line: &mut ProgressLine<'_, D>,
 ) {
     let about = about_one(alloc);
-    note_extent(line, about, outcome, request);
     line.allow_as_much();
+    note_extent(line, about, outcome, request);
     note_unshown(line, about, outcome, request);
     note_unmade(line, about, outcome, request.bounds);
 }

@@ -5,3 +5,4 @@ pub mod Searched  -- What was searched, as contracts see it.
 pub mod Gone  -- How far a search through all orders went.
 pub mod Came  -- How many steps of a question come, where no order shows all of them.
 pub mod Made  -- Which calls of the scripts are made in orders.
+pub mod Left  -- How many places of a search are left where one thing is not looked at.
