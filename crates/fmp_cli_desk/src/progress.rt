@@ -2,7 +2,6 @@
 ghost use Rattle.std.specs.Prelude.{◌≡◌, Bool};
 
 use crate::desk::{Desk, put_lines};
-use fmp_cli_diagnostics::Notes;
 use fmp_out::Text;
 use fmp_run_explore::Progress;
 use fmp_run_seeds::SeedProgress;
@@ -171,13 +170,6 @@ impl<'a, D: Desk> Progress for ProgressLine<'a, D> {
 
     fn end(&mut self) {
         self.erase();
-    }
-}
-
-impl<'a, D: Desk> Notes for ProgressLine<'a, D> {
-    fn note(&mut self, line: &[u8]) {
-        self.erase();
-        self.desk.note(line);
     }
 }
 

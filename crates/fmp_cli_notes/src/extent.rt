@@ -1,13 +1,16 @@
 //! How far a search went, and why it went no farther.
+ghost use Rattle.std.specs.Prelude.{◌≡◌};
+ghost use Rattle.fmp_out.specs.Putting.{Adds};
+ghost use Rattle.fmp_cli_notes.specs.Extent as spec;
+
 use crate::left::tell_left;
-use crate::notes::{About, tell};
+use crate::notes::{About, Notes};
 use fmp_cli::{ExploreRequest, Memory, places_within};
-use fmp_cli_diagnostics::Notes;
 use fmp_run_explore::{Extent, Finding, Outcome, Progress};
 
 /// Why a search found no more places.
 #[derive(Clone, Copy)]
-pub(crate) enum Reach {
+pub enum Reach {
     /// There are no more.
     All,
     /// There was no room for more.
@@ -20,76 +23,117 @@ pub(crate) enum Reach {
     Over,
 }
 
+/// That of a search that went through orders of so many lines, as far as it was to go or as there was room for places.
+pub(crate) fn reach_within(lines: u32, turns: u32) -> Reach
+    ensures { result ≡ spec.reach_within lines turns }
+{
+    if lines < turns {
+        Reach::Room
+    } else {
+        Reach::Part
+    }
+}
+
 /// That of a search that found no order.
-fn reach_of(outcome: &Outcome, request: &ExploreRequest<'_>) -> Reach {
-    match outcome.finding {
+fn reach_of(finding: Finding, turns: u32) -> Reach
+    ensures { result ≡ spec.reach_of finding turns }
+{
+    match finding {
         Finding::Never => Reach::All,
-        Finding::NotWithin(lines) if lines < request.bounds.turns.count => Reach::Room,
+        Finding::NotWithin(lines) => reach_within(lines, turns),
         Finding::Wanting(_) => Reach::Wanting,
         Finding::Ended(_) => Reach::Over,
-        Finding::NotWithin(_) | Finding::Shown => Reach::Part,
+        Finding::Shown => Reach::Part,
+    }
+}
+
+/// How the places are counted.
+fn places_of(reach: Reach) -> &'static [u8]
+    ensures { result.now ≡ spec.places_of reach }
+{
+    match reach {
+        Reach::All => b"places gone through: ",
+        _ => b"places found: ",
     }
 }
 
 /// What has room for as many places as there is room for.
-fn room_of(request: &ExploreRequest<'_>) -> &'static [u8] {
-    let places = request.bounds.places.count;
+fn room_of(request: &ExploreRequest<'_>) -> &'static [u8]
+    ensures { result.now ≡ spec.room_of request.now }
+{
     match request.memory {
-        Memory::Given(bytes) if places_within(request.keeps_steps(), bytes).count <= places => {
-            b", all for which --memory has room".as_slice()
+        Memory::Given(bytes)
+            if places_within(request.keeps_steps(), bytes).count <= request.bounds.places.count => {
+            b", all for which --memory has room"
         }
-        _ if request.says_places => b", all for which --places has room".as_slice(),
-        Memory::Free(_) => b", all for which half of the free memory has room".as_slice(),
-        _ => b", all for which there is room where the free memory is not known".as_slice(),
+        _ if request.says_places => b", all for which --places has room",
+        Memory::Free(_) => b", all for which half of the free memory has room",
+        _ => b", all for which there is room where the free memory is not known",
+    }
+}
+
+/// Why no more were found.
+fn why(reach: Reach, request: &ExploreRequest<'_>) -> &'static [u8]
+    ensures { result.now ≡ spec.why reach request.now }
+{
+    match reach {
+        Reach::All => b", all there are",
+        Reach::Room => room_of(request),
+        Reach::Wanting => b", all for which there was memory",
+        Reach::Part | Reach::Over => b"",
     }
 }
 
 /// Tells how many places were found, why no more, and how far the farthest is.
+#[tactic(auto, unfolding(crate::specs::Extent::extent_line))]
 pub(crate) fn tell_extent<N: Notes>(
     notes: &mut N,
     about: About<'_>,
     extent: Extent,
     reach: Reach,
     request: &ExploreRequest<'_>,
-) {
+)
+    ensures { Adds (spec.extent_line about.entry.asked.now extent reach request.now) (N.told notes.old) (N.told notes.new) }
+{
     let mut line = about.line();
-    line.put(match reach {
-        Reach::All => b"places gone through: ".as_slice(),
-        _ => b"places found: ".as_slice(),
-    });
+    line.put(places_of(reach));
     line.put_number(extent.places as u64);
-    line.put(match reach {
-        Reach::All => b", all there are".as_slice(),
-        Reach::Room => room_of(request),
-        Reach::Wanting => b", all for which there was memory".as_slice(),
-        Reach::Part | Reach::Over => b"".as_slice(),
-    });
+    line.put(why(reach, request));
     line.put(b"; lines to the farthest: ");
     line.put_number(u64::from(extent.farthest));
-    tell(notes, line);
+    notes.note(line);
 }
 
 /// Tells how far a search went that found no order: through all places, through those for which there was room or memory, or through those within so many
-/// lines. Where it did not end it tells, too, without which things fewest of its places are left.
-pub fn note_extent<N: Notes + Progress>(
+/// lines.
+pub fn note_extent<N: Notes>(
     notes: &mut N,
     about: About<'_>,
     outcome: &Outcome,
     request: &ExploreRequest<'_>,
+)
+    ensures { Adds (spec.extent_note about.entry.asked.now outcome.now.extent outcome.now.finding request.now) (N.told notes.old) (N.told notes.new) }
+{
+    if let Some(extent) = outcome.extent {
+        let reach = reach_of(outcome.finding, request.bounds.turns.count);
+        tell_extent(notes, about, extent, reach, request);
+    }
+}
+
+/// Tells, where such a search did not end, without which things fewest of its places are left.
+pub fn note_left<N: Notes, P: Progress>(
+    notes: &mut N,
+    about: About<'_>,
+    outcome: &Outcome,
+    progress: &mut P,
+    request: &ExploreRequest<'_>,
 ) {
     if let Some(extent) = outcome.extent {
-        let reach = reach_of(outcome, request);
-        tell_extent(notes, about, extent, reach, request);
-        let orders = outcome.searched.orders();
-        let question = outcome.searched.question();
+        let turns = request.bounds.turns;
+        let reach = reach_of(outcome.finding, turns.count);
+        let (orders, question) = (outcome.searched.orders(), outcome.searched.question());
         tell_left(
-            notes,
-            about,
-            reach,
-            &orders,
-            question,
-            extent,
-            request.bounds.turns,
+            notes, about, reach, &orders, question, progress, extent, turns,
         );
     }
 }

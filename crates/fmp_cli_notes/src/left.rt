@@ -1,7 +1,6 @@
 //! Without which things fewest places of a search are left: these hold it up.
 use crate::extent::Reach;
-use crate::notes::{About, tell};
-use fmp_cli_diagnostics::Notes;
+use crate::notes::{About, Notes};
 use fmp_codes::{NameKind, ObjectKind};
 use fmp_out::Text;
 use fmp_ranges::{Bounds, Places, Turns};
@@ -52,12 +51,13 @@ fn put_thing(line: &mut Text, config: &Config, thing: usize) {
 }
 
 /// Tells without which things fewest are left of the first places that a search met, where it did not end: there was no room, no memory or no time for more.
-pub(crate) fn tell_left<N: Notes + Progress>(
+pub(crate) fn tell_left<N: Notes, P: Progress>(
     notes: &mut N,
     about: About<'_>,
     reach: Reach,
     orders: &Orders<'_>,
     question: &Question,
+    progress: &mut P,
     extent: Extent,
     turns: Turns,
 ) {
@@ -69,7 +69,7 @@ pub(crate) fn tell_left<N: Notes + Progress>(
         return;
     };
     let bounds = Bounds { turns, places };
-    let Ok(left) = left_without(about.alloc, orders, question, notes, bounds) else {
+    let Ok(left) = left_without(about.alloc, orders, question, progress, bounds) else {
         return;
     };
     let Ok(things) = fewest(about.alloc, &left) else {
@@ -87,6 +87,6 @@ pub(crate) fn tell_left<N: Notes + Progress>(
         between = b", ".as_slice();
     }
     if !things.is_empty() {
-        tell(notes, line);
+        notes.note(line);
     }
 }

@@ -1,13 +1,12 @@
 //! What stands beside the answer of a search, line by line: how far it went, what holds it up, which calls of the scripts no order makes, how much of a question
 //! comes, why nothing has what it asks for, and from which line on something stays.
 //!
-//! Who is told is [`Notes`](fmp_cli_diagnostics::Notes), and how far these searches have come a [`Progress`](fmp_run_explore::Progress). Nothing that is told is known by these
-//! functions alone: each line repeats a number, a finding or a word that `fmp_run_explore` or `fmp_run_forever` promises. The words of the lines are tested
-//! (`tests/cases/searches`). A line for which memory is wanting is not told.
+//! Who is told is a [`Notes`], and how far these searches have come a [`Progress`](fmp_run_explore::Progress). A line for which memory is wanting is not told.
 #![tactic(auto)]
 
 mod extent;
 mod left;
+mod misplaced;
 mod never_so;
 mod notes;
 mod patterns;
@@ -15,8 +14,8 @@ mod staying;
 mod unmade;
 mod unshown;
 
-pub use extent::note_extent;
-pub use notes::About;
+pub use extent::{note_extent, note_left};
+pub use notes::{About, Notes};
 pub use staying::note_stayed;
 pub use unmade::note_unmade;
 pub use unshown::note_unshown;

@@ -1,7 +1,6 @@
 //! Why no event of any order has a pattern, where the configuration or the way of `explore` says so.
-use crate::notes::{About, tell};
-use crate::patterns::put_item;
-use fmp_cli_diagnostics::Notes;
+use crate::notes::{About, Notes};
+use crate::patterns::words_of;
 use fmp_facts::{Asked, Fact, Subject, Thing};
 use fmp_run_explore::Searched;
 use fmp_search_pattern::{Item, Wanted};
@@ -92,7 +91,7 @@ fn tell_state<N: Notes>(
             }
             line.put(words);
             line.put(b"' is so at boot, before any event");
-            tell(notes, line);
+            notes.note(line);
         }
         _ => {}
     }
@@ -102,7 +101,7 @@ fn tell_state<N: Notes>(
         line.put(words);
         line.put(b"' is more than there can be: at most ");
         line.put_number(most);
-        tell(notes, line);
+        notes.note(line);
     }
 }
 
@@ -114,7 +113,7 @@ fn tell_given<N: Notes>(notes: &mut N, about: About<'_>, words: &[u8]) {
     line.put(
         b"' is of an event at which nothing can happen: shrink looks at these, and explore makes none",
     );
-    tell(notes, line);
+    notes.note(line);
 }
 
 /// Tells of a pattern, or of `not` and one, that no event of any order has why that may be so.
@@ -124,11 +123,10 @@ pub(crate) fn tell_fact<N: Notes>(
     searched: &Searched,
     item: &Item,
 ) {
-    let mut text = Vec::new(about.alloc);
-    if put_item(about.alloc, &mut text, item).is_err() {
+    let Ok(words) = words_of(about.alloc, item.wanted()) else {
         return;
-    }
-    let words = text.as_slice();
+    };
+    let words = words.as_slice();
     match item.wanted() {
         Wanted::State(..) => tell_state(notes, about, searched, item, words),
         Wanted::Line(_) if is_given_alone(words) => tell_given(notes, about, words),

@@ -1,7 +1,22 @@
-//! Lines that stand beside an answer.
-use fmp_cli_diagnostics::Notes;
+//! Who is told what stands beside an answer, and how its lines begin.
+ghost use Rattle.fmp_out.specs.Putting.{Adds, nothing};
+ghost use Rattle.fmp_cli_notes.specs.Lines.{head};
+
 use fmp_out::Text;
 use std::alloc::Global;
+
+/// One who is told lines that stand beside an answer.
+pub trait Notes {
+    ghost use Rattle.fmp_out.specs.Putting.{Putting};
+    ghost use Rattle.fmp_cli_notes.specs.Lines.{Tells};
+
+    // What was told so far, and whether memory was wanting for a line of it.
+    ghost told: { Self → Putting };
+
+    /// Takes a line without its line feed, or leaves it out where memory was wanting for it.
+    fn note(&mut self, line: Text)
+        ensures { Tells line (told self.old) (told self.new) };
+}
 
 /// What the lines are about.
 #[derive(Clone, Copy)]
@@ -13,19 +28,13 @@ pub struct About<'a> {
 
 impl About<'_> {
     /// The beginning of a line.
-    pub(crate) fn line(self) -> Text {
+    pub(crate) fn line(self) -> Text
+        ensures { Adds (head self.entry.asked.now) nothing result }
+    {
         let mut line = Text::new(self.alloc);
         line.put(b"fmpsim: ");
         line.put(self.asked.as_bytes());
         line.put(b": ");
         line
-    }
-}
-
-/// Tells a line, unless memory was wanting for it.
-pub(crate) fn tell<N: Notes>(notes: &mut N, mut line: Text) {
-    line.put_byte(b'\n');
-    if let Ok(line) = line.finish() {
-        notes.note(line.as_slice());
     }
 }

@@ -1,9 +1,8 @@
 //! What is told beside `never`: how many steps of the question come in some order, and whether an event has the patterns of the next one.
 use crate::never_so::tell_fact;
-use crate::notes::{About, tell};
-use crate::patterns::put_item;
+use crate::notes::{About, Notes};
+use crate::patterns::words_of;
 use fmp_cli::ExploreRequest;
-use fmp_cli_diagnostics::Notes;
 use fmp_ranges::Bounds;
 use fmp_run_explore::{Finding, Outcome, Progress, Searched};
 use fmp_search_pattern::{Item, Moment, Part, Question, Step};
@@ -41,9 +40,7 @@ fn put_new(texts: &mut Vec<Vec<u8>>, text: Vec<u8>) -> Result<(), AllocError> {
 fn put_part(alloc: Global, texts: &mut Vec<Vec<u8>>, part: &Part) -> Result<(), AllocError> {
     for item in part.items() {
         if !item.is_negated() {
-            let mut text = Vec::new(alloc);
-            put_item(alloc, &mut text, item)?;
-            put_new(texts, text)?;
+            put_new(texts, words_of(alloc, item.wanted())?)?;
         }
     }
     Ok(())
@@ -66,8 +63,7 @@ fn is_spurious(pattern: &[u8]) -> bool {
 
 /// Whether an item is such a pattern, also behind `not`.
 fn is_item_spurious(alloc: Global, item: &Item) -> bool {
-    let mut text = Vec::new(alloc);
-    put_item(alloc, &mut text, item).is_ok() && is_spurious(text.as_slice())
+    words_of(alloc, item.wanted()).is_ok_and(|words| is_spurious(words.as_slice()))
 }
 
 /// Whether a part has such a pattern.
@@ -154,7 +150,7 @@ fn tell_steps<N: Notes>(notes: &mut N, about: About<'_>, come: usize, count: usi
             b" after them".as_slice()
         });
     }
-    tell(notes, line);
+    notes.note(line);
 }
 
 /// Tells whether an event of some order has a pattern.
@@ -167,7 +163,7 @@ fn tell_pattern<N: Notes>(notes: &mut N, about: About<'_>, pattern: &[u8], has: 
     });
     line.put(pattern);
     line.put(b"'");
-    tell(notes, line);
+    notes.note(line);
 }
 
 /// Tells of a pattern that no event has why that is so, where it is for what the configuration says.
@@ -180,11 +176,12 @@ fn tell_of_pattern<N: Notes>(notes: &mut N, about: About<'_>, searched: &Searche
 }
 
 /// Tells of each pattern of a step that does not come whether an event has it. Of the first step, where it is one pattern, that is known already.
-fn tell_patterns<N: Notes + Progress>(
+fn tell_patterns<N: Notes, P: Progress>(
     notes: &mut N,
     about: About<'_>,
     searched: &Searched,
     come: usize,
+    progress: &mut P,
     bounds: Bounds,
 ) {
     let Some(step) = searched.question().steps().get(come) else {
@@ -197,9 +194,9 @@ fn tell_patterns<N: Notes + Progress>(
         let has = if is_known {
             Some(false)
         } else {
-            has_event(about.alloc, searched, pattern, bounds, notes)
+            has_event(about.alloc, searched, pattern, bounds, progress)
         };
-        notes.end();
+        progress.end();
         if let Some(has) = has {
             tell_pattern(notes, about, pattern, has);
         }
@@ -210,49 +207,51 @@ fn tell_patterns<N: Notes + Progress>(
 }
 
 /// Tells of the steps of a question that no order shows how many come, and whether an event has the patterns of the next one.
-fn tell_unshown<N: Notes + Progress>(
+fn tell_unshown<N: Notes, P: Progress>(
     notes: &mut N,
     about: About<'_>,
     outcome: &Outcome,
+    progress: &mut P,
     bounds: Bounds,
 ) {
-    let Some(come) = steps_come(about.alloc, outcome, bounds, notes) else {
+    let Some(come) = steps_come(about.alloc, outcome, bounds, progress) else {
         return;
     };
     let count = outcome.searched.question().steps().len();
-    notes.end();
+    progress.end();
     if count > 1 {
         tell_steps(notes, about, come, count);
     }
-    tell_patterns(notes, about, &outcome.searched, come, bounds);
+    tell_patterns(notes, about, &outcome.searched, come, progress, bounds);
 }
 
 /// Tells that orders have no interrupts which change nothing.
 fn tell_spurious<N: Notes>(notes: &mut N, about: About<'_>) {
     let mut line = about.line();
     line.put(b"only with --spurious orders have 'ipi none' and 'ipi held'");
-    tell(notes, line);
+    notes.note(line);
 }
 
 /// Tells what is known of a question that no order shows: which option has orders with what it asks for, how many of its steps come, and whether an
 /// event has the patterns of the next one. It says nothing that is not found in time.
-pub fn note_unshown<N: Notes + Progress>(
+pub fn note_unshown<N: Notes, P: Progress>(
     notes: &mut N,
     about: About<'_>,
     outcome: &Outcome,
+    progress: &mut P,
     request: &ExploreRequest<'_>,
 ) {
     let question = outcome.searched.question();
     if !matches!(outcome.finding, Finding::Never) {
         return;
     }
-    notes.end();
+    progress.end();
     if !request.spurious && asks_spurious(about.alloc, question) {
         tell_spurious(notes, about);
     }
     match plain_item(question) {
         Some(item) => tell_fact(notes, about, &outcome.searched, item),
-        None if notes.is_over() => {}
-        None => tell_unshown(notes, about, outcome, request.bounds),
+        None if progress.is_over() => {}
+        None => tell_unshown(notes, about, outcome, progress, request.bounds),
     }
 }

@@ -4,6 +4,7 @@
 //! and what stands beside its answer.
 #![tactic(auto)]
 
+mod beside;
 mod calls;
 mod colours;
 mod lists;

@@ -1,4 +1,5 @@
 //! What the orders of scripts show: whether one shows what is asked, how far everything goes in all, and whether one that goes on from a trace does.
+use crate::beside::Beside;
 use crate::questions::asked;
 use fmp_cli::{ExploreRequest, Paths};
 use fmp_cli_desk::{
@@ -8,7 +9,7 @@ use fmp_cli_desk::{
 use fmp_cli_diagnostics::LineForm;
 use fmp_cli_faults::bounds_lines;
 use fmp_cli_hints::TextForm;
-use fmp_cli_notes::{About, note_extent, note_stayed, note_unmade, note_unshown};
+use fmp_cli_notes::{About, note_extent, note_left, note_stayed, note_unmade, note_unshown};
 use fmp_cli_runs::{search, search_forever, search_from, search_most};
 use fmp_run_events::{MemSource, RunFault, Sink, Source, Status};
 use fmp_run_explore::{ExploreFault, Outcome, Progress};
@@ -27,16 +28,18 @@ fn about_one(alloc: Global) -> About<'static> {
 
 /// Reports what is known of all orders beside the answer, where none shows what is asked.
 fn report_outcome<D: Desk>(
-    alloc: Global,
+    desk: &D,
     outcome: &Outcome,
     request: &ExploreRequest<'_>,
-    line: &mut ProgressLine<'_, D>,
+    progress: &mut ProgressLine<'_, D>,
 ) {
-    let about = about_one(alloc);
-    line.allow_as_much();
-    note_extent(line, about, outcome, request);
-    note_unshown(line, about, outcome, request);
-    note_unmade(line, about, outcome, request.bounds);
+    let notes = &mut Beside::new(desk);
+    let about = about_one(desk.alloc());
+    note_extent(notes, about, outcome, request);
+    progress.allow_as_much();
+    note_left(notes, about, outcome, progress, request);
+    note_unshown(notes, about, outcome, progress, request);
+    note_unmade(notes, about, outcome, progress, request.bounds);
 }
 
 /// Writes whether an order of what scripts ask shows what the request asks.
@@ -83,7 +86,7 @@ fn explore<D: Desk>(
         progress: &mut *progress,
     };
     let outcome = worked(desk, paths, fault_form, &mut work)?;
-    report_outcome(desk.alloc(), &outcome, request, progress);
+    report_outcome(desk, &outcome, request, progress);
     Ok(outcome.finding.status())
 }
 
@@ -162,8 +165,8 @@ fn explore_forever<D: Desk>(
         progress: &mut *progress,
     };
     let stayed = worked(desk, paths, fault_form, &mut work)?;
-    progress.allow_as_much();
-    note_stayed(progress, about_one(desk.alloc()), &stayed, request);
+    let about = about_one(desk.alloc());
+    note_stayed(&mut Beside::new(desk), about, &stayed, request);
     Ok(stayed.staying.status())
 }
 

@@ -1,4 +1,5 @@
 //! Many questions about the orders of scripts: each is searched for by itself, and a line reports its answer.
+use crate::beside::Beside;
 use crate::lists::put_out;
 use fmp_cli::{ExploreRequest, FEW_TICKS, Paths};
 use fmp_cli_desk::{
@@ -334,7 +335,8 @@ fn report_unmade<D: Desk>(
         asked: "questions",
     };
     if let Some(outcome) = telling(outcomes) {
-        note_unmade(progress, about, outcome, asking.request.bounds);
+        let notes = &mut Beside::new(desk);
+        note_unmade(notes, about, outcome, progress, asking.request.bounds);
     }
 }
 
@@ -354,7 +356,8 @@ fn report_unshown<D: Desk>(
                 alloc: desk.alloc(),
                 asked: name,
             };
-            note_unshown(progress, about, outcome, &asking.request);
+            let notes = &mut Beside::new(desk);
+            note_unshown(notes, about, outcome, progress, &asking.request);
         }
     }
     report_unmade(desk, asking, outcomes, progress);

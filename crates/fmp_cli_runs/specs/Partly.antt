@@ -1,12 +1,11 @@
 -- What is made of a partial trace of which something is asked.
-use Rattle.std.specs.Prelude.{◌≡◌, ℕ, List, ◌++◌, Option, None, Some}
+use Rattle.std.specs.Prelude.{◌≡◌, ℕ, List, Option, None, Some}
 use Rattle.fmp_cli.specs.declared.Partly.{Partly}
 use Rattle.fmp_cli.specs.declared.Partly.TheVariants as asks
 use Rattle.fmp_run_partial.specs.declared.showing.PartialShown.{PartialShown}
 use Rattle.fmp_run_partial.specs.declared.showing.PartialShown.TheVariants as shown
 use Rattle.fmp_run_partial.specs.declared.verdict.PartialVerdict.{PartialVerdict}
 use Rattle.fmp_run_partial.specs.declared.verdict.PartialVerdict.TheVariants as verdicts
-use Rattle.fmp_run_partial.specs.declared.showing.Shown.{Shown}
 use Rattle.fmp_run_view.specs.Runs as view
 use Rattle.fmp_run_view.specs.declared.run.PageKind.{PageKind}
 use Rattle.fmp_run_view.specs.declared.run.PageKind.TheVariants as pages

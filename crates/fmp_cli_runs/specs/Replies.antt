@@ -5,7 +5,7 @@ use Rattle.fmp_names.specs.Names.{NameLists}
 use Rattle.fmp_search_orders.specs.declared.rules.Rules.{Rules}
 use Rattle.fmp_search_question.specs.declared.fault.QuestionFault.{QuestionFault}
 use Rattle.fmp_search_question.specs.Lasting.{is_lasting}
-use Rattle.fmp_run_texts.specs.declared.fault.RunFault.TheVariants.{Memory, Write}
+use Rattle.fmp_run_texts.specs.declared.fault.RunFault.TheVariants.{Memory, Read, Write}
 use Rattle.fmp_run_texts.specs.declared.status.Status.{Status}
 use Rattle.fmp_run_texts.specs.declared.status.Status.TheVariants as status
 use Rattle.fmp_run_texts.specs.Faults.{is_thread_fault}
@@ -93,7 +93,8 @@ pub record IsUnreplied (config_text script_text question_text : List ℕ) (fault
   pub question_fault : QuestionFaultOver (IsFirstOf (is_lasting question_text) question_text) config_text fault
   -- no thread was started, so that none could fail
   pub no_thread_fault : OfRun (λ fault. is_thread_fault fault ≡ false) fault
-  -- a write that fails is want of memory
+  -- no read fails of a text in memory, and a write that fails is want of memory
+  pub no_read_fault : fault ≢ Run Read
   pub no_write_fault : fault ≢ Run Write
 
 -- the fault of a run that writes to memory alone, where a write fails for want of it

@@ -1,5 +1,5 @@
 //! What `fmpsim explore --questions` does of each question.
-ghost use Rattle.std.specs.Prelude.{◌≡◌, ◌-◌, false, true, IfErr, IfOk};
+ghost use Rattle.std.specs.Prelude.{◌≡◌, ◌-◌, false, true, drop, IfErr, IfOk};
 ghost use Rattle.fmp_search_question.specs.Lasting.{is_lasting as asks_of_what_stays};
 ghost use Rattle.fmp_cli_runs.specs.Asked as asked;
 ghost use Rattle.fmp_cli_runs.specs.Replies as spec;
@@ -9,12 +9,12 @@ use crate::forever::search_forever;
 use crate::orders::search;
 use fmp_cli::ExploreRequest;
 use fmp_cli_questions::{Answer, Judgement};
-use fmp_run_devices::{GrowingSink, MemSource};
+use fmp_run_devices::{GrowingSink, TextSource};
 use fmp_run_explore::{ExploreFault, Finding, Outcome, Progress};
 use fmp_run_forever::Staying;
 use fmp_run_texts::{RunFault, Status};
 use fmp_search_question::is_lasting;
-use std::alloc::Global;
+use std::alloc::{AllocError, Global};
 
 /// What is replied to a question.
 #[derive(Drop)]
@@ -79,6 +79,13 @@ fn in_memory(fault: ExploreFault) -> ExploreFault
     }
 }
 
+/// A text that was read, to be read again: none of its reads fails. The error is want of memory.
+fn read_again(alloc: Global, text: &[u8]) -> Result<TextSource, AllocError>
+    ensures { IfOk result (λ s. drop s.at s.text.items ≡ text.now) }
+{
+    Ok(TextSource::new(alloc, Vec::from_slice(alloc, text)?))
+}
+
 /// The reply to a question of steps.
 fn steps_reply<P: Progress>(
     alloc: Global,
@@ -91,8 +98,8 @@ fn steps_reply<P: Progress>(
         request.now.bounds.turns.count (request.now.bounds.places.count - 1) (P.over progress.new)) }
     ensures faults { asks_of_what_stays request.now.question.now ≡ false → IfErr result (IsUnreplied config.now scripts.now request.now.question.now) }
 {
-    let mut config = MemSource::new(config);
-    let mut scripts = MemSource::new(scripts);
+    let mut config = read_again(alloc, config)?;
+    let mut scripts = read_again(alloc, scripts)?;
     let mut output = GrowingSink::new(alloc);
     match search(
         alloc,
@@ -123,8 +130,8 @@ fn lasting_reply<P: Progress>(
         (request.now.bounds.places.count - 1)) }
     ensures faults { asks_of_what_stays request.now.question.now ≡ true → IfErr result (IsUnreplied config.now scripts.now request.now.question.now) }
 {
-    let mut config = MemSource::new(config);
-    let mut scripts = MemSource::new(scripts);
+    let mut config = read_again(alloc, config)?;
+    let mut scripts = read_again(alloc, scripts)?;
     let mut output = GrowingSink::new(alloc);
     match search_forever(
         alloc,
@@ -161,7 +168,7 @@ pub fn reply_to<P: Progress>(
         → IfOk result (RepliesLasting config.now scripts.now request.now.question.now (asked.rules_of request.now) request.now.bounds.turns.count
         (request.now.bounds.places.count - 1)) }
 
-    // A fault of a text or of the question is its first one, and nothing was written but to memory.
+    // A fault of a text or of the question is its first one, nothing was read but texts in memory, and nothing was written but to memory.
     ensures faults { IfErr result (IsUnreplied config.now scripts.now request.now.question.now) }
 {
     if is_lasting(request.question.as_bytes()) {
