@@ -391,6 +391,10 @@ tells_how_far() {
         grep -qaE $'[0-9]+ places, line [0-9]+, [0-9]+ s\r\033\\[K(never|not within [0-9]+)\r$' output \
             && grep -aoE '[0-9]+ places, line [0-9]+' output | awk '$1 + 0 <= $4 + 0 { wrong = 1 } END { exit wrong }' && well=yes
         count "$well" "${words[@]}" '# at a terminal'
+        well=no
+        grep -qaE $'(^|\r\033\\[K)fmpsim: question: places left where one thing is not looked at, of the first 20000: ' output \
+            && ! grep -qaE '[0-9] sfmpsim' output && well=yes
+        count "$well" "${words[@]}" '# what holds it up, at a terminal'
     else
         left_out 'there is no command script' "${words[@]}"
     fi

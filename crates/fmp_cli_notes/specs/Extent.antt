@@ -19,7 +19,7 @@ abbrev pub reach_of : Finding → ℕ → Reach
 reach_of finding.Never turns = reach.All
 reach_of (finding.NotWithin n) turns = reach_within n turns
 reach_of (finding.Wanting n) turns = reach.Wanting
-reach_of (finding.Ended n) turns = reach.Over
+reach_of (finding.Ended n) turns = reach.Part
 reach_of finding.Shown turns = reach.Part
 
 -- the memory that a command line gives has room for no more places than there is room for
@@ -43,7 +43,6 @@ places_of reach.All = codes "places gone through: "
 places_of reach.Room = codes "places found: "
 places_of reach.Wanting = codes "places found: "
 places_of reach.Part = codes "places found: "
-places_of reach.Over = codes "places found: "
 
 -- why no more
 abbrev pub why : Reach → ExploreRequest → List ℕ
@@ -51,7 +50,6 @@ why reach.All r = codes ", all there are"
 why reach.Room r = room_of r
 why reach.Wanting r = codes ", all for which there was memory"
 why reach.Part r = []
-why reach.Over r = []
 
 unfoldable pub extent_line : List ℕ → Extent → Reach → ExploreRequest → List ℕ
 extent_line asked e reach r =

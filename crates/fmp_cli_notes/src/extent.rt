@@ -17,10 +17,8 @@ pub enum Reach {
     Room,
     /// There was no memory for more.
     Wanting,
-    /// It was to go so far and no farther.
+    /// It was to go so far and no farther, or was ended.
     Part,
-    /// It was ended.
-    Over,
 }
 
 /// That of a search that went through orders of so many lines, as far as it was to go or as there was room for places.
@@ -42,8 +40,7 @@ fn reach_of(finding: Finding, turns: u32) -> Reach
         Finding::Never => Reach::All,
         Finding::NotWithin(lines) => reach_within(lines, turns),
         Finding::Wanting(_) => Reach::Wanting,
-        Finding::Ended(_) => Reach::Over,
-        Finding::Shown => Reach::Part,
+        Finding::Ended(_) | Finding::Shown => Reach::Part,
     }
 }
 
@@ -80,7 +77,7 @@ fn why(reach: Reach, request: &ExploreRequest<'_>) -> &'static [u8]
         Reach::All => b", all there are",
         Reach::Room => room_of(request),
         Reach::Wanting => b", all for which there was memory",
-        Reach::Part | Reach::Over => b"",
+        Reach::Part => b"",
     }
 }
 

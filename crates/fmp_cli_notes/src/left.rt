@@ -50,7 +50,26 @@ fn put_thing(line: &mut Text, config: &Config, thing: usize) {
     }
 }
 
-/// Tells without which things fewest are left of the first places that a search met, where it did not end: there was no room, no memory or no time for more.
+/// Tells of how many places fewest are left, and without which things.
+fn tell_fewest<N: Notes>(notes: &mut N, about: About<'_>, config: &Config, left: &Left) {
+    let things = fewest(about.alloc, left).unwrap_or(Vec::new(about.alloc));
+    let mut line = about.line();
+    line.put(b"places left where one thing is not looked at, of the first ");
+    line.put_number(left.places as u64);
+    let mut between = b": ".as_slice();
+    for (places, thing) in things.iter().take(MOST_THINGS) {
+        line.put(between);
+        put_thing(&mut line, config, *thing);
+        line.put_byte(b' ');
+        line.put_number(*places as u64);
+        between = b", ".as_slice();
+    }
+    if !things.is_empty() {
+        notes.note(line);
+    }
+}
+
+/// Tells without which things fewest are left of the first places that a search met, where it did not end: there was no room or no memory for more.
 pub(crate) fn tell_left<N: Notes, P: Progress>(
     notes: &mut N,
     about: About<'_>,
@@ -62,31 +81,16 @@ pub(crate) fn tell_left<N: Notes, P: Progress>(
     turns: Turns,
 ) {
     let count = match reach {
-        Reach::Room | Reach::Wanting | Reach::Over => extent.places.min(MOST_PLACES),
+        Reach::Room | Reach::Wanting => extent.places.min(MOST_PLACES),
         Reach::All | Reach::Part => 0,
     };
     let Some(places) = Places::new(count as u32) else {
         return;
     };
     let bounds = Bounds { turns, places };
-    let Ok(left) = left_without(about.alloc, orders, question, progress, bounds) else {
-        return;
-    };
-    let Ok(things) = fewest(about.alloc, &left) else {
-        return;
-    };
-    let mut line = about.line();
-    line.put(b"places left where one thing is not looked at, of the first ");
-    line.put_number(left.places as u64);
-    let mut between = b": ".as_slice();
-    for (places, thing) in things.iter().take(MOST_THINGS) {
-        line.put(between);
-        put_thing(&mut line, orders.config, *thing);
-        line.put_byte(b' ');
-        line.put_number(*places as u64);
-        between = b", ".as_slice();
-    }
-    if !things.is_empty() {
-        notes.note(line);
+    let left = left_without(about.alloc, orders, question, progress, bounds);
+    progress.end();
+    if let Ok(left) = left {
+        tell_fewest(notes, about, orders.config, &left);
     }
 }
