@@ -2,13 +2,11 @@
 //! `machine.cfg:4:3: error: F3 unsupported API CRE_MTX`.
 //!
 //! [`Diagnostic`] is such a line, with as much of the place as is known ([`Spot`]). [`line_form`] says by the words of a command line
-//! which form fault lines have, and [`without_option`] leaves out the words that say so. Lines that stand beside an answer are told to a [`Notes`].
+//! which form fault lines have, and [`without_option`] leaves out the words that say so.
 #![tactic(auto)]
 
 mod diagnostic;
-mod notes;
 mod option;
 
 pub use diagnostic::{Diagnostic, Spot};
-pub use notes::Notes;
 pub use option::{LineForm, line_form, without_option};

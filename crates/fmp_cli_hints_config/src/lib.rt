@@ -4,15 +4,13 @@
 //! Begin at [`config_context`].
 //!
 //! [`config_spot`] is the place of that caret as numbers. [`text_hint`] tells of a fault of events, scripts or a trace what the configuration says
-//! of the word, and [`thing_hint`] of a name that nothing in the configuration has. [`is_misplaced`] and [`put_misplaced`] are
-//! about calls of scripts that are always refused.
+//! of the word, and [`thing_hint`] of a name that nothing in the configuration has.
 //!
 //! The texts that are told are only tested, and so is that the caret is where the reader refuses: the fault says where its token stands.
 #![tactic(auto)]
 
 mod classes;
 mod config;
-mod contexts;
 mod foreign;
 mod functions;
 mod hints;
@@ -23,7 +21,6 @@ mod projects;
 mod taken;
 
 pub use config::{config_context, config_spot};
-pub use contexts::{is_misplaced, put_misplaced};
 pub use functions::{text_hint, thing_hint};
 pub use numbers::Stage;
 pub use projects::Origin;

@@ -24,23 +24,23 @@ use Rattle.fmp_text.specs.Argument.{is_argument, value_at}
 use Rattle.fmp_text.specs.Lines.{is_skipped, processor_in, without_return}
 use Rattle.fmp_text.specs.Places.{Place, IsEnd, fault_at, faults_at, mark, start, argument, arguments, ending, enclosed, formed, value, values, call_after, call_at, alone, event_of, event_at, event_in, line_event}
 
-whole : (l : List ℕ) → IsEnd l l
+pub whole : (l : List ℕ) → IsEnd l l
 whole l = ([], refl)
 
-chained : (a b c : List ℕ) → IsEnd a b → IsEnd b c → IsEnd a c
+pub chained : (a b c : List ℕ) → IsEnd a b → IsEnd b c → IsEnd a c
 chained a b c p q = (q.0 ++ p.0, q.1 ∙ (ap (λ (l : List ℕ). q.0 ++ l) p.1 ∙ sym (append_assoc q.0 p.0 a)))
 
-skipped : (class : Class) (l : List ℕ) → IsEnd (after class l) l
+pub skipped : (class : Class) (l : List ℕ) → IsEnd (after class l) l
 skipped class l = (take (prefix_len (is_of class) l) l, sym (take-append-drop (prefix_len (is_of class) l) l))
 
 -- ---- reading that stops within a text
 
 -- what is read is so, or the place is in the text
-abbrev IsWithin : {A : Type 0} → (A → Type 0) → List ℕ → Result A Place → Type 0
+abbrev pub IsWithin : {A : Type 0} → (A → Type 0) → List ℕ → Result A Place → Type 0
 IsWithin Is text (Ok a) = Is a
 IsWithin Is text (Err place) = IsEnd place.rest text
 
-abbrev Whatever : {A : Type 0} → A → Type 0
+abbrev pub Whatever : {A : Type 0} → A → Type 0
 Whatever a = Unit {0}
 
 bound : {A B : Type 0} (Is : A → Type 0) (Then : B → Type 0) (text : List ℕ) (r : Result A Place) (f : A → Result B Place) → IsWithin Is text r → ((a : A) → Is a → IsWithin Then text (f a)) → IsWithin Then text (r >>= f)
@@ -133,7 +133,7 @@ values_within names call (kind ∷ kinds) (one ∷ texts) text p =
     bound Whatever Whatever text (value names call kind one) (λ first. values names call kinds texts >>= λ others. Ok (first ∷ others)) (placed text one _ (value_at names kind (prefix Argument one)) p.0)
     (λ first q. bound Whatever Whatever text (values names call kinds texts) (λ others. Ok (first ∷ others)) (values_within names call kinds texts text p.1) (λ others s. tt))
 
-call_within : (names : NameLists) (call : Call) (text : List ℕ) → IsWithin Whatever text (call_after names call text)
+pub call_within : (names : NameLists) (call : Call) (text : List ℕ) → IsWithin Whatever text (call_after names call text)
 unfolding call_after
 call_within names call text =
     bound (AreEnds text) Whatever text (formed call text) _ (formed_within call text)

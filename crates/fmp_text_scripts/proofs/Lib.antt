@@ -4,6 +4,7 @@ pub mod Kept  -- What reading keeps: of each step what holds of every call that 
 pub mod Same  -- Calls of one name with the same arguments are equal.
 pub mod Linked  -- The ways of jumps, jump by jump.
 pub mod Placed  -- Reading a line up to the first byte that does not fit says what reading it says, or has its fault.
+pub mod Ends  -- The first byte that does not fit is one of the line, or its end: what is left there is an end of the line.
 pub mod PlaceFaults  -- The fault at the place of a line that is refused is the reader's.
 pub mod SpelledLines  -- A line of a script text is read exactly where it is spelled.
 pub mod SpelledScripts  -- A script text is read exactly where it is spelled.

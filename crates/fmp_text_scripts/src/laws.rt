@@ -9,6 +9,8 @@ ghost use Rattle.fmp_text_scripts.specs.ScriptFaults.{ScriptFault};
 ghost use Rattle.fmp_text.specs.declared.fault.TextFault.{TextFault};
 ghost use Rattle.fmp_text.specs.declared.fault.TextKind.{TextKind};
 ghost use Rattle.fmp_text.specs.declared.fault.TextKind.TheVariants.{TooMany};
+ghost use Rattle.fmp_text.specs.Lines.{without_return};
+ghost use Rattle.fmp_text.specs.Places.{IsEnd};
 ghost use Rattle.fmp_text_scripts.specs.Refusals.{place};
 
 /// What spells scripts, within the limits, is read as these scripts.
@@ -44,6 +46,11 @@ pub fn faults_are_those_of_the_table()
         → with_line names n r line ≡ Err fault → ScriptFault names r.scripts r.unclosed line fault }
     ensures report { (names : NameLists) (n : ℕ) (r : Reading) (line : List ℕ) (fault : TextKind) → AreValid names
         → ScriptFault names r.scripts r.unclosed line fault → with_line names n r line ≡ Err fault }
+{}
+
+/// Where a line is refused, what is left of it is an end of the line, so the first byte at fault is one of its bytes, or its end.
+pub fn places_are_in_their_lines()
+    ensures { (names : NameLists) (fault : TextKind) (line : List ℕ) → IsEnd (place names fault line).rest (without_return line) }
 {}
 
 /// The fault at the place of a line that is refused is the reader's, but of a line that is one too many, in which nothing is at fault.

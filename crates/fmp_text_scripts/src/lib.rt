@@ -22,8 +22,9 @@ mod ways;
 
 pub use equality::is_same_call;
 pub use laws::{
-    faults_are_those_of_the_table, faults_stand_in_their_line, places_have_their_fault,
-    read_scripts_are_spelled, spelled_scripts_are_read, texts_spell_one_list_of_scripts,
+    faults_are_those_of_the_table, faults_stand_in_their_line, places_are_in_their_lines,
+    places_have_their_fault, read_scripts_are_spelled, spelled_scripts_are_read,
+    texts_spell_one_list_of_scripts,
 };
 pub use line::{Said, line_misfit, said_in};
 pub use linking::Name;
