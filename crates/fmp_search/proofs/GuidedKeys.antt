@@ -32,10 +32,10 @@ words_same k m j n is =
     let three = rest_same _ _ _ _ two in
     (halves_same k j (first_same _ _ _ _ is) (first_same _ _ _ _ one), halves_same m n (first_same _ _ _ _ two) (first_same _ _ _ _ three))
 
-module _ {P : Type 0} (cs : List Choice) where
-  guide_same : (p r : Guide P) → p.place ≡ r.place → p.choices ≡ r.choices → p ≡ r
-  guide_same p r place choices = ap (λ (x : P). guide p.choices x) place ∙ ap (λ (xs : List Choice). guide xs r.place) choices
+pub guide_same : {P : Type 0} (p r : Guide P) → p.place ≡ r.place → p.choices ≡ r.choices → p ≡ r
+guide_same {P} p r place choices = ap (λ (x : P). guide p.choices x) place ∙ ap (λ (xs : List Choice). guide xs r.place) choices
 
+module _ {P : Type 0} (cs : List Choice) where
   -- the number of the halves of a key and of how many choices were made
   pub guided_key : (IsKey : ℕ → P → Type 0) (kept : List (List ℕ)) (r : P) (key made number : ℕ) (words : List ℕ) → AreDistinct kept → IsKeyOf IsKey r key → made ≤ length cs → words ≡ words_of key made →
       slice_get kept number ≡ Some words → IsKeyOf (λ k p. IsGuidedKey IsKey cs kept k p) (record { place = r; choices = drop made cs }) number

@@ -2,7 +2,7 @@
 use Rattle.std.proofs.Common.{◌≡◌, inl, inr, ℕ, ◌+◌, Option, None, Some, List, [], ◌∷◌, ◌++◌, length, get_or, ap, sym, subst, ◌∙◌, arith}
 use Rattle.std.specs.Prelude.{slice_get}
 use Rattle.std.proofs.lemmas.Grind.{common_steps}
-use Rattle.std.proofs.lemmas.Option.{same_Some, slice_get_within, slice_get-get_or}
+use Rattle.std.proofs.lemmas.Option.{none-some, slice_get_within, slice_get-get_or}
 use Rattle.fmp_interned.specs.Keys.{AreKeptBy, IsKeyOf}
 use Rattle.fmp_interned.specs.Values.{IsNew}
 use Rattle.fmp_interned.proofs.Numbers.{slice_get-pushed}
@@ -11,20 +11,27 @@ use Rattle.fmp_search.specs.Keys.{AreKeyed}
 use Rattle.fmp_search.specs.Trees.{Found, found_at, IsAt, IsKnownAs}
 use Rattle.fmp_search.proofs.Trees.{found-root, found-stays}
 
+-- keys of places by their numbers, with one more
+pub each_more : {P : Type 0} (IsKey : ℕ → P → Type 0) (place : ℕ → P) (keys : List ℕ) (key : ℕ) → ((i k : ℕ) → slice_get keys i ≡ Some k → IsKey k (place i)) → IsKey key (place (length keys)) →
+    (i k : ℕ) → slice_get (keys ++ key ∷ []) i ≡ Some k → IsKey k (place i)
+each_more IsKey place keys key each last i k there = elim (slice_get-pushed keys key k i there) [
+  | inl here ↦ subst (λ n. IsKey n (place i)) (sym here.1) (subst (λ n. IsKey key (place n)) (sym here.0) last)
+  | inr before ↦ each i k before
+]
+
+-- and one alone
+pub each_one : {P : Type 0} (IsKey : ℕ → P → Type 0) (place : ℕ → P) (key : ℕ) → IsKey key (place 0) → (i k : ℕ) → slice_get (key ∷ []) i ≡ Some k → IsKey k (place i)
+each_one IsKey place key first = each_more IsKey place [] key (λ i k there. absurd (none-some k there)) first
+
 module _ {P : Type 0} (after : P → ℕ → Option P) (q : P) where
   -- the key of the first place
   pub keyed_first : (IsKey : ℕ → P → Type 0) (keys : List ℕ) (nodes : List Node) (first : ℕ) → nodes ≡ [] → keys ≡ first ∷ [] → IsKey first q → AreKeyed after IsKey q keys nodes
-  keyed_first IsKey keys nodes first none one is =
-      let there : (i : ℕ) → i ≡ 0 → (found_at after q nodes i).place ≡ q = λ i low. ap (λ k. (found_at after q nodes k).place) low ∙ ap (λ (f : Found P). f.place) (found-root after q nodes) in
-      record {
-        long = ap (λ (ks : List ℕ). length ks) one ∙ sym (ap (λ (ns : List Node). length ns + 1) none);
-        each = λ i key at.
-            let at_one : slice_get (first ∷ []) i ≡ Some key = subst (λ (ks : List ℕ). slice_get ks i ≡ Some key) one at in
-            let lt = slice_get_within (first ∷ []) i key at_one in
-            let low : i ≡ 0 = omega (arith, lt) in
-            let same : first ≡ key = same_Some first key (subst (λ k. slice_get (first ∷ []) k ≡ Some key) low at_one) in
-            subst (λ k. IsKey k (found_at after q nodes i).place) same (subst (λ (p : P). IsKey first p) (sym (there i low)) is);
-      }
+  keyed_first IsKey keys nodes first none one is = record {
+    long = ap (λ (ks : List ℕ). length ks) one ∙ sym (ap (λ (ns : List Node). length ns + 1) none);
+    each = λ i key at.
+        each_one IsKey (λ k. (found_at after q nodes k).place) first (subst (λ (f : Found P). IsKey first f.place) (sym (found-root after q nodes)) is) i key
+        (subst (λ (ks : List ℕ). slice_get ks i ≡ Some key) one at);
+  }
 
   -- where there are more keys
   pub keyed_later : (IsKey later : ℕ → P → Type 0) (keys : List ℕ) (nodes : List Node) → AreKeptBy IsKey later → AreKeyed after IsKey q keys nodes → AreKeyed after later q keys nodes
@@ -33,19 +40,17 @@ module _ {P : Type 0} (after : P → ℕ → Option P) (q : P) where
   -- one more place
   pub keyed_more : (IsKey : ℕ → P → Type 0) (keys : List ℕ) (nodes : List Node) (key : ℕ) (node : Node) (r : P) → AreKeyed after IsKey q keys nodes → IsKey key r →
       IsAt after q (nodes ++ node ∷ []) (length nodes + 1) r → AreKeyed after IsKey q (keys ++ key ∷ []) (nodes ++ node ∷ [])
-  keyed_more IsKey keys nodes key node r all is at = record {
-    long = let long = all.long in grind (arith, common_steps, long);
-    each = λ i k there. elim (slice_get-pushed keys key k i there) [
-      | inl last ↦
-          let number : i ≡ length nodes + 1 = last.0 ∙ all.long in
-          subst (λ n. IsKey n (found_at after q (nodes ++ node ∷ []) i).place) (sym last.1)
-          (subst (λ (p : P). IsKey key p) (sym (ap (λ n. (found_at after q (nodes ++ node ∷ []) n).place) number ∙ at.1)) is)
-      | inr before ↦
-          let lt = slice_get_within keys i k before in
-          let long = all.long in
-          subst (λ (p : P). IsKey k p) (sym (ap (λ (f : Found P). f.place) (found-stays after q nodes node i (omega (arith, lt, long))))) (all.each i k before)
-    ];
-  }
+  keyed_more IsKey keys nodes key node r all is at =
+      let long = all.long in
+      let place : ℕ → P = λ i. (found_at after q (nodes ++ node ∷ []) i).place in
+      record {
+        long = grind (arith, common_steps, long);
+        each = each_more IsKey place keys key
+            (λ i k before.
+            let lt = slice_get_within keys i k before in
+            subst (λ (f : Found P). IsKey k f.place) (sym (found-stays after q nodes node i (omega (arith, lt, long)))) (all.each i k before))
+            (subst (λ (p : P). IsKey key p) (sym (ap place long ∙ at.1)) is);
+      }
 
   module _ (IsKey : ℕ → P → Type 0) (keys : List ℕ) (nodes : List Node) (all : AreKeyed after IsKey q keys nodes) where
     -- the number of the key of a place is the number of that place

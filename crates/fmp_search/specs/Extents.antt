@@ -4,6 +4,8 @@ use Rattle.fmp_search.specs.declared.nodes.Node.{Node}
 use Rattle.fmp_search.specs.declared.exploring.Answer.{Answer}
 use Rattle.fmp_search.specs.declared.exploring.Answer.TheVariants as answer
 use Rattle.fmp_search.specs.declared.extent.Extent.{Extent}
+use Rattle.fmp_search.specs.declared.layer.Layer.{Layer}
+use Rattle.fmp_search.specs.declared.layer.Layer.TheVariants as layer
 use Rattle.fmp_search.specs.declared.staying.Stay.{Stay}
 use Rattle.fmp_search.specs.declared.staying.Stay.TheVariants as stay
 use Rattle.fmp_search.specs.Trees.{AreDistinct, IsTree}
@@ -16,6 +18,18 @@ pub record IsExtent (nodes : List Node) (e : Extent) : Type 0 where
   pub count : e.places ≡ length nodes + 1
   pub near : (i : ℕ) → i ≤ length nodes → length (path_at nodes i) ≤ e.farthest
   pub far : (i : ℕ) × (i ≤ length nodes) × (length (path_at nodes i) ≡ e.farthest)
+
+abbrev pub HasExtent : List Node → Option Extent → Type 0
+HasExtent nodes None = ⊥
+HasExtent nodes (Some e) = IsExtent nodes e
+
+-- likewise, unless what is looked for was found
+abbrev pub IsExtentBeside : List Node → Layer → Option Extent → Type 0
+IsExtentBeside nodes (layer.Found steps) e = e ≡ None
+IsExtentBeside nodes layer.Full e = HasExtent nodes e
+IsExtentBeside nodes layer.Wanting e = HasExtent nodes e
+IsExtentBeside nodes layer.Over e = HasExtent nodes e
+IsExtentBeside nodes layer.Done e = HasExtent nodes e
 
 -- so it is of these places, no two of which are the same
 pub record HasGone {P : Type 0} (after : P → ℕ → Option P) (q : P) (nodes : List Node) (e : Extent) : Type 0 where

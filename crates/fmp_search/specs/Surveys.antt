@@ -1,6 +1,8 @@
 -- What was gone through.
-use Rattle.std.specs.Prelude.{◌≡◌, ◌⊎◌, ℕ, ◌+◌, ◌<◌, ◌≤◌, ◌^◌, ◌==◌, Bool, true, Option, None, Some, List, length}
+use Rattle.std.specs.Prelude.{◌≡◌, ◌⊎◌, ℕ, ◌+◌, ◌<◌, ◌≤◌, ◌^◌, ◌==◌, Bool, true, false, Option, None, Some, List, length}
 use Rattle.fmp_search.specs.declared.chart.Chart.{Chart}
+use Rattle.fmp_search.specs.declared.exploring.Answer.{Answer}
+use Rattle.fmp_search.specs.declared.exploring.Answer.TheVariants as answer
 use Rattle.fmp_search.specs.declared.layer.Layer.{Layer}
 use Rattle.fmp_search.specs.declared.layer.Layer.TheVariants as layer
 use Rattle.fmp_search.specs.declared.meeting.Met.{Met}
@@ -54,6 +56,15 @@ pub record Surveys {P : Type 0} (after : P → ℕ → Option P) (passes tells :
   pub ended : IsOverBy over s.how
   pub same : s.chart.kept ≡ kept
   pub marks : length s.chart.marks.items ≡ count
+
+-- what is known of all runs by how the last of so many layers went, where all places were opened or were not
+abbrev pub answer_by : Layer → ℕ → Bool → Answer
+answer_by (layer.Found steps) n whole = answer.Found steps
+answer_by layer.Full n whole = answer.NotWithin n
+answer_by layer.Wanting n whole = answer.Wanting n
+answer_by layer.Over n whole = answer.Ended n
+answer_by layer.Done n true = answer.Never
+answer_by layer.Done n false = answer.NotWithin n
 
 -- what the marks of a chart are of so many places, where all steps were tried that were asked for
 abbrev pub met_by : Layer → Chart → ℕ → Option Met

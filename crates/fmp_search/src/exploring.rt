@@ -3,13 +3,14 @@ ghost use Rattle.std.specs.Prelude.{◌≡◌, ◌<◌, ◌^◌, IfOk, IfSome};
 ghost use Rattle.fmp_search.specs.Answers.{IsEndedBy, Says};
 ghost use Rattle.fmp_search.specs.Extents.{Went};
 ghost use Rattle.fmp_search.specs.Meeting.{IsMetBeside, Meets};
+ghost use Rattle.fmp_search.specs.Surveys.{answer_by};
 
-use crate::extent::{Extent, extent_of};
+use crate::extent::{Extent, extent_beside};
 use crate::layer::Layer;
-use crate::meeting::Met;
+use crate::meeting::{Met, met_of};
 use crate::progress::Progress;
 use crate::space::Space;
-use crate::surveying::{Survey, go_through};
+use crate::surveying::go_through;
 use std::alloc::{AllocError, Global};
 
 /// What is known of all runs.
@@ -25,6 +26,25 @@ pub enum Answer {
     Wanting(u32),
     /// Likewise, where the search was ended before more is known.
     Ended(u32),
+}
+
+/// What is known of all runs by how the last layer went, which was opened by so many steps, where all places were opened or were not.
+fn answer_of(how: Layer, depth: u32, whole: bool) -> Answer
+    ensures { result ≡ answer_by how depth whole }
+{
+    match how {
+        Layer::Found(steps) => Answer::Found(steps),
+        Layer::Full => Answer::NotWithin(depth),
+        Layer::Wanting => Answer::Wanting(depth),
+        Layer::Over => Answer::Ended(depth),
+        Layer::Done => {
+            if whole {
+                Answer::Never
+            } else {
+                Answer::NotWithin(depth)
+            }
+        }
+    }
 }
 
 /// Goes through all places, the nearest first, up to so many steps from where all runs begin, and with room for so many places. Of two
@@ -51,37 +71,10 @@ pub fn explore<W: Space + Drop, P: Progress>(
     ensures beside { IfOk result (λ r. IsMetBeside turns r.0 r.2) }
     ensures ended { IfOk result (λ r. IsEndedBy (P.over progress.new) r.0) }
 {
-    let Survey {
-        how,
-        nodes,
-        chart,
-        depth,
-    } = go_through(alloc, walker, base, progress, turns, most, false, count)?;
-    match how {
-        Layer::Found(steps) => Ok((Answer::Found(steps), None, None)),
-        Layer::Full => {
-            let extent = extent_of(alloc, &nodes)?;
-            Ok((Answer::NotWithin(depth), Some(extent), None))
-        }
-        Layer::Wanting => {
-            let extent = extent_of(alloc, &nodes)?;
-            Ok((Answer::Wanting(depth), Some(extent), None))
-        }
-        Layer::Over => {
-            let extent = extent_of(alloc, &nodes)?;
-            Ok((Answer::Ended(depth), Some(extent), None))
-        }
-        Layer::Done => {
-            let extent = extent_of(alloc, &nodes)?;
-            let whole = chart.opened == nodes.len() + 1;
-            let met = Some(Met {
-                marks: chart.marks,
-                whole,
-            });
-            if whole {
-                return Ok((Answer::Never, Some(extent), met));
-            }
-            Ok((Answer::NotWithin(depth), Some(extent), met))
-        }
-    }
+    let survey = go_through(alloc, walker, base, progress, turns, most, false, count)?;
+    let extent = extent_beside(alloc, &survey)?;
+    let depth = survey.depth;
+    let whole = survey.chart.opened == survey.nodes.len() + 1;
+    let (how, met) = met_of(survey);
+    Ok((answer_of(how, depth, whole), extent, met))
 }

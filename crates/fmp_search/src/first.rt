@@ -1,7 +1,8 @@
 //! The first places of a search, with their keys.
 ghost use Rattle.std.specs.Prelude.{◌≡◌, ◌<◌, ◌^◌, Some, IfOk};
 ghost use Rattle.fmp_interned.specs.Keys.{AreKeptBy};
-ghost use Rattle.fmp_search.specs.First.{AreFirst, HasKeysOf};
+ghost use Rattle.fmp_search.specs.First.{AreFirst};
+ghost use Rattle.fmp_search.specs.Keys.{AreKeyed};
 ghost use Rattle.fmp_search.specs.Trees.{IsTree};
 
 use crate::nodes::Node;
@@ -43,7 +44,7 @@ fn places_of<W: Space>(
     nodes: &[Node],
 ) -> Result<Places<W::Tables>, AllocError>
     requires { IsTree W.after (W.origin walker.old) nodes.now }
-    ensures { IfOk result (λ p. HasKeysOf W.after (W.IsKey (W.origin walker.old) p.tables) (W.origin walker.old) nodes.now p.keys.items) }
+    ensures { IfOk result (λ p. AreKeyed W.after (W.IsKey (W.origin walker.old) p.tables) (W.origin walker.old) p.keys.items nodes.now) }
 {
     walker.restart()?;
     let mut tables = walker.tables()?;
@@ -81,6 +82,5 @@ pub fn first_places<W: Space + Drop, P: Progress>(
         false,
         0,
     )?;
-    let places = places_of(alloc, &mut walker, &survey.nodes)?;
-    Ok(places)
+    places_of(alloc, &mut walker, &survey.nodes)
 }

@@ -16,9 +16,10 @@ pub struct Met {
     pub whole: bool,
 }
 
-/// Which numbers are told of steps, where all steps were tried that were asked for.
-pub(crate) fn met_of(survey: Survey) -> Option<Met>
-    ensures { result ≡ surveys.met_of survey }
+/// How the last layer went, and which numbers are told of steps, where all steps were tried that were asked for.
+pub(crate) fn met_of(survey: Survey) -> (Layer, Option<Met>)
+    ensures how { result.0 ≡ survey.how }
+    ensures met { result.1 ≡ surveys.met_of survey }
 {
     let Survey {
         how,
@@ -27,11 +28,12 @@ pub(crate) fn met_of(survey: Survey) -> Option<Met>
         ..
     } = survey;
     match how {
-        Layer::Done => Some(Met {
-            whole: chart.opened == nodes.len() + 1,
-            marks: chart.marks,
-        }),
-        Layer::Found(_) | Layer::Full | Layer::Wanting | Layer::Over => None,
+        Layer::Done => {
+            let whole = chart.opened == nodes.len() + 1;
+            let marks = chart.marks;
+            (Layer::Done, Some(Met { marks, whole }))
+        }
+        how => (how, None),
     }
 }
 
@@ -53,7 +55,7 @@ fn met_by<W: Space + Drop, P: Progress>(
     let survey = go_through(alloc, walker, base, progress, turns, most, false, count)?;
     match survey.how {
         Layer::Wanting => Err(AllocError),
-        _ => Ok(met_of(survey)),
+        _ => Ok(met_of(survey).1),
     }
 }
 

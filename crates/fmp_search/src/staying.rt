@@ -327,5 +327,5 @@ pub fn for_ever<W: Space + Drop, P: Progress>(
     let survey = go_through(alloc, walker, base, progress, turns, most, true, count)?;
     let extent = extent_of(alloc, &survey.nodes)?;
     let stay = stay_of(alloc, walker, progress, &survey, turns, most, tests, count)?;
-    Ok((stay, extent, met_of(survey)))
+    Ok((stay, extent, met_of(survey).1))
 }

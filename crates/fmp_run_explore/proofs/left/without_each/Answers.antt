@@ -1,5 +1,6 @@
 use Rattle.std.proofs.Common.{◌≡◌, ◌<◌, ℕ, List, ap, sym, subst, length, arith}
 use Rattle.std.specs.Prelude.{slice_index, IfOk}
+use Rattle.std.proofs.lemmas.Option.{slice_get-get_or}
 use Rattle.fmp_search.specs.First.{AreFirst}
 use Rattle.fmp_search.specs.Trees.{found_at}
 use Rattle.fmp_search_orders.specs.Places.{Place, after}
@@ -13,11 +14,10 @@ keyed : (o p : Place) (kept : KeptPlaces) (turns : ℕ) (keys list : List ℕ) �
     (i : ℕ) → i < length list → (r : Place) × IsPlaceKey p kept (slice_index list i) r
 keyed o p kept turns keys list origin same first i lt =
     let many = ap length same in
-    let count = first.keyed.count in
     let place = (found_at after o first.nodes i).place in (
       place,
       subst (λ (q : Place). IsPlaceKey q kept (slice_index list i) place) (sym origin)
-          (subst (λ (l : List ℕ). IsPlaceKey o kept (slice_index l i) place) (sym same) (first.keyed.are i (omega (arith, lt, many, count)))),
+          (subst (λ (l : List ℕ). IsPlaceKey o kept (slice_index l i) place) (sym same) (first.keyed.each i _ (slice_get-get_or keys i 0 (omega (arith, lt, many))))),
     )
 
 pub left_without-requires : goal.left_without-requires

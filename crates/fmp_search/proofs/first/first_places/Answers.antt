@@ -1,8 +1,9 @@
 use Rattle.std.proofs.Common.{ℕ, ◌≤◌, Bool, Option, List, subst, arith}
+use Rattle.std.proofs.lemmas.Result.{IfOk-weaker}
 use Rattle.fmp_search.specs.declared.layer.Layer.{Layer}
 use Rattle.fmp_search.specs.declared.layer.Layer.TheVariants as layer
 use Rattle.fmp_search.specs.declared.nodes.Node.{Node}
-use Rattle.fmp_search.specs.First.{HasKeysOf}
+use Rattle.fmp_search.specs.Keys.{AreKeyed}
 use Rattle.fmp_search.specs.Surveys.{GoesSo}
 use Rattle.fmp_search.proofs.first.first_places.Goals as goal
 
@@ -20,13 +21,15 @@ returns g c =
     let W = g.W.Space in
     let survey = c.in_ok-survey.survey in
     let surveys = c.in_ok-survey.ensures.surveys in
-    let places = c.in_ok-places.places in
-    let keyed : HasKeysOf W.after (W.IsKey (W.origin c.args.walkers.0) places.tables) (W.origin c.args.walkers.0) survey.nodes.items places.keys.items =
-    subst (λ (ns : List Node). HasKeysOf W.after (W.IsKey (W.origin c.args.walkers.0) places.tables) (W.origin c.args.walkers.0) ns places.keys.items) c.deref.ensures.value
-    (subst (λ q. HasKeysOf W.after (W.IsKey q places.tables) q c.deref.result.now places.keys.items) c.in_ok-survey.ensures.origin c.in_ok-places.ensures) in record {
-      nodes = survey.nodes.items;
+    let q = W.origin c.args.walkers.0 in
+    let nodes = survey.nodes.items in
+    IfOk-weaker c.places_of.result _ _
+    (λ p keyed. record {
+      nodes = nodes;
       steps = survey.depth;
-      few = within W.after W.wanted (W.origin c.args.walkers.0) c.args.turns c.args.most survey.nodes.items survey.depth survey.chart.opened survey.how surveys.through;
+      few = within W.after W.wanted q c.args.turns c.args.most nodes survey.depth survey.chart.opened survey.how surveys.through;
       found = surveys.surveyed.found;
-      keyed = keyed;
-    }
+      keyed = subst (λ (ns : List Node). AreKeyed W.after (W.IsKey q p.tables) q p.keys.items ns) c.deref.ensures.value
+          (subst (λ q. AreKeyed W.after (W.IsKey q p.tables) q p.keys.items c.deref.result.now) c.in_ok-survey.ensures.origin keyed);
+    })
+    c.places_of.ensures

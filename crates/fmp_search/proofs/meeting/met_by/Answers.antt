@@ -25,7 +25,7 @@ pub returns-in_default-clause-meets : goal.returns-in_default-clause-meets
 returns-in_default-clause-meets g c =
     let W = g.W.Space in
     let q = W.origin c.args.walker.now in
-    subst (λ (o : Option Met). IfSome o (Meets W.after W.tells q c.args.turns c.args.count)) (sym c.met_of.ensures)
+    subst (λ (o : Option Met). IfSome o (Meets W.after W.tells q c.args.turns c.args.count)) (sym c.met_of.ensures.met)
     (says W.after W.passes W.tells W.wanted q c.args.turns c.args.most _ false c.args.count c.in_ok-survey.survey c.in_ok-survey.ensures.surveys)
 
 pub returns-in_default-clause-none : goal.returns-in_default-clause-none
@@ -35,5 +35,5 @@ returns-in_default-clause-none g c = λ none.
     let survey = c.in_ok-survey.survey in
     let is = c.in_ok-survey.ensures.surveys in
     left_open W.after W.wanted q c.args.turns c.args.most survey.nodes.items survey.depth survey.chart.opened _ survey.how
-    (λ done. let both = subst (λ (h : Layer). met_by h survey.chart (length survey.nodes.items + 1) ≡ None) done (sym c.met_of.ensures ∙ none) in absurd (search (rules, both)))
+    (λ done. let both = subst (λ (h : Layer). met_by h survey.chart (length survey.nodes.items + 1) ≡ None) done (sym c.met_of.ensures.met ∙ none) in absurd (search (rules, both)))
     c.in_default.not-Wanting is.through is.ended is.surveyed.found

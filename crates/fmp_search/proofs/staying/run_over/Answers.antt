@@ -30,3 +30,10 @@ returns-clause-right g c =
           (found after (test_of g.W.Space.passes c.args.test) q nodes c.args.marks.now c.requires.closed edge.from edge.step over.before
           (record { few = sure.from; next = edge.to; near = sure.to; goes = sure.goes; passes = subst (λ m. is_bit m c.args.test ≡ true) sure.report passed; free = free }) over.leads),
     )
+
+pub returns-clause-within : goal.returns-clause-within
+returns-clause-within g c = λ passed free.
+    let over = c.in_ok-steps.ensures in
+    let count = over.count in
+    let steps : length c.in_ok-steps.steps.items ≡ length over.before + 1 = ap (λ (xs : List ℕ). length xs) over.is ∙ grind (arith, common_steps) in
+    omega (arith, count, steps)
