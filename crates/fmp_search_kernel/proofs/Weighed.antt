@@ -37,9 +37,9 @@ uncounted p counting numbers is =
     (joined p.seen 0 (take n p.taken) (take n p.idled) (take n p.handlers) (take (length p.config.tasks) p.tasks))
 
 -- lists that were added one after the other
-pub listed : (none one two all ps ws vs us : List ℕ) → none ≡ [] → one ≡ none ++ ps → two ≡ one ++ ws → all ≡ two ++ us → ws ≡ vs → all ≡ ps ++ (vs ++ us)
-listed none one two all ps ws vs us empty first then last same =
-    last ∙ ap (λ (l : List ℕ). l ++ us) (then ∙ ap (λ (l : List ℕ). l ++ ws) (first ∙ ap (λ (l : List ℕ). l ++ ps) empty)) ∙ append_assoc ps ws us ∙ ap (λ (l : List ℕ). ps ++ (l ++ us)) same
+pub listed : (one two all ps ws vs us : List ℕ) → one ≡ ps → two ≡ one ++ ws → all ≡ two ++ us → ws ≡ vs → all ≡ ps ++ (vs ++ us)
+listed one two all ps ws vs us first then last same =
+    last ∙ ap (λ (l : List ℕ). l ++ us) (then ∙ ap (λ (l : List ℕ). l ++ ws) first) ∙ append_assoc ps ws us ∙ ap (λ (l : List ℕ). ps ++ (l ++ us)) same
 
 -- kernels of one configuration have as many things
 pub things_shaped : (v w : World Queues) → AreShaped v w → things_of v ≡ things_of w

@@ -1,6 +1,7 @@
 -- Places by keys: what a kernel is made of, and the positions and counts beside it.
 use Rattle.std.specs.Prelude.{◌≡◌, ℕ, ◌+◌, ◌*◌, ◌/◌, ◌%◌, ◌^◌, List, [], ◌∷◌, ◌++◌, drop, length, replicate, take}
 use Rattle.fmp_interned.specs.Trees.{IsTree}
+use Rattle.fmp_kernel_packed.specs.declared.packed.Packed.{Packed}
 use Rattle.fmp_kernel_packed.specs.Kept.{KeptParts}
 use Rattle.fmp_kernel_packed.specs.Kernels.{IsKernel}
 use Rattle.fmp_search_kernel.specs.Walked.{origin_of, IsRoomy}
@@ -42,3 +43,8 @@ pub record IsPlaceKey (o : Place) (kept : KeptPlaces) (key : ℕ) (p : Place) : 
   pub counting : ℕ
   pub kernel : IsKernel kept.parts (origin_of p).machine p.machine (key / 2 ^ 32) counting
   pub tree : IsTree kept.pairs (words_of p counting) (key % 2 ^ 32)
+
+-- these are the numbers of the kernel of a place, and those beside it
+pub record AreOfPlace (o : Place) (kept : KeptPlaces) (p : Place) (numbers : List ℕ) (packed : Packed) : Type 0 where
+  pub words : numbers ≡ words_of p packed.counting
+  pub kernel : IsKernel kept.parts (origin_of o).machine p.machine packed.machine packed.counting

@@ -3,14 +3,15 @@ ghost use Rattle.std.specs.Prelude.{◌≡◌, ◌≤◌, ◌+◌, ◌-◌, ◌*
 ghost use Rattle.fmp_interned.specs.Trees.{IsTree};
 ghost use Rattle.fmp_interned.specs.Values.{AreDistinct, IsBeginning};
 ghost use Rattle.fmp_kernel_packed.specs.Kept.{ArePartsOnce};
-ghost use Rattle.fmp_search_kernel.specs.Keys.{count_of_words, words_of, IsPackable, IsPadded};
+ghost use Rattle.fmp_search_kernel.specs.Keys.{count_of_words, words_of, AreOfPlace, IsPackable, IsPadded, IsPlaceKey};
 ghost use Rattle.fmp_search_kernel.specs.Walked.{origin_of};
 ghost use Rattle.fmp_search_orders.specs.Places.{Place};
 ghost use Rattle.fmp_setup.specs.Valid.{IsValid};
 
 use crate::walker::Walker;
 use fmp_interned::{Lists, Words};
-use fmp_kernel_packed::Parts;
+use fmp_kernel_packed::{Packed, Parts};
+use fmp_search::halves;
 use std::alloc::{AllocError, Global};
 use std::marker::Model;
 
@@ -22,7 +23,7 @@ pub(crate) const MOST_WORDS: usize = 90;
 pub struct PlaceTables {
     pub(crate) parts: Parts,
     /// Of the numbers beside a kernel.
-    pub(crate) lists: Lists,
+    lists: Lists,
     /// Room for such numbers.
     words: Words,
 }
@@ -134,14 +135,33 @@ impl<'a> Walker<'a> {
     {
         let processors = usize::from(self.config.processors());
         let words = &mut tables.words;
-        words.clear();
-        words.push(self.seen)?;
+        words.become_slice(&[self.seen])?;
         add_all(words, &self.taken[..processors])?;
         add_all(words, &self.idled[..processors])?;
         add_all(words, &self.handlers[..processors])?;
         add_all(words, &self.tasks[..self.config.tasks().len()])?;
         words.push(counting)?;
         tables.lists.key_of(words.as_slice())
+    }
+
+    /// Writes the numbers beside the kernel of the place of a key over as many others, and gives those of the kernel.
+    pub(crate) fn put_words(
+        &self,
+        tables: &mut PlaceTables,
+        key: u64,
+        numbers: &mut [u32],
+    ) -> Packed
+        requires valid { IsValid self.now.place.config }
+        requires long { length numbers.old ≡ count_of_words self.now.place.config }
+        requires kept { (p : Place) × IsPlaceKey (origin_of self.now.place) tables.old key p }
+        ensures are { (p : Place) → IsPlaceKey (origin_of self.now.place) tables.old key p → AreOfPlace (origin_of self.now.place) tables.old p numbers.new result }
+        ensures same { tables.new ≡ tables.old }
+        ensures long { length numbers.new ≡ length numbers.old }
+    {
+        let (machine, list) = halves(key);
+        tables.lists.put(list, numbers);
+        let counting = numbers[numbers.len() - 1];
+        Packed { machine, counting }
     }
 
     /// The positions and the counts become those of such numbers, and there is room for one step.

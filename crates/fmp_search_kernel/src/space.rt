@@ -1,20 +1,19 @@
 //! The walker as one who goes through a graph: its places are those of all orders.
-ghost use Rattle.std.specs.Prelude.{◌≡◌, ◌≤◌, ◌<◌, ◌+◌, ◌^◌, ℕ, Some, IfOk, length};
+ghost use Rattle.std.specs.Prelude.{◌≡◌, ◌≤◌, ◌<◌, ◌+◌, ◌^◌, ℕ, Some, IfOk};
 ghost use Rattle.std.specs.Int.{bit_at};
 ghost use Rattle.fmp_codes.specs.Records.{processor_of};
 ghost use Rattle.fmp_search.specs.Runs.{Closes, Goes};
 ghost use Rattle.fmp_search_orders.specs.Laws.{is_seen};
 ghost use Rattle.fmp_search_orders.specs.Made.{number_at};
 ghost use Rattle.fmp_search_orders.specs.Places as places;
-ghost use Rattle.fmp_search_kernel.specs.Keys.{count_of_words, IsPlaceKey};
+ghost use Rattle.fmp_search_kernel.specs.Keys.{IsPlaceKey};
 ghost use Rattle.fmp_search_kernel.specs.Walked.{origin_of, ClosesMark};
-ghost use Rattle.fmp_setup.specs.Valid.{IsValid};
 
 use crate::keys::{MOST_WORDS, PlaceTables};
 use crate::walker::{MOST, Walker, is_marked};
 use fmp_codes::Event;
-use fmp_kernel_packed::{Packed, pack, unpack};
-use fmp_search::{Noted, Space, halves, joined};
+use fmp_kernel_packed::{pack, unpack};
+use fmp_search::{Noted, Space, joined};
 use std::alloc::AllocError;
 
 /// Adds the bit of the step that makes the event of another with a mark.
@@ -74,36 +73,6 @@ impl<'a> Walker<'a> {
         self.close(seen, step, closed)?;
         self.is_allowed(seen, marked)
     }
-
-    /// Goes to the place of a key, with room for the numbers beside its kernel. There is room for one step then. The error is that of the kernel's `unpack`.
-    fn unpack_by(
-        &mut self,
-        tables: &mut PlaceTables,
-        key: u64,
-        numbers: &mut [u32],
-    ) -> Result<(), AllocError>
-        requires valid { IsValid self.old.place.config }
-        requires long { length numbers.old ≡ count_of_words self.old.place.config }
-        requires kept { (p : places.Place) × IsPlaceKey (origin_of self.old.place) tables.old key p }
-        ensures there { IfOk result (λ done. (p : places.Place) → IsPlaceKey (origin_of self.old.place) tables.old key p → self.new.place ≡ p) }
-        ensures same { tables.new ≡ tables.old }
-        ensures room { IfOk result (λ done. self.new.left ≡ 1) }
-        ensures origin { origin_of self.new.place ≡ origin_of self.old.place }
-    {
-        let (machine, words) = halves(key);
-        tables.lists.put(words, numbers);
-        let counting = numbers[numbers.len() - 1];
-        let packed = Packed { machine, counting };
-        unpack(
-            &mut tables.parts,
-            packed,
-            &mut self.machine,
-            &mut self.kernel,
-            &self.start,
-        )?;
-        self.become_words(numbers);
-        Ok(())
-    }
 }
 
 impl<'a> Space for Walker<'a> {
@@ -143,11 +112,21 @@ impl<'a> Space for Walker<'a> {
         Ok(joined(packed.machine, words))
     }
 
-    /// The error is as at `pack`.
+    /// There is room for one step then. The error is that of the kernel's `unpack`.
     fn unpack(&mut self, tables: &mut PlaceTables, key: u64) -> Result<(), AllocError> {
         let mut room = [0; MOST_WORDS];
         let count = self.word_count();
-        self.unpack_by(tables, key, &mut room[..count])
+        let numbers = &mut room[..count];
+        let packed = self.put_words(tables, key, numbers);
+        unpack(
+            &mut tables.parts,
+            packed,
+            &mut self.machine,
+            &mut self.kernel,
+            &self.start,
+        )?;
+        self.become_words(numbers);
+        Ok(())
     }
 
     fn restart(&mut self) -> Result<(), AllocError> {

@@ -10,9 +10,8 @@ ghost use Rattle.fmp_setup.specs.Valid.{IsValid};
 use crate::keys::{MOST_WORDS, PlaceTables, add_all};
 use crate::walker::Walker;
 use fmp_interned::{Interned, Words};
-use fmp_kernel_packed::{Packed, thing_count};
+use fmp_kernel_packed::thing_count;
 use fmp_rules::Config;
-use fmp_search::halves;
 use std::alloc::{AllocError, Global};
 
 /// How many numbers a kernel has at most of its parts.
@@ -66,9 +65,7 @@ fn add_untimed(words: &mut Words, times: &[u32], item: usize) -> Result<(), Allo
     match times {
         [word, low, high, rest @ ..] => {
             if *word as usize / 8 != item {
-                words.push(*word)?;
-                words.push(*low)?;
-                words.push(*high)?;
+                add_all(words, &[*word, *low, *high])?;
             }
             add_untimed(words, rest, item)
         }
@@ -98,22 +95,14 @@ impl<'a> Walker<'a> {
         ensures parts { length parts.new ≡ length parts.old }
         ensures words { length words.new ≡ length words.old }
     {
-        let (machine, list_key) = halves(key);
-        tables.lists.put(list_key, words);
-        let last = words.len() - 1;
-        let packed = Packed {
-            machine,
-            counting: words[last],
-        };
+        let packed = self.put_words(tables, key, words);
         tables.parts.put_numbers(packed, parts);
-        words[last] = 0;
+        words[words.len() - 1] = 0;
         parts[spot.part] = 0;
         words[spot.position] = 0;
-        list.clear();
-        add_all(list, parts)?;
+        list.become_slice(parts)?;
         add_all(list, words)?;
-        add_untimed(list, tables.parts.times(packed), spot.item)?;
-        Ok(())
+        add_untimed(list, tables.parts.times(packed), spot.item)
     }
 
     /// How many of the places of these keys are left where a thing is not looked at, whose numbers stand there. The error is want of memory.
