@@ -1,15 +1,17 @@
 //! What stands beside a fault line: the line of the text, a caret under the first byte at fault, and what is wanted there.
 //!
 //! A [`Walk`] is how far a line is read. In a line of events or scripts the reader itself says where it refuses (`event_or_misfit`, `line_misfit`), and
-//! that is the place (`specs/Places`, `specs/Scripts`); the law `places_are_in_their_lines` says that it is in that line. [`text_spot`] is the place of the
-//! caret as numbers: of a fault of events or scripts it is that place (`specs/Texts`). A near name is a nearest one (`specs/Hints`, `specs/Things`).
+//! that is the place (`specs/Places`, `specs/Scripts`); the law `places_are_in_their_lines` says that it is in that line. In a line of a trace it is the
+//! first word with which the reader takes no line that begins so (`specs/Traces`). [`text_spot`] is the place of the caret as numbers: of these texts it is
+//! that place (`specs/Texts`). A near name is a nearest one (`specs/Hints`, `specs/Things`).
 //!
-//! The texts that are told, the places in the lines of other texts, and that the caret there is where the reader refuses are only tested. Begin at
-//! [`text_context`]. What stands beside a fault of a configuration is `fmp_cli_hints_config`, and of a question `fmp_cli_hints_question`.
+//! The texts that are told, and the places in lines that may leave out parts, are only tested. Begin at [`text_context`]. What stands beside a fault of a
+//! configuration is `fmp_cli_hints_config`, and of a question `fmp_cli_hints_question`.
 #![tactic(auto)]
 
 mod event;
 mod excerpt;
+mod fits;
 mod hints;
 mod labels;
 mod laws;

@@ -1,34 +1,14 @@
 //! The first part of a partial trace's line that is not read so.
-ghost use Rattle.std.specs.Prelude.{◌≤◌, length};
+ghost use Rattle.std.specs.Prelude.{◌≤◌, length, IfOk};
 
-use crate::trace::{Reading, answered, byte_place, happened, is_runner, numbered};
+use crate::fits::{AFTER_NUMBER, AFTER_PROCESSOR, AFTER_RUNNER, Form, fits_with};
+use crate::trace::{from_event, trace_place};
 use crate::walk::Walk;
 use crate::wanted::Wanted;
-use fmp_bytes::{
-    Class, are_digits, cut, following, skip, spelled_number, split_prefix, unsigned32,
-};
+use fmp_bytes::{Class, are_digits, cut, following, spelled_number, split_prefix, unsigned32};
 use fmp_calls::find_call;
-use fmp_out::Text;
-use fmp_text::{MOST_EVENTS, Names, TextKind, processor_in};
-use fmp_trace_partial::read_said;
+use fmp_text::{MOST_EVENTS, Names, TextKind};
 use std::alloc::{AllocError, Global};
-
-/// Whether a text says something as line n of a partial trace.
-pub(crate) fn is_told(
-    alloc: Global,
-    names: &Names,
-    n: u32,
-    text: &[u8],
-) -> Result<bool, AllocError> {
-    let mut scratch = Text::new(alloc);
-    match read_said(&mut scratch, names, n, text) {
-        Ok(_said) => Ok(true),
-        Err(fault) => match fault.kind {
-            TextKind::Memory => Err(AllocError),
-            kind => Ok(!matches!(kind, TextKind::BadWord)),
-        },
-    }
-}
 
 /// Goes on over a word and the blank after it, where it passes, and else not at all.
 fn past<'a>(passes: bool, word: &[u8], text: &'a [u8]) -> &'a [u8]
@@ -60,35 +40,47 @@ fn is_for_runner(text: &[u8], after: Option<&[u8]>) -> bool {
     }
 }
 
-/// Goes on over the runner of a line and the blank after it, where it has one, in a text that begins after the processor.
-fn partly_run_by<'a>(names: &Names, text: &'a [u8]) -> Walk<'a>
-    ensures within { length result.rest ≤ length text.now }
+/// Goes on over the runner of a line and the blank after it, where it has one, in a text after the processor that ends line n.
+fn partly_run_by<'a>(
+    alloc: Global,
+    names: &Names,
+    n: u32,
+    line: &[u8],
+    text: &'a [u8],
+) -> Result<Walk<'a>, AllocError>
+    requires { length text.now ≤ length line.now }
+    ensures within { IfOk result (λ w. length w.rest ≤ length text.now) }
 {
     let (runner, after) = cut(b' ', text);
-    if is_runner(names, runner) {
-        return Walk::going(past(true, runner, text));
+    if fits_with(alloc, names, Form::Partial, n, line, text, AFTER_RUNNER)? {
+        return Ok(Walk::going(past(true, runner, text)));
     }
     if !text.starts_with(b" ") && is_for_runner(text, after) {
-        return Walk::stuck(text, Wanted::Runner);
+        return Ok(Walk::stuck(text, Wanted::Runner));
     }
-    Walk::going(text)
+    Ok(Walk::going(text))
 }
 
 /// Goes on over all that stands before the event in a line that may leave out parts, with the blank after it.
-fn partly_headed<'a>(names: &Names, n: u32, line: &'a [u8]) -> Walk<'a>
-    ensures within { length result.rest ≤ length line.now }
+fn partly_headed<'a>(
+    alloc: Global,
+    names: &Names,
+    n: u32,
+    line: &'a [u8],
+) -> Result<Walk<'a>, AllocError>
+    ensures within { IfOk result (λ w. length w.rest ≤ length line.now) }
 {
     let (number, _after) = cut(b' ', line);
     let counts = are_digits(10, number);
-    if counts && numbered(n, line).wanted().is_some() {
-        return Walk::stuck(line, Wanted::LineNumber(n));
+    if counts && !fits_with(alloc, names, Form::Partial, n, line, line, AFTER_NUMBER)? {
+        return Ok(Walk::stuck(line, Wanted::LineNumber(n)));
     }
     let text = past(counts, number, line);
-    let (processor, _after) = cut(b' ', text);
-    if processor_in(names, processor).is_err() {
-        return Walk::stuck(text, Wanted::Processor);
+    if !fits_with(alloc, names, Form::Partial, n, line, text, AFTER_PROCESSOR)? {
+        return Ok(Walk::stuck(text, Wanted::Processor));
     }
-    partly_run_by(names, past(true, processor, text))
+    let (processor, _after) = cut(b' ', text);
+    partly_run_by(alloc, names, n, line, past(true, processor, text))
 }
 
 /// Whether a text is a number of 32 bits as it is written in decimal.
@@ -121,15 +113,11 @@ fn partial_line_place<'a>(
     if let Some(after) = line.strip_prefix(b"ends".as_slice()) {
         return Ok(ending_place(line, after));
     }
-    let head = partly_headed(names, n, line);
+    let head = partly_headed(alloc, names, n, line)?;
     if head.wanted().is_some() {
         return Ok(head);
     }
-    let event = happened(alloc, names, head.rest())?;
-    if event.wanted().is_some() {
-        return Ok(event);
-    }
-    answered(alloc, names, Reading::Partly(n), line, event.rest())
+    from_event(alloc, names, Form::Partial, n, line, head.rest())
 }
 
 /// A line of this number that is one too many, or before which too many lines are under way.
@@ -150,9 +138,8 @@ pub(crate) fn partial_place<'a>(
     kind: TextKind,
 ) -> Result<Walk<'a>, AllocError> {
     match kind {
-        TextKind::BadByte => Ok(byte_place(skip(Class::Printed, line))),
         TextKind::BadWord => partial_line_place(alloc, names, n, line),
         TextKind::TooMany => Ok(crowded_place(n, line)),
-        _ => Ok(Walk::going(line)),
+        _ => trace_place(alloc, names, n, line, kind),
     }
 }

@@ -41,7 +41,7 @@ fn whole_place<'a>(
     line: &'a [u8],
     fault: TextFault,
 ) -> Result<Walk<'a>, AllocError>
-    ensures { IfOk result (λ walk. spec.is_told form ≡ true → walk ≡ spec.whole_place form names.now line.now fault.kind) }
+    ensures { IfOk result (λ walk. spec.is_told form ≡ true → walk ≡ spec.whole_place form names.now fault.line line.now fault.kind) }
 {
     let whole = without_return(line);
     match form {
@@ -64,7 +64,7 @@ fn place<'a>(
     after: Option<&[u8]>,
     fault: TextFault,
 ) -> Result<Walk<'a>, AllocError>
-    ensures { IfOk result (λ walk. spec.is_told form ≡ true → walk ≡ spec.place form names.now line.now (option_copied after.entry) fault.kind) }
+    ensures { IfOk result (λ walk. spec.is_told form ≡ true → walk ≡ spec.place form names.now fault.line line.now (option_copied after.entry) fault.kind) }
 {
     match after {
         None => Ok(Walk::going(&[])),
