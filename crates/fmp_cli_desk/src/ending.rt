@@ -5,6 +5,7 @@ ghost use Rattle.std.specs.declared.io.ErrorKind.TheVariants as kind;
 ghost use Rattle.fmp_run_texts.specs.declared.fault.RunFault.TheVariants as run;
 ghost use Rattle.fmp_cli_desk.specs.declared.ending.Ending.TheVariants as ending;
 ghost use Rattle.fmp_cli_desk.specs.Endings as spec;
+ghost use Rattle.fmp_cli_desk.specs.Runs as runs;
 
 use crate::keeping::Kept;
 use fmp_run_events::{LifeFault, RunFault, Status};
@@ -105,8 +106,7 @@ impl Ending {
 
 /// What became of a run that has read these texts.
 pub fn kept<T: Drop>(run: Result<T, Ending>, texts: Kept) -> Result<T, Ending>
-    ensures done { IfOk run (λ done. result ≡ Ok done) }
-    ensures ended { IfErr run (λ ending. result ≡ Err (spec.with_texts ending texts)) }
+    ensures { result ≡ runs.kept run texts }
 {
     match run {
         Ok(done) => Ok(done),
@@ -173,8 +173,7 @@ impl Fault for LifeFault {
 
 /// What became of a run, where it is known whether its output was closed when the last write failed.
 pub fn settled<T: Drop, F: Fault + Drop>(run: Result<T, F>, is_closed: bool) -> Result<T, Ending>
-    ensures done { IfOk run (λ done. result ≡ Ok done) }
-    ensures ended { IfErr run (λ fault. result ≡ Err (F.ending fault is_closed)) }
+    ensures { result ≡ runs.settled F.ending run is_closed }
 {
     match run {
         Ok(done) => Ok(done),

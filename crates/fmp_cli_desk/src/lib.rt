@@ -2,7 +2,7 @@
 //! and how far it has come.
 //!
 //! A [`Desk`] is all that the program has of the system that it runs on, so that no other crate of it opens a file or prints but the one that makes the
-//! desk. A run is a [`Work`], of which [`worked`] opens and reads the texts and [`written`] hands it standard output. How it ends is an [`Ending`], or a status
+//! desk. Of a run of `fmp_cli_runs` [`worked`] opens and reads the texts, and [`written`] hands it standard output: what it promised there it has promised. How it ends is an [`Ending`], or a status
 //! where it went to its end: [`Ending::status`] says by definition how each ends the program (`specs/Endings`), and [`ended`] does so of every run, whatever it
 //! reports.
 #![tactic(auto)]
@@ -29,4 +29,4 @@ pub use progress::ProgressLine;
 pub use texts::{
     STANDARD_INPUT, begun_read, both_opened, both_read, text_read, third_allowed, trace_read,
 };
-pub use work::{Work, worked, worked_alone, worked_over, written};
+pub use work::{worked, worked_alone, worked_over, written};

@@ -1,6 +1,8 @@
 //! Runs at a desk: the texts of a run are opened and read, what it writes goes to standard output, and how it ends is an [`Ending`].
-ghost use Rattle.std.specs.Prelude.{◌≡◌, ◌-◌, ◌<◌, ◌^◌};
+ghost use Rattle.std.specs.Prelude.{◌≡◌, ◌-◌, ◌<◌, ◌^◌, IfOk};
 ghost use Rattle.fmp_run_devices.specs.Either.{of_either};
+ghost use Rattle.fmp_cli_runs.specs.Texts.{text_ends};
+ghost use Rattle.fmp_cli_desk.specs.Runs.{HasDone, HasRun, HasRunOver};
 
 use crate::desk::{Desk, FaultForm};
 use crate::ending::{Ending, Fault, kept, settled};
@@ -8,82 +10,85 @@ use crate::keeping::Kept;
 use crate::texts::{WholeText, both_read, config_alone};
 use fmp_cli::Paths;
 use fmp_cli_colour::ColourSink;
+use fmp_cli_runs::Run;
 use fmp_run_devices::MemSource;
-use fmp_run_events::{Sink, Source, WriteSink};
-use std::alloc::Global;
-
-/// A run of a configuration and another text, over any devices.
-pub trait Work {
-    /// What it gives.
-    type Done: Drop;
-    /// With what it ends before its time.
-    type Fault: Fault + Drop;
-
-    /// Runs once.
-    fn run<S: Source, W: Sink>(
-        &mut self,
-        alloc: Global,
-        config: &[u8],
-        text: &mut S,
-        output: &mut W,
-    ) -> Result<Self::Done, Self::Fault>
-        requires text_calls { S.failures text.old < 2 ^ 64 - 1 }
-        requires output_calls { W.failures output.old < 2 ^ 64 - 1 };
-}
+use fmp_run_events::{RunFault, Source, WriteSink};
 
 /// Runs over texts that are there, with standard output, in colours or not.
-pub fn written<D: Desk, S: Source, R: Work>(
+pub fn written<D: Desk, S: Source, R: Run>(
     desk: &D,
     config: &[u8],
     text: &mut S,
     coloured: bool,
-    work: &mut R,
+    run: &mut R,
 ) -> Result<R::Done, Ending>
-    requires { S.failures text.old < 2 ^ 64 - 1 }
+where
+    R::Fault: Fault,
+    requires may_run { R.may_run }
+    requires text_calls { S.failures text.old < 2 ^ 64 - 1 }
+    ensures { HasRun (R.promises run.old run.new config.now (text_ends S.left S.failures S.given S.ended text.old text.new))
+        ⟦<R::Fault as Fault>⟧.ending result }
 {
     let alloc = desk.alloc();
-    let mut output = WriteSink::new(alloc, desk.output())?;
+    let mut output = match WriteSink::new(alloc, desk.output()) {
+        Ok(output) => output,
+        Err(_) => return Err(Ending::Fault(RunFault::Memory)),
+    };
     if coloured {
         let mut colours = ColourSink::new(output);
-        let run = work.run(alloc, config, text, &mut colours);
-        return settled(run, colours.below().is_closed());
+        let ended = run.run(alloc, config, text, &mut colours);
+        return settled(ended, colours.below().is_closed());
     }
-    let run = work.run(alloc, config, text, &mut output);
-    settled(run, output.is_closed())
+    let ended = run.run(alloc, config, text, &mut output);
+    settled(ended, output.is_closed())
 }
 
 /// Runs over texts that were read.
-pub fn worked_over<D: Desk, R: Work>(
+pub fn worked_over<D: Desk, R: Run>(
     desk: &D,
     texts: Kept,
     mut text: WholeText<D::Text>,
-    work: &mut R,
+    run: &mut R,
 ) -> Result<R::Done, Ending>
-    requires { of_either (λ _. 0) (λ source. source.failures) text ≡ 0 }
+where
+    R::Fault: Fault,
+    requires may_run { R.may_run }
+    requires text_calls { of_either (λ _. 0) (λ source. source.failures) text ≡ 0 }
+    ensures { HasRunOver (R.promises run.old run.new texts.config.items) ⟦<R::Fault as Fault>⟧.ending texts result }
 {
-    let run = written(desk, texts.config.as_slice(), &mut text, false, work);
-    kept(run, texts)
+    let ended = written(desk, texts.config.as_slice(), &mut text, false, run);
+    kept(ended, texts)
 }
 
 /// Reads both texts, and runs over them. What the form of faults wants is kept of them.
-pub fn worked<D: Desk, R: Work>(
+pub fn worked<D: Desk, R: Run>(
     desk: &D,
     paths: &Paths<'_>,
     fault_form: FaultForm,
-    work: &mut R,
-) -> Result<R::Done, Ending> {
+    run: &mut R,
+) -> Result<R::Done, Ending>
+where
+    R::Fault: Fault,
+    requires { R.may_run }
+    ensures { IfOk result (HasDone (R.promises run.old run.new)) }
+{
     let (texts, text) = both_read(desk, paths, fault_form)?;
-    worked_over(desk, texts, text, work)
+    worked_over(desk, texts, text, run)
 }
 
 /// Reads the configuration, and runs over it where there is no other text.
-pub fn worked_alone<D: Desk, R: Work>(
+pub fn worked_alone<D: Desk, R: Run>(
     desk: &D,
     paths: &Paths<'_>,
-    work: &mut R,
-) -> Result<R::Done, Ending> {
+    run: &mut R,
+) -> Result<R::Done, Ending>
+where
+    R::Fault: Fault,
+    requires { R.may_run }
+    ensures { IfOk result (HasDone (R.promises run.old run.new)) }
+{
     let texts = config_alone(desk, paths)?;
     let mut none = MemSource::new(b"");
-    let run = written(desk, texts.config.as_slice(), &mut none, false, work);
-    kept(run, texts)
+    let ended = written(desk, texts.config.as_slice(), &mut none, false, run);
+    kept(ended, texts)
 }

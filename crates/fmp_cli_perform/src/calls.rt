@@ -2,59 +2,34 @@
 use crate::colours::{is_coloured, uncoloured};
 use fmp_cli::{Colour, Paths, Report};
 use fmp_cli_desk::{
-    Desk, Ending, FaultForm, Kept, LineKeeper, Work, both_opened, ended, kept, put_lines,
+    Desk, Ending, Fault, FaultForm, Kept, LineKeeper, both_opened, ended, kept, put_lines,
     report_name, written,
 };
 use fmp_cli_diagnostics::LineForm;
 use fmp_cli_hints::TextForm;
-use fmp_cli_runs::answer;
+use fmp_cli_runs::{Answering, Following, Run};
 use fmp_out::Text;
-use fmp_run_events::{LifeFault, MemSource, ReadSource, RunFault, Sink, Source, Status, run_life};
-use std::alloc::Global;
-
-/// Writes what the machine answers.
-#[derive(Clone, Copy)]
-struct Answering {
-    report: Report,
-}
-
-impl Work for Answering {
-    type Done = Status;
-
-    type Fault = RunFault;
-
-    fn run<S: Source, W: Sink>(
-        &mut self,
-        alloc: Global,
-        config: &[u8],
-        text: &mut S,
-        output: &mut W,
-    ) -> Result<Status, RunFault> {
-        let mut config = MemSource::new(config);
-        answer(alloc, &mut config, text, output, self.report)
-    }
-}
+use fmp_run_events::{ReadSource, Status};
 
 /// Opens both texts, and runs over the events as they come. What the form of faults wants is kept of them.
-fn streamed<D: Desk, R: Work>(
+fn streamed<D: Desk, R: Run>(
     desk: &D,
     paths: &Paths<'_>,
     fault_form: FaultForm,
     coloured: bool,
-    work: &mut R,
-) -> Result<R::Done, Ending> {
+    run: &mut R,
+) -> Result<R::Done, Ending>
+where
+    R::Fault: Fault,
+    requires { R.may_run }
+{
     let (config, events) = both_opened(desk, paths)?;
     let mut events = LineKeeper::new(desk.alloc(), events, fault_form.shows_place(paths));
     let mut text = ReadSource::new(&mut events);
-    let run = written(desk, config.as_slice(), &mut text, coloured, work);
+    let ended = written(desk, config.as_slice(), &mut text, coloured, run);
     drop(text);
-    kept(
-        run,
-        Kept {
-            config,
-            text: events.into_kept(),
-        },
-    )
+    let text = events.into_kept();
+    kept(ended, Kept { config, text })
 }
 
 /// How reporting what the machine answers ends the program. A fault is reported.
@@ -72,31 +47,6 @@ pub fn called<D: Desk>(
     let fault_form = FaultForm { line, text };
     let run = streamed(desk, paths, fault_form, coloured, &mut Answering { report });
     ended(desk, paths, fault_form, run)
-}
-
-/// Writes what the events change of the things with these names.
-#[derive(Clone, Copy)]
-struct Following<'a> {
-    names: &'a str,
-}
-
-impl<'a> Work for Following<'a> {
-    type Done = Status;
-
-    type Fault = LifeFault;
-
-    fn run<S: Source, W: Sink>(
-        &mut self,
-        alloc: Global,
-        config: &[u8],
-        text: &mut S,
-        output: &mut W,
-    ) -> Result<Status, LifeFault> {
-        let mut config = MemSource::new(config);
-        let names = self.names.as_bytes();
-        run_life(alloc, &mut config, text, names, output)?;
-        Ok(Status::Done)
-    }
 }
 
 /// Reports that a name names nothing in a configuration, and what is near to it.
@@ -129,5 +79,5 @@ pub fn lived<D: Desk>(
         let name = names.split(',').nth(*index).unwrap_or("");
         report_unnamed(desk, paths.config, config.as_slice(), name);
     }
-    ended(desk, paths, fault_form, run)
+    ended(desk, paths, fault_form, run.map(|()| Status::Done))
 }

@@ -1,14 +1,14 @@
 //! What may be written in the texts, what is reported of a name, and what was read of a configuration.
 use fmp_cli::{Described, Paths};
 use fmp_cli_desk::{
-    Desk, Ending, FaultForm, NO_PATHS, Work, ended, put_lines, settled_write, worked_alone,
+    Desk, Ending, FaultForm, NO_PATHS, ended, put_lines, settled_write, worked_alone,
 };
 use fmp_cli_diagnostics::LineForm;
 use fmp_cli_help::{about, everything, near_word};
 use fmp_cli_hints::TextForm;
+use fmp_cli_runs::Describing;
 use fmp_out::Text;
-use fmp_run_events::{MemSource, RunFault, Sink, Source, Status};
-use fmp_run_list::run_list;
+use fmp_run_events::Status;
 use std::alloc::{AllocError, Global};
 use std::io::Write;
 
@@ -54,36 +54,25 @@ pub fn listed<D: Desk>(desk: &D, name: Option<&str>, line: LineForm) -> Status {
     ended(desk, &NO_PATHS, FaultForm { line, text }, list(desk, name))
 }
 
-/// Writes what was read of a configuration.
-#[derive(Clone, Copy)]
-struct Listing;
-
-impl Work for Listing {
-    type Done = Status;
-
-    type Fault = RunFault;
-
-    fn run<S: Source, W: Sink>(
-        &mut self,
-        alloc: Global,
-        config: &[u8],
-        _text: &mut S,
-        output: &mut W,
-    ) -> Result<Status, RunFault> {
-        run_list(alloc, &mut MemSource::new(config), output)?;
-        Ok(Status::Done)
+/// The path of a configuration of which is reported what was read, where no other text is.
+pub fn path_of<'a>(request: &Described<'a>) -> Paths<'a> {
+    Paths {
+        config: request.config,
+        text: "",
+        // No other text is read, so that of its forms any will do.
+        context: request.context.then_some(TextForm::Events),
     }
 }
 
-/// How reporting what was read of a configuration ends the program. A fault is reported.
-pub fn described<D: Desk>(desk: &D, request: &Described<'_>, line: LineForm) -> Status {
-    // No other text is read, so that of its forms any will do.
+/// How writing something of a configuration alone ends the program. A fault is reported.
+pub fn described<D: Desk>(
+    desk: &D,
+    paths: &Paths<'_>,
+    mut describing: Describing,
+    line: LineForm,
+) -> Status {
+    // Nor here.
     let text = TextForm::Events;
-    let paths = Paths {
-        config: request.config,
-        text: "",
-        context: request.context.then_some(text),
-    };
-    let run = worked_alone(desk, &paths, &mut Listing);
-    ended(desk, &paths, FaultForm { line, text }, run)
+    let run = worked_alone(desk, paths, &mut describing).map(|()| Status::Done);
+    ended(desk, paths, FaultForm { line, text }, run)
 }

@@ -3,18 +3,16 @@ use crate::beside::Beside;
 use crate::questions::asked;
 use fmp_cli::{ExploreRequest, Paths};
 use fmp_cli_desk::{
-    Desk, Ending, FaultForm, ProgressLine, Work, begun_read, both_read, put_lines, replied,
-    report_begun, third_allowed, worked, worked_over,
+    Desk, Ending, FaultForm, ProgressLine, begun_read, both_read, put_lines, replied, report_begun,
+    third_allowed, worked, worked_over,
 };
 use fmp_cli_diagnostics::LineForm;
 use fmp_cli_faults::bounds_lines;
 use fmp_cli_hints::TextForm;
 use fmp_cli_notes::{About, note_extent, note_left, note_stayed, note_unmade, note_unshown};
-use fmp_cli_runs::{search, search_forever, search_from, search_most};
-use fmp_run_events::{MemSource, RunFault, Sink, Source, Status};
-use fmp_run_explore::{ExploreFault, Outcome, Progress};
-use fmp_run_explore_from::FromFault;
-use fmp_run_forever::Stayed;
+use fmp_cli_runs::{Searching, SearchingForever, SearchingFrom, SearchingMost};
+use fmp_run_events::Status;
+use fmp_run_explore::{Outcome, Progress};
 use fmp_search_question::is_lasting;
 use std::alloc::Global;
 
@@ -42,37 +40,6 @@ fn report_outcome<D: Desk>(
     note_unmade(notes, about, outcome, progress, request.bounds);
 }
 
-/// Writes whether an order of what scripts ask shows what the request asks.
-#[derive(Drop)]
-struct Searching<'a, 'w, 'p, P> {
-    request: &'a ExploreRequest<'w>,
-    progress: &'p mut P,
-}
-
-impl<'a, 'w, 'p, P: Progress> Work for Searching<'a, 'w, 'p, P> {
-    type Done = Outcome;
-
-    type Fault = ExploreFault;
-
-    fn run<S: Source, W: Sink>(
-        &mut self,
-        alloc: Global,
-        config: &[u8],
-        text: &mut S,
-        output: &mut W,
-    ) -> Result<Outcome, ExploreFault> {
-        let mut config = MemSource::new(config);
-        search(
-            alloc,
-            &mut config,
-            text,
-            output,
-            self.request,
-            self.progress,
-        )
-    }
-}
-
 /// Writes whether an order of what scripts ask shows what the request asks. Where none does it reports how much of it comes.
 fn explore<D: Desk>(
     desk: &D,
@@ -81,74 +48,16 @@ fn explore<D: Desk>(
     request: &ExploreRequest<'_>,
     progress: &mut ProgressLine<'_, D>,
 ) -> Result<Status, Ending> {
-    let mut work = Searching {
+    let mut run = Searching {
         request,
         progress: &mut *progress,
     };
-    let outcome = worked(desk, paths, fault_form, &mut work)?;
-    report_outcome(desk, &outcome, request, progress);
-    Ok(outcome.finding.status())
-}
-
-/// Writes how far everything goes in the orders of what scripts ask.
-#[derive(Drop)]
-struct SearchingMost<'a, 'w, 'p, P> {
-    request: &'a ExploreRequest<'w>,
-    progress: &'p mut P,
-}
-
-impl<'a, 'w, 'p, P: Progress> Work for SearchingMost<'a, 'w, 'p, P> {
-    type Done = Status;
-
-    type Fault = RunFault;
-
-    fn run<S: Source, W: Sink>(
-        &mut self,
-        alloc: Global,
-        config: &[u8],
-        text: &mut S,
-        output: &mut W,
-    ) -> Result<Status, RunFault> {
-        let mut config = MemSource::new(config);
-        search_most(
-            alloc,
-            &mut config,
-            text,
-            output,
-            self.request,
-            self.progress,
-        )
-    }
-}
-
-/// Writes whether something that the request asks stays for ever in an order of what scripts ask.
-#[derive(Drop)]
-struct SearchingForever<'a, 'w, 'p, P> {
-    request: &'a ExploreRequest<'w>,
-    progress: &'p mut P,
-}
-
-impl<'a, 'w, 'p, P: Progress> Work for SearchingForever<'a, 'w, 'p, P> {
-    type Done = Stayed;
-
-    type Fault = ExploreFault;
-
-    fn run<S: Source, W: Sink>(
-        &mut self,
-        alloc: Global,
-        config: &[u8],
-        text: &mut S,
-        output: &mut W,
-    ) -> Result<Stayed, ExploreFault> {
-        let mut config = MemSource::new(config);
-        search_forever(
-            alloc,
-            &mut config,
-            text,
-            output,
-            self.request,
-            self.progress,
-        )
+    match worked(desk, paths, fault_form, &mut run) {
+        Ok(outcome) => {
+            report_outcome(desk, &outcome, request, progress);
+            Ok(outcome.finding.status())
+        }
+        Err(ending) => Err(ending),
     }
 }
 
@@ -160,46 +69,17 @@ fn explore_forever<D: Desk>(
     request: &ExploreRequest<'_>,
     progress: &mut ProgressLine<'_, D>,
 ) -> Result<Status, Ending> {
-    let mut work = SearchingForever {
+    let mut run = SearchingForever {
         request,
         progress: &mut *progress,
     };
-    let stayed = worked(desk, paths, fault_form, &mut work)?;
-    let about = about_one(desk.alloc());
-    note_stayed(&mut Beside::new(desk), about, &stayed, request);
-    Ok(stayed.staying.status())
-}
-
-/// Writes whether an order that goes on from a trace shows what the request asks.
-#[derive(Drop)]
-struct SearchingFrom<'b, 'a, 'w, 'p, P> {
-    begun: &'b [u8],
-    request: &'a ExploreRequest<'w>,
-    progress: &'p mut P,
-}
-
-impl<'b, 'a, 'w, 'p, P: Progress> Work for SearchingFrom<'b, 'a, 'w, 'p, P> {
-    type Done = Status;
-
-    type Fault = FromFault;
-
-    fn run<S: Source, W: Sink>(
-        &mut self,
-        alloc: Global,
-        config: &[u8],
-        text: &mut S,
-        output: &mut W,
-    ) -> Result<Status, FromFault> {
-        let mut config = MemSource::new(config);
-        search_from(
-            alloc,
-            &mut config,
-            text,
-            self.begun,
-            output,
-            self.request,
-            self.progress,
-        )
+    match worked(desk, paths, fault_form, &mut run) {
+        Ok(stayed) => {
+            let about = about_one(desk.alloc());
+            note_stayed(&mut Beside::new(desk), about, &stayed, request);
+            Ok(stayed.staying.status())
+        }
+        Err(ending) => Err(ending),
     }
 }
 
@@ -215,12 +95,12 @@ fn explore_from<D: Desk>(
     third_allowed(paths, begun)?;
     let (texts, scripts) = both_read(desk, paths, fault_form)?;
     let begun = begun_read(desk, &texts, begun)?;
-    let mut work = SearchingFrom {
+    let mut run = SearchingFrom {
         begun: begun.as_slice(),
         request,
         progress,
     };
-    worked_over(desk, texts, scripts, &mut work)
+    worked_over(desk, texts, scripts, &mut run)
 }
 
 /// Makes the search that a request asks for.

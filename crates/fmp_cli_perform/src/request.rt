@@ -1,15 +1,16 @@
 //! What is done of a command line.
 use crate::calls::{called, lived};
-use crate::lists::{described, listed};
+use crate::lists::{described, listed, path_of};
 use crate::orders::explored;
 use crate::refusals::refused;
 use crate::scripts::scripted;
 use crate::shrinking::shrunk;
-use crate::traces::{partly_traced, saved, traced};
+use crate::traces::{partly_traced, traced};
 use fmp_cli::{Request, parse};
 use fmp_cli_desk::{Desk, report_memory};
 use fmp_cli_diagnostics::{LineForm, line_form, without_option};
 use fmp_cli_faults::settle_context;
+use fmp_cli_runs::Describing;
 use fmp_run_events::Status;
 use std::io;
 use std::sync::Wait;
@@ -27,12 +28,14 @@ fn done<D: Desk, T: Threads + Wait + Sync>(
         Request::Life(paths, names, colour) => lived(desk, paths, *names, *colour, line),
         Request::Trace(paths, asked) => traced(desk, paths, *asked, line),
         Request::Partial(paths, asked) => partly_traced(desk, paths, *asked, line),
-        Request::Save(paths) => saved(desk, paths, line),
+        Request::Save(paths) => described(desk, paths, Describing::Save, line),
         Request::Smp(request) => scripted(desk, threads, request, line),
         Request::Explore(request) => explored(desk, request, line),
         Request::Shrink(request) => shrunk(desk, request, line),
         Request::List(name) => listed(desk, *name, line),
-        Request::Describe(request) => described(desk, request, line),
+        Request::Describe(request) => {
+            described(desk, &path_of(request), Describing::Listing, line)
+        }
     }
 }
 

@@ -3,17 +3,15 @@ ghost use Rattle.std.specs.Prelude.{◌-◌, ◌<◌, ◌^◌};
 
 use crate::colours::{is_coloured, uncoloured};
 use fmp_cli::{Paths, Seeds, SmpRequest};
-use fmp_cli_colour::ColourSink;
 use fmp_cli_desk::{
-    Desk, Ending, FaultForm, Kept, ProgressLine, both_read, kept, put_lines, replied, settled,
+    Desk, Ending, FaultForm, Kept, ProgressLine, both_read, kept, put_lines, replied, written,
 };
 use fmp_cli_diagnostics::LineForm;
 use fmp_cli_faults::{LASTING, SeedMisfit, Waiting, waiting_lines};
 use fmp_cli_hints::TextForm;
-use fmp_cli_runs::{Played, play, seek};
+use fmp_cli_runs::{Played, Playing, Seeking};
 use fmp_out::Text;
-use fmp_run_events::{MemSource, Sink, Source, Status, WriteSink};
-use fmp_run_explore::ExploreFault;
+use fmp_run_events::{Source, Status};
 use fmp_run_seeds::{SeedProgress, SeedSearch};
 use fmp_search_question::is_lasting;
 use std::alloc::Global;
@@ -128,59 +126,8 @@ fn report_outcome<D: Desk>(desk: &D, path: &str, form: LineForm, texts: &Kept, o
     put_lines(desk, lines);
 }
 
-/// Writes the trace of the first seed whose run is looked for: that shows what is asked, or at whose end a task waits.
-fn sought<R: Source, S: Source, W: Sink, P: SeedProgress>(
-    alloc: Global,
-    config: &mut R,
-    scripts: &mut S,
-    trace: &mut W,
-    request: &SmpRequest<'_>,
-    first: u64,
-    last: u64,
-    progress: &mut P,
-) -> Result<Outcome, ExploreFault>
-    requires config_calls { R.failures config.old < 2 ^ 64 - 1 }
-    requires script_calls { S.failures scripts.old < 2 ^ 64 - 1 }
-    requires trace_calls { W.failures trace.old < 2 ^ 64 - 1 }
-{
-    let search = seek(
-        alloc, config, scripts, trace, request, first, last, progress,
-    )?;
-    Ok(Outcome::of_seeds(alloc, search, request.find.is_some()))
-}
-
-/// Writes the trace of what is asked for: of one run, or of the first of many that is looked for.
-fn made<T: Threads + Wait + Sync, S: Source, W: Sink, P: SeedProgress>(
-    threads: &T,
-    alloc: Global,
-    config: &[u8],
-    scripts: &mut S,
-    trace: &mut W,
-    request: &SmpRequest<'_>,
-    progress: &mut P,
-) -> Result<Outcome, ExploreFault>
-    requires script_calls { S.failures scripts.old < 2 ^ 64 - 1 }
-    requires trace_calls { W.failures trace.old < 2 ^ 64 - 1 }
-{
-    let mut config = MemSource::new(config);
-    if let Seeds::Range(first, last) = request.seeds {
-        return sought(
-            alloc,
-            &mut config,
-            scripts,
-            trace,
-            request,
-            first,
-            last,
-            progress,
-        );
-    }
-    let played = play(threads, alloc, &mut config, scripts, trace, request)?;
-    Ok(Outcome::of_run(played))
-}
-
-/// Writes the trace, in colours or not.
-fn written<D, T, S, P>(
+/// Writes the trace of what is asked for, in colours or not: of one run, or of the first of many that is looked for.
+fn made<D: Desk, T: Threads + Wait + Sync, S: Source, P: SeedProgress>(
     desk: &D,
     threads: &T,
     config: &[u8],
@@ -189,32 +136,22 @@ fn written<D, T, S, P>(
     coloured: bool,
     progress: &mut P,
 ) -> Result<Outcome, Ending>
-where
-    D: Desk,
-    T: Threads + Wait + Sync,
-    S: Source,
-    P: SeedProgress,
     requires { S.failures scripts.old < 2 ^ 64 - 1 }
 {
-    let alloc = desk.alloc();
-    let mut trace = WriteSink::new(alloc, desk.output())?;
-    if coloured {
-        let mut colours = ColourSink::new(trace);
-        let run = made(
-            threads,
-            alloc,
-            config,
-            scripts,
-            &mut colours,
-            request,
-            progress,
-        );
-        return settled(run, colours.below().is_closed());
+    let Seeds::Range(first, last) = request.seeds else {
+        let mut run = Playing { threads, request };
+        return written(desk, config, scripts, coloured, &mut run).map(Outcome::of_run);
+    };
+    let mut run = Seeking {
+        request,
+        first,
+        last,
+        progress,
+    };
+    match written(desk, config, scripts, coloured, &mut run) {
+        Ok(search) => Ok(Outcome::of_seeds(desk.alloc(), search, request.find.is_some())),
+        Err(ending) => Err(ending),
     }
-    let run = made(
-        threads, alloc, config, scripts, &mut trace, request, progress,
-    );
-    settled(run, trace.is_closed())
 }
 
 /// Reads both texts, and has processors follow the scripts. What is reported beside the trace has this form, and which seed is played is reported.
@@ -229,7 +166,7 @@ fn followed<D: Desk, T: Threads + Wait + Sync, P: SeedProgress>(
 ) -> Result<Status, Ending> {
     let (texts, mut scripts) = both_read(desk, paths, fault_form)?;
     let config = texts.config.as_slice();
-    match written(
+    match made(
         desk,
         threads,
         config,

@@ -1,38 +1,13 @@
 //! The events that are needed to show something.
 use fmp_cli::{Paths, ShrinkRequest};
-use fmp_cli_desk::{Desk, FaultForm, Work, put_lines, replied, worked};
+use fmp_cli_desk::{Desk, FaultForm, put_lines, replied, worked};
 use fmp_cli_diagnostics::LineForm;
 use fmp_cli_faults::LASTING;
 use fmp_cli_hints::TextForm;
-use fmp_cli_runs::shrink;
+use fmp_cli_runs::Shrinking;
 use fmp_out::Text;
-use fmp_run_events::{MemSource, Sink, Source, Status};
-use fmp_run_explore::ExploreFault;
+use fmp_run_events::Status;
 use fmp_search_question::is_lasting;
-use std::alloc::Global;
-
-/// Writes the events that are needed to show what the request asks.
-#[derive(Clone, Copy)]
-struct Shrinking<'a, 'w> {
-    request: &'a ShrinkRequest<'w>,
-}
-
-impl<'a, 'w> Work for Shrinking<'a, 'w> {
-    type Done = Status;
-
-    type Fault = ExploreFault;
-
-    fn run<S: Source, W: Sink>(
-        &mut self,
-        alloc: Global,
-        config: &[u8],
-        text: &mut S,
-        output: &mut W,
-    ) -> Result<Status, ExploreFault> {
-        let mut config = MemSource::new(config);
-        shrink(alloc, &mut config, text, output, self.request)
-    }
-}
 
 /// Reports that the answers to the events at a path do not show what is asked.
 fn report_unshown<D: Desk>(desk: &D, path: &str) {

@@ -1,16 +1,13 @@
 //! What `fmpsim calls` does.
-ghost use Rattle.std.specs.Prelude.{◌≡◌, ◌++◌, ℕ, List, true, ◌-◌, ◌^◌, ◌<◌, OnOk, IfOk};
-ghost use Rattle.fmp_run_devices.specs.Devices.{IsKnown, bytes_of};
-ghost use Rattle.fmp_run_devices.specs.Ends.{passing_ends, sink_ends, source_ends};
-ghost use Rattle.fmp_run_devices.specs.Hearing.{Moves, Passes};
-ghost use Rattle.fmp_run_events.specs.Owed.{OwesEvents, WritesEvents};
-ghost use Rattle.fmp_cli_runs.specs.Asked.{detail_reported, writing_of};
-ghost use Rattle.fmp_run_stream.specs.Runs.{IsAnswered};
-ghost use Rattle.fmp_run_stream.specs.Told.{IsTold};
+ghost use Rattle.std.specs.Prelude.{◌≡◌};
+ghost use Rattle.fmp_cli_runs.specs.Asked.{detail_reported};
+ghost use Rattle.fmp_cli_runs.specs.Calls.{Answers, Follows};
+ghost use Rattle.fmp_cli_runs.specs.Texts.{OverBytes};
 
+use crate::run::Run;
 use fmp_cli::Report;
-use fmp_run_devices::{Sink, Source};
-use fmp_run_events::{Changes, Detail, RunFault, Status, run_events};
+use fmp_run_devices::{MemSource, Sink, Source};
+use fmp_run_events::{Changes, Detail, LifeFault, RunFault, Status, run_events, run_life};
 use std::alloc::Global;
 
 /// What is written of each event.
@@ -25,41 +22,60 @@ fn detail_for(alloc: Global, report: Report) -> Detail
 }
 
 /// Writes what the machine answers to events, each event's part as it comes, and with it the state, or what of it changed, where that is asked for.
-pub fn answer<R: Source, S: Source, W: Sink>(
-    alloc: Global,
-    config: &mut R,
-    events: &mut S,
-    trace: &mut W,
-    report: Report,
-) -> Result<Status, RunFault>
-    requires config_calls { R.failures config.old < 2 ^ 64 - 1 }
-    requires event_calls { S.failures events.old < 2 ^ 64 - 1 }
-    requires trace_calls { W.failures trace.old < 2 ^ 64 - 1 }
+#[derive(Clone, Copy)]
+pub struct Answering {
+    pub report: Report,
+}
 
-    ensures status { IfOk result (λ status. status ≡ Status.Done) }
+impl Run for Answering {
+    type Done = Status;
 
-    // It reads the events as they come, and to their end where it goes to its own.
-    ensures moves { Moves (S.given events.old) (S.given events.new) (S.left events.old) (S.left events.new) }
-    ensures end { OnOk result (S.ended events.new ≡ true) }
+    type Fault = RunFault;
 
-    // Where lines alone are asked for, what is written is the trace of the answers to the events that were handed over.
-    ensures lines { report ≡ Report.Line → IsKnown (R.left config.old) → (text : List ℕ) → S.given events.new ≡ S.given events.old ++ text → IsKnown (W.written trace.old)
-        → OnOk result (IsAnswered (bytes_of (R.left config.old)) text (bytes_of (W.written trace.old)) (bytes_of (W.written trace.new))) }
+    ghost promises = { λ old _ config text output result. OverBytes config (λ configs. Answers old.report configs text output result) };
 
-    // And this is the trace of records that are told, each by those before it: no machine is in what is said so.
-    ensures told { report ≡ Report.Line → IsKnown (R.left config.old) → (text : List ℕ) → S.given events.new ≡ S.given events.old ++ text → IsKnown (W.written trace.old)
-        → OnOk result (IsTold (bytes_of (R.left config.old)) text (bytes_of (W.written trace.old)) (bytes_of (W.written trace.new))) }
+    fn run<S: Source, W: Sink>(
+        &mut self,
+        alloc: Global,
+        config: &[u8],
+        text: &mut S,
+        output: &mut W,
+    ) -> Result<Status, RunFault> {
+        let mut config = MemSource::new(config);
+        match run_events(
+            alloc,
+            detail_for(alloc, self.report),
+            &mut config,
+            text,
+            output,
+        ) {
+            Ok(()) => Ok(Status::Done),
+            Err(fault) => Err(fault),
+        }
+    }
+}
 
-    // What it owes to both texts and to its devices, whatever it writes.
-    ensures owes { (p : Passes (S.given events.old) (S.given events.new) (S.ended events.new))
-        → OwesEvents (source_ends R.left R.failures config.old config.new) (passing_ends p.all p.rest S.failures events.old events.new)
-        (sink_ends W.written W.buffered W.failures trace.old trace.new) result }
+/// Writes what events change of the things with these names, between commas, each change as its event comes.
+#[derive(Clone, Copy)]
+pub struct Following<'a> {
+    pub names: &'a str,
+}
 
-    // What it writes: what is asked for, which is the trace, or with it each state or what of it changed.
-    ensures writes { (p : Passes (S.given events.old) (S.given events.new) (S.ended events.new))
-        → WritesEvents (report ≡ Report.Line) (writing_of report) (source_ends R.left R.failures config.old config.new)
-        (passing_ends p.all p.rest S.failures events.old events.new) (sink_ends W.written W.buffered W.failures trace.old trace.new) result }
-{
-    run_events(alloc, detail_for(alloc, report), config, events, trace)?;
-    Ok(Status::Done)
+impl Run for Following<'_> {
+    type Done = ();
+
+    type Fault = LifeFault;
+
+    ghost promises = { λ old _ config text output result. OverBytes config (λ configs. Follows old.names.now configs text output result) };
+
+    fn run<S: Source, W: Sink>(
+        &mut self,
+        alloc: Global,
+        config: &[u8],
+        text: &mut S,
+        output: &mut W,
+    ) -> Result<(), LifeFault> {
+        let mut config = MemSource::new(config);
+        run_life(alloc, &mut config, text, self.names.as_bytes(), output)
+    }
 }

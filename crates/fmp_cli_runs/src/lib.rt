@@ -1,28 +1,28 @@
 //! What the program does of what its command line asks for, over any devices: which run that is, and how it ends the program.
 //!
-//! [`answer`] is `fmpsim calls`, [`judge`] is `check`, `wave` and `view`, [`view_partly`] is `view` of a partial trace, [`play`] and [`seek`] are `smp`, [`search`],
-//! [`search_from`], [`search_forever`] and [`search_most`] are `explore`, [`reply_to`] is each question of `explore --questions`, and [`shrink`] is `shrink`.
-//! Each contract says for each request what the run that it makes says, so that a request is not taken for another. The
-//! program opens files, calls one of them and prints its fault. Where a command line leaves nothing to choose it calls the run itself: `run_life`
-//! for `calls --of`, `run_partial` for `check --partial`, with [`shown_for`], `run_save` for `wave --gtkw`, `run_list` for `list` of a configuration.
+//! Each [`Run`] is a type that has what it is asked for: [`Answering`] is `fmpsim calls`, [`Following`] is `calls --of`, [`Judging`] is `check`, `wave` and `view`,
+//! [`JudgingPartly`] is `check` and `view` of a partial trace, [`Describing`] is `wave --gtkw` and `list` of a configuration, [`Playing`] and [`Seeking`] are `smp`,
+//! [`Searching`], [`SearchingFrom`], [`SearchingForever`] and [`SearchingMost`] are `explore`, and [`Shrinking`] is `shrink`. [`reply_to`] is each question of
+//! `explore --questions`. What a run promises is a definition of `specs` with the run's name in the third person, as `Answers`: for each request what the run of
+//! the crates below says, so that a request is not taken for another. The program opens files, makes one of them run and prints its fault.
 #![tactic(auto)]
 
+mod configs;
 mod events;
-mod forever;
-mod most;
 mod orders;
 mod partly;
 mod replies;
+mod run;
 mod scripts;
 mod shrinking;
 mod traces;
 
-pub use events::answer;
-pub use forever::search_forever;
-pub use most::search_most;
-pub use orders::{search, search_from};
-pub use partly::{shown_for, view_partly};
+pub use configs::Describing;
+pub use events::{Answering, Following};
+pub use orders::{Searching, SearchingForever, SearchingFrom, SearchingMost};
+pub use partly::JudgingPartly;
 pub use replies::{Replied, reply_to, status_of};
-pub use scripts::{Played, play, seek};
-pub use shrinking::shrink;
-pub use traces::judge;
+pub use run::Run;
+pub use scripts::{Played, Playing, Seeking};
+pub use shrinking::Shrinking;
+pub use traces::Judging;

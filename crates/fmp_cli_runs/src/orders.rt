@@ -1,28 +1,21 @@
 //! What `fmpsim explore` does.
-ghost use Rattle.std.specs.Prelude.{◌≡◌, ◌-◌, ◌^◌, ◌<◌, length, ◌↔◌, IfOk, IfErr, Err};
-ghost use Rattle.fmp_text.specs.Limits.{most_bytes};
-ghost use Rattle.fmp_run_devices.specs.Devices.{IsKnown, bytes_of};
-ghost use Rattle.fmp_run_devices.specs.Ends.{sink_ends, source_ends};
-ghost use Rattle.fmp_run_texts.specs.Owed.{WritesOut};
-ghost use Rattle.fmp_run_explore.specs.Faults.{OwesSearch};
-ghost use Rattle.fmp_run_explore.specs.Explored as spec;
-ghost use Rattle.fmp_run_explore.specs.Explored.{IsBegun, IsEndedBy, IsExplored};
-ghost use Rattle.fmp_run_explore.specs.Faults as faults;
-ghost use Rattle.fmp_run_explore.specs.Searched.{IsOfTexts};
-ghost use Rattle.fmp_run_explore.specs.declared.finding.Finding.{Finding as AnyFinding};
-ghost use Rattle.fmp_run_explore_from.specs.Explored.{IsBegunFrom, IsExploredFrom};
-ghost use Rattle.fmp_run_explore_from.specs.Faults as from_faults;
+ghost use Rattle.std.specs.Prelude.{◌≡◌};
 ghost use Rattle.fmp_cli_runs.specs.Asked as asked;
+ghost use Rattle.fmp_cli_runs.specs.Orders.{Searches, SearchesForever, SearchesFrom, SearchesMost};
+ghost use Rattle.fmp_cli_runs.specs.Texts.{OverBytes, source_of};
 
+use crate::run::Run;
 use fmp_cli::ExploreRequest;
-use fmp_run_devices::{Sink, Source};
+use fmp_run_devices::{MemSource, Sink, Source};
 use fmp_run_events::{RunFault, Status};
 use fmp_run_explore::{ExploreFault, Outcome, Progress, Rules, SearchRequest, run_explore};
 use fmp_run_explore_from::{FromFault, run_explore_from};
+use fmp_run_forever::{Stayed, run_forever};
+use fmp_run_most::run_most;
 use std::alloc::Global;
 
 /// Which orders are gone through.
-pub(crate) fn rules_of(request: &ExploreRequest<'_>) -> Rules
+fn rules_of(request: &ExploreRequest<'_>) -> Rules
     ensures { result ≡ asked.rules_of request.now }
 {
     Rules {
@@ -34,90 +27,150 @@ pub(crate) fn rules_of(request: &ExploreRequest<'_>) -> Rules
     }
 }
 
-/// Writes whether an order shows what the request asks. What was found is given, with what was searched.
-pub fn search<R: Source, S: Source, W: Sink, P: Progress>(
-    alloc: Global,
-    config: &mut R,
-    scripts: &mut S,
-    output: &mut W,
-    request: &ExploreRequest<'_>,
-    progress: &mut P,
-) -> Result<Outcome, ExploreFault>
-    requires config_calls { R.failures config.old < 2 ^ 64 - 1 }
-    requires script_calls { S.failures scripts.old < 2 ^ 64 - 1 }
-    requires output_calls { W.failures output.old < 2 ^ 64 - 1 }
-
-    // What it owes to both texts, to its question and to its devices, whatever it writes.
-    ensures owes { OwesSearch faults.IsScriptFault (λ text. faults.IsQuestionFault text request.now.question.now)
-        (source_ends R.left R.failures config.old config.new) (source_ends S.left S.failures scripts.old scripts.new)
-        (sink_ends W.written W.buffered W.failures output.old output.new) result }
-
-    // What it writes: what is known of all orders by these rules.
-    ensures writes { WritesOut (λ c s old new o. IsExplored c s request.now.question.now (asked.rules_of request.now) request.now.bounds.turns.count
-        (request.now.bounds.places.count - 1) old new o.finding)
-        (λ c s. IsBegun c s request.now.question.now (asked.rules_of request.now) request.now.bounds.turns.count (request.now.bounds.places.count - 1))
-        (ExploreFault.Run RunFault.Write)
-        (source_ends R.left R.failures config.old config.new) (source_ends S.left S.failures scripts.old scripts.new)
-        (sink_ends W.written W.buffered W.failures output.old output.new) result }
-
-    // Less is known than was asked for, with room that is left, only where the search was ended.
-    ensures ended { IfOk result (λ o. IsEndedBy (P.over progress.new) o.finding) }
-
-    // Beside that it gives what it searched, for what may be asked besides.
-    ensures searched { IsKnown (R.left config.old) → IsKnown (S.left scripts.old)
-        → IfOk result (λ o. IsOfTexts (bytes_of (R.left config.old)) (bytes_of (S.left scripts.old)) request.now.question.now
-        (asked.rules_of request.now) o.searched) }
+/// Which search a request asks for.
+pub(crate) fn search_of<'a>(request: &ExploreRequest<'a>) -> SearchRequest<'a>
+    ensures question { result.question.now ≡ request.now.question.now }
+    ensures rules { result.rules ≡ asked.rules_of request.now }
+    ensures bounds { result.bounds ≡ request.now.bounds }
 {
-    let asked = SearchRequest {
+    SearchRequest {
         question: request.question.as_bytes(),
         rules: rules_of(request),
         bounds: request.bounds,
-    };
-    run_explore(alloc, config, scripts, output, &asked, progress)
+    }
 }
 
-/// The same of the orders that go on from a trace.
-pub fn search_from<R: Source, S: Source, W: Sink, P: Progress>(
-    alloc: Global,
-    config: &mut R,
-    scripts: &mut S,
-    begun: &[u8],
-    output: &mut W,
-    request: &ExploreRequest<'_>,
-    progress: &mut P,
-) -> Result<Status, FromFault>
-    requires config_calls { R.failures config.old < 2 ^ 64 - 1 }
-    requires script_calls { S.failures scripts.old < 2 ^ 64 - 1 }
-    requires output_calls { W.failures output.old < 2 ^ 64 - 1 }
+/// Writes whether an order shows what the request asks. What was found is given, with what was searched.
+#[derive(Drop)]
+pub struct Searching<'a, 'w, 'p, P> {
+    pub request: &'a ExploreRequest<'w>,
+    pub progress: &'p mut P,
+}
 
-    // What it owes to both texts, to its question and to its devices, whatever it writes.
-    ensures owes { from_faults.OwesSearchFrom (λ text. from_faults.IsQuestionFault text request.now.question.now)
-        (source_ends R.left R.failures config.old config.new) (source_ends S.left S.failures scripts.old scripts.new)
-        (sink_ends W.written W.buffered W.failures output.old output.new) result }
+impl<'a, 'w, 'p, P: Progress> Run for Searching<'a, 'w, 'p, P> {
+    type Done = Outcome;
 
-    // What it writes: what is known of all orders by these rules that go on from the trace. The status says which that is.
-    ensures writes { WritesOut (λ c s old new status. (finding : AnyFinding) × (status ≡ spec.status_of finding) × IsEndedBy (P.over progress.new) finding
-        × IsExploredFrom c s begun.now request.now.question.now (asked.rules_of request.now) request.now.bounds.turns.count
-        (request.now.bounds.places.count - 1) old new finding)
-        (λ c s. IsBegunFrom c s begun.now request.now.question.now (asked.rules_of request.now) request.now.bounds.turns.count
-        (request.now.bounds.places.count - 1)) (FromFault.Explore (ExploreFault.Run RunFault.Write))
-        (source_ends R.left R.failures config.old config.new) (source_ends S.left S.failures scripts.old scripts.new)
-        (sink_ends W.written W.buffered W.failures output.old output.new) result }
+    type Fault = ExploreFault;
 
-    // A line of the trace that no order has is the first one.
-    ensures stray { IsKnown (R.left config.old) → IsKnown (S.left scripts.old)
-        → IfErr result (from_faults.IsStrayFault (bytes_of (R.left config.old)) (bytes_of (S.left scripts.old)) (asked.rules_of request.now) begun.now) }
+    ghost promises = { λ old new config text output result.
+        OverBytes config (λ configs. Searches old.request.now (P.over new.progress.now) configs (source_of text) output result) };
 
-    // A trace is too long whatever the texts are.
-    ensures long { (result ≡ Err FromFault.Long) ↔ (most_bytes < length begun.now) }
-{
-    let asked = SearchRequest {
-        question: request.question.as_bytes(),
-        rules: rules_of(request),
-        bounds: request.bounds,
-    };
-    match run_explore_from(alloc, config, scripts, begun, output, &asked, progress) {
-        Ok(finding) => Ok(finding.status()),
-        Err(fault) => Err(fault),
+    fn run<S: Source, W: Sink>(
+        &mut self,
+        alloc: Global,
+        config: &[u8],
+        text: &mut S,
+        output: &mut W,
+    ) -> Result<Outcome, ExploreFault> {
+        let asked = search_of(self.request);
+        let mut config = MemSource::new(config);
+        run_explore(alloc, &mut config, text, output, &asked, self.progress)
+    }
+}
+
+/// The same of the orders that go on from a trace. The status says what was found.
+#[derive(Drop)]
+pub struct SearchingFrom<'b, 'a, 'w, 'p, P> {
+    pub begun: &'b [u8],
+    pub request: &'a ExploreRequest<'w>,
+    pub progress: &'p mut P,
+}
+
+impl<'b, 'a, 'w, 'p, P: Progress> Run for SearchingFrom<'b, 'a, 'w, 'p, P> {
+    type Done = Status;
+
+    type Fault = FromFault;
+
+    ghost promises = { λ old new config text output result.
+        OverBytes config (λ configs. SearchesFrom old.begun.now old.request.now (P.over new.progress.now) configs (source_of text) output result) };
+
+    fn run<S: Source, W: Sink>(
+        &mut self,
+        alloc: Global,
+        config: &[u8],
+        text: &mut S,
+        output: &mut W,
+    ) -> Result<Status, FromFault> {
+        let (asked, begun) = (search_of(self.request), self.begun);
+        let mut config = MemSource::new(config);
+        match run_explore_from(
+            alloc,
+            &mut config,
+            text,
+            begun,
+            output,
+            &asked,
+            self.progress,
+        ) {
+            Ok(finding) => Ok(finding.status()),
+            Err(fault) => Err(fault),
+        }
+    }
+}
+
+/// Writes whether something that the request asks stays for ever in an order. What was found is given, with what was asked.
+#[derive(Drop)]
+pub struct SearchingForever<'a, 'w, 'p, P> {
+    pub request: &'a ExploreRequest<'w>,
+    pub progress: &'p mut P,
+}
+
+impl<'a, 'w, 'p, P: Progress> Run for SearchingForever<'a, 'w, 'p, P> {
+    type Done = Stayed;
+
+    type Fault = ExploreFault;
+
+    ghost promises = { λ old _ config text output result.
+        OverBytes config (λ configs. SearchesForever old.request.now configs (source_of text) output result) };
+
+    fn run<S: Source, W: Sink>(
+        &mut self,
+        alloc: Global,
+        config: &[u8],
+        text: &mut S,
+        output: &mut W,
+    ) -> Result<Stayed, ExploreFault> {
+        let asked = search_of(self.request);
+        let mut config = MemSource::new(config);
+        run_forever(alloc, &mut config, text, output, &asked, self.progress)
+    }
+}
+
+/// Writes how far everything goes in all orders. The status says whether that is known.
+#[derive(Drop)]
+pub struct SearchingMost<'a, 'w, 'p, P> {
+    pub request: &'a ExploreRequest<'w>,
+    pub progress: &'p mut P,
+}
+
+impl<'a, 'w, 'p, P: Progress> Run for SearchingMost<'a, 'w, 'p, P> {
+    type Done = Status;
+
+    type Fault = RunFault;
+
+    ghost promises = { λ old new config text output result.
+        OverBytes config (λ configs. SearchesMost old.request.now (P.over new.progress.now) configs (source_of text) output result) };
+
+    fn run<S: Source, W: Sink>(
+        &mut self,
+        alloc: Global,
+        config: &[u8],
+        text: &mut S,
+        output: &mut W,
+    ) -> Result<Status, RunFault> {
+        let (rules, bounds) = (rules_of(self.request), self.request.bounds);
+        let mut config = MemSource::new(config);
+        match run_most(
+            alloc,
+            &mut config,
+            text,
+            output,
+            rules,
+            bounds,
+            self.progress,
+        ) {
+            Ok(reach) => Ok(reach.status()),
+            Err(fault) => Err(fault),
+        }
     }
 }

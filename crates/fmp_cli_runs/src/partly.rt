@@ -1,9 +1,11 @@
 //! What `fmpsim check` writes of a partial trace, and the page that `fmpsim view` shows of one.
-ghost use Rattle.std.specs.Prelude.{◌≡◌, ◌-◌, ◌^◌, ◌<◌, IfOk};
-ghost use Rattle.fmp_run_devices.specs.Devices.{IsKnown, bytes_of};
-ghost use Rattle.fmp_run_partial.specs.Partials.{CheckedPartly};
+ghost use Rattle.std.specs.Prelude.{◌≡◌, ◌-◌, ◌^◌, ◌<◌};
+ghost use Rattle.fmp_run_devices.specs.Ends.{sink_ends, source_ends};
 ghost use Rattle.fmp_cli_runs.specs.Partly as spec;
+ghost use Rattle.fmp_cli_runs.specs.Texts.{OverBytes, source_of};
+ghost use Rattle.fmp_cli_runs.specs.Traces.{JudgesPartly, ViewsPartly};
 
+use crate::run::Run;
 use fmp_cli::Partly;
 use fmp_run_devices::{GrowingSink, MemSource, Sink, Source};
 use fmp_run_events::RunFault;
@@ -12,7 +14,7 @@ use fmp_run_view::{PageKind, run_view};
 use std::alloc::Global;
 
 /// What is written of a partial trace of which this is asked. A page shows these lines.
-pub fn shown_for(asked: Partly) -> PartialShown
+fn shown_for(asked: Partly) -> PartialShown
     ensures { result ≡ spec.shown_for asked }
 {
     match asked {
@@ -38,7 +40,7 @@ fn page_of(asked: Partly, verdict: PartialVerdict) -> Option<PageKind>
 }
 
 /// Judges a partial trace, and writes the page of the whole lines that are made of it, if this page has some. No clause says what is written where it fails.
-pub fn view_partly<S: Source, W: Sink>(
+fn view_partly<S: Source, W: Sink>(
     alloc: Global,
     config: &[u8],
     trace: &mut S,
@@ -47,13 +49,7 @@ pub fn view_partly<S: Source, W: Sink>(
 ) -> Result<Shown, RunFault>
     requires trace_calls { S.failures trace.old < 2 ^ 64 - 1 }
     requires page_calls { W.failures page.old < 2 ^ 64 - 1 }
-
-    // The verdict is right, and so are the lines that the page shows.
-    ensures checked { IsKnown (S.left trace.old) → IfOk result (CheckedPartly (spec.shown_for asked) config.now (bytes_of (S.left trace.old))) }
-
-    // The page that shows them is written, if there is one.
-    ensures shown { IsKnown (W.written page.old) → IfOk result (λ s. spec.IsPaged (spec.page_of asked s.verdict) config.now s.text.items
-        (bytes_of (W.written page.old)) (bytes_of (W.written page.new))) }
+    ensures { ViewsPartly asked config.now (source_ends S.left S.failures trace.old trace.new) (sink_ends W.written W.buffered W.failures page.old page.new) result }
 {
     let mut whole = GrowingSink::new(alloc);
     let mut read = MemSource::new(config);
@@ -71,5 +67,38 @@ pub fn view_partly<S: Source, W: Sink>(
     match run_view(alloc, &mut read, &mut lines, page, kind) {
         Ok(_) => Ok(shown),
         Err(fault) => Err(fault),
+    }
+}
+
+/// Judges a partial trace, and writes what is asked of it.
+#[derive(Clone, Copy)]
+pub struct JudgingPartly {
+    pub asked: Partly,
+}
+
+impl Run for JudgingPartly {
+    type Done = Shown;
+
+    type Fault = RunFault;
+
+    ghost promises = { λ old _ config text output result. OverBytes config (λ configs. JudgesPartly old.asked configs (source_of text) output result) };
+
+    fn run<S: Source, W: Sink>(
+        &mut self,
+        alloc: Global,
+        config: &[u8],
+        text: &mut S,
+        output: &mut W,
+    ) -> Result<Shown, RunFault> {
+        match self.asked {
+            Partly::Page => view_partly(alloc, config, text, output, Partly::Page),
+            Partly::DifferencesPage => {
+                view_partly(alloc, config, text, output, Partly::DifferencesPage)
+            }
+            asked => {
+                let mut config = MemSource::new(config);
+                run_partial(alloc, &mut config, text, output, shown_for(asked))
+            }
+        }
     }
 }

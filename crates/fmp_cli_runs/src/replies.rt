@@ -5,13 +5,12 @@ ghost use Rattle.fmp_cli_runs.specs.Asked as asked;
 ghost use Rattle.fmp_cli_runs.specs.Replies as spec;
 ghost use Rattle.fmp_cli_runs.specs.Replies.{IsUnreplied, RepliesLasting, RepliesSteps};
 
-use crate::forever::search_forever;
-use crate::orders::search;
+use crate::orders::search_of;
 use fmp_cli::ExploreRequest;
 use fmp_cli_questions::{Answer, Judgement};
 use fmp_run_devices::{GrowingSink, TextSource};
-use fmp_run_explore::{ExploreFault, Finding, Outcome, Progress};
-use fmp_run_forever::Staying;
+use fmp_run_explore::{ExploreFault, Finding, Outcome, Progress, run_explore};
+use fmp_run_forever::{Staying, run_forever};
 use fmp_run_texts::{RunFault, Status};
 use fmp_search_question::is_lasting;
 use std::alloc::{AllocError, Global};
@@ -101,12 +100,13 @@ fn steps_reply<P: Progress>(
     let mut config = read_again(alloc, config)?;
     let mut scripts = read_again(alloc, scripts)?;
     let mut output = GrowingSink::new(alloc);
-    match search(
+    let asked = search_of(request);
+    match run_explore(
         alloc,
         &mut config,
         &mut scripts,
         &mut output,
-        request,
+        &asked,
         progress,
     ) {
         Ok(found) => Ok(Replied {
@@ -133,12 +133,13 @@ fn lasting_reply<P: Progress>(
     let mut config = read_again(alloc, config)?;
     let mut scripts = read_again(alloc, scripts)?;
     let mut output = GrowingSink::new(alloc);
-    match search_forever(
+    let asked = search_of(request);
+    match run_forever(
         alloc,
         &mut config,
         &mut scripts,
         &mut output,
-        request,
+        &asked,
         progress,
     ) {
         Ok(found) => Ok(Replied {
@@ -158,12 +159,12 @@ pub fn reply_to<P: Progress>(
     request: &ExploreRequest<'_>,
     progress: &mut P,
 ) -> Result<Replied, ExploreFault>
-    // To a question of steps: what `search` finds and writes, and its answer.
+    // To a question of steps: what [`Searching`](crate::Searching) finds and writes, and its answer.
     ensures steps { asks_of_what_stays request.now.question.now ≡ false
         → IfOk result (RepliesSteps config.now scripts.now request.now.question.now (asked.rules_of request.now)
         request.now.bounds.turns.count (request.now.bounds.places.count - 1) (P.over progress.new)) }
 
-    // To a question of what stays for ever: what `search_forever` finds and writes, and its answer.
+    // To a question of what stays for ever: what [`SearchingForever`](crate::SearchingForever) finds and writes, and its answer.
     ensures lasting { asks_of_what_stays request.now.question.now ≡ true
         → IfOk result (RepliesLasting config.now scripts.now request.now.question.now (asked.rules_of request.now) request.now.bounds.turns.count
         (request.now.bounds.places.count - 1)) }

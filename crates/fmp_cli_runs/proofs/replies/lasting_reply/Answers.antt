@@ -7,7 +7,14 @@ returns-in-Ok-clause-replies g c =
     record {
       found = c.in-Ok.found;
       explored = rw c.into_text.ensures
-          (rw (c.in_ok-config.ensures, c.in_ok-scripts.ensures, c.new-output.ensures.0) at (c.in-Ok.ensures.writes.whole refl refl refl));
+          (rw (
+            c.in_ok-config.ensures,
+            c.in_ok-scripts.ensures,
+            c.new-output.ensures.0,
+            c.search_of-asked.ensures.question,
+            c.search_of-asked.ensures.rules,
+            c.search_of-asked.ensures.bounds,
+          ) at (c.in-Ok.ensures.writes.whole refl refl refl));
       answers = c.lasting_answer_of.ensures ∙ ap (λ (text : List ℕ). lasting_answer_of c.in-Ok.found.staying text) (c.text.ensures ∙ sym c.into_text.ensures);
       keeps = refl;
     }

@@ -1,0 +1,8 @@
+use Rattle.std.proofs.Common.{inr}
+use Rattle.fmp_cli_desk.proofs.work.written.Goals as goal
+
+pub returns-then-coloured : goal.returns-then-coloured
+returns-then-coloured g c = inr (record { output = _; ended = c.run-ended.result; promises = c.run-ended.ensures; closed = _; is = c.settled.ensures })
+
+pub returns : goal.returns
+returns g c = inr (record { output = _; ended = c.run-ended-2.result; promises = c.run-ended-2.ensures; closed = _; is = c.settled-2.ensures })

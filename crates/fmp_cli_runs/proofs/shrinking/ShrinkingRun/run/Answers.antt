@@ -1,0 +1,8 @@
+use Rattle.std.proofs.Common.{Some, rules}
+use Rattle.fmp_cli_runs.proofs.shrinking.ShrinkingRun.run.Goals as goal
+
+pub returns-in-Ok : goal.returns-in-Ok
+returns-in-Ok g c = (record { left = Some c.run_shrink.new.config.rest.now; failures = c.run_shrink.new.config.failures }, record { owes = search rules; writes = search rules })
+
+pub returns-in-Err : goal.returns-in-Err
+returns-in-Err g c = (record { left = Some c.run_shrink.new.config.rest.now; failures = c.run_shrink.new.config.failures }, record { owes = search rules; writes = search rules })
