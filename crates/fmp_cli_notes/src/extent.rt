@@ -3,10 +3,9 @@ ghost use Rattle.std.specs.Prelude.{◌≡◌};
 ghost use Rattle.fmp_out.specs.Putting.{Adds};
 ghost use Rattle.fmp_cli_notes.specs.Extent as spec;
 
-use crate::left::tell_left;
 use crate::notes::{About, Notes};
 use fmp_cli::{ExploreRequest, Memory, places_within};
-use fmp_run_explore::{Extent, Finding, Outcome, Progress};
+use fmp_run_explore::{Extent, Finding, Outcome};
 
 /// Why a search found no more places.
 #[derive(Clone, Copy)]
@@ -33,7 +32,7 @@ pub(crate) fn reach_within(lines: u32, turns: u32) -> Reach
 }
 
 /// That of a search that found no order.
-fn reach_of(finding: Finding, turns: u32) -> Reach
+pub(crate) fn reach_of(finding: Finding, turns: u32) -> Reach
     ensures { result ≡ spec.reach_of finding turns }
 {
     match finding {
@@ -114,23 +113,5 @@ pub fn note_extent<N: Notes>(
     if let Some(extent) = outcome.extent {
         let reach = reach_of(outcome.finding, request.bounds.turns.count);
         tell_extent(notes, about, extent, reach, request);
-    }
-}
-
-/// Tells, where such a search did not end, without which things fewest of its places are left.
-pub fn note_left<N: Notes, P: Progress>(
-    notes: &mut N,
-    about: About<'_>,
-    outcome: &Outcome,
-    progress: &mut P,
-    request: &ExploreRequest<'_>,
-) {
-    if let Some(extent) = outcome.extent {
-        let turns = request.bounds.turns;
-        let reach = reach_of(outcome.finding, turns.count);
-        let (orders, question) = (outcome.searched.orders(), outcome.searched.question());
-        tell_left(
-            notes, about, reach, &orders, question, progress, extent, turns,
-        );
     }
 }

@@ -1,11 +1,16 @@
 //! Without which things fewest places of a search are left: these hold it up.
-use crate::extent::Reach;
+ghost use Rattle.std.specs.Prelude.{◌≡◌, ◌⊎◌, ◌≤◌, false, None, IfOk};
+ghost use Rattle.fmp_out.specs.Putting.{Adds};
+ghost use Rattle.fmp_cli_notes.specs.Left as spec;
+
+use crate::extent::{Reach, reach_of};
 use crate::notes::{About, Notes};
+use fmp_cli::ExploreRequest;
 use fmp_codes::{NameKind, ObjectKind};
+use fmp_names::Names;
 use fmp_out::Text;
-use fmp_ranges::{Bounds, Places, Turns};
-use fmp_run_explore::{Extent, Left, Orders, Progress, left_without};
-use fmp_search_pattern::Question;
+use fmp_ranges::{Bounds, Places};
+use fmp_run_explore::{Left, Outcome, Progress, left_without};
 use fmp_setup::Config;
 use std::alloc::{AllocError, Global};
 
@@ -16,7 +21,10 @@ const MOST_PLACES: usize = 20_000;
 const MOST_THINGS: usize = 5;
 
 /// The things without which fewer places are left, each behind how many: the fewest first. The error is want of memory.
-fn fewest(alloc: Global, left: &Left) -> Result<Vec<(usize, usize)>, AllocError> {
+#[tactic(auto, using(crate::proofs::Below::fewer_none, crate::proofs::Below::fewer_with, crate::proofs::Below::fewer_without))]
+fn fewest(alloc: Global, left: &Left) -> Result<Vec<(usize, usize)>, AllocError>
+    ensures { IfOk result (λ things. spec.AreFewest left.now things.items) }
+{
     let mut things = Vec::new(alloc);
     for thing in 0..left.without.len() {
         let places = left.without[thing];
@@ -28,8 +36,24 @@ fn fewest(alloc: Global, left: &Left) -> Result<Vec<(usize, usize)>, AllocError>
     Ok(things)
 }
 
-/// Puts the name of a thing, by its number among those that `Left` has.
-fn put_thing(line: &mut Text, config: &Config, thing: usize) {
+/// The name of a thing, by its number among those of these kinds, of each of which there are so many.
+fn name_among<'a>(names: &'a Names, kinds: &[(ObjectKind, usize)], thing: usize) -> &'a [u8]
+    ensures { result.now ≡ spec.name_among names.now kinds.now thing }
+{
+    match kinds {
+        [(kind, count), ..] if thing < *count => names
+            .name(NameKind::Object(*kind), thing + 1)
+            .unwrap_or(b"?"),
+        [(_, count), others @ ..] => name_among(names, others, thing - count),
+        [] => b"?",
+    }
+}
+
+/// The name of a thing, by its number among those that `Left` has.
+#[tactic(auto, unfolding(crate::specs::Left::name_of))]
+fn name_of(config: &Config, thing: usize) -> &[u8]
+    ensures { result.now ≡ spec.name_of config.now thing }
+{
     let kinds = [
         (ObjectKind::Alarm, config.alarms().len()),
         (ObjectKind::Cyclic, config.cyclics().len()),
@@ -39,58 +63,128 @@ fn put_thing(line: &mut Text, config: &Config, thing: usize) {
         (ObjectKind::Semaphore, config.semaphores().len()),
         (ObjectKind::DataQueue, config.data_queues().len()),
     ];
-    let mut number = thing;
-    for (kind, count) in kinds {
-        if number < count {
-            let name = config.names().name(NameKind::Object(kind), number + 1);
-            line.put(name.unwrap_or(b"?"));
-            return;
-        }
-        number -= count;
+    name_among(config.names(), &kinds, thing)
+}
+
+/// Puts each of these things and how many places are left without it: the first behind this, and the others behind commas.
+fn put_things(line: &mut Text, config: &Config, things: &[(usize, usize)], lead: &[u8])
+    ensures { Adds (spec.things_text config.now lead.now things.now) line.old line.new }
+{
+    if let [(places, thing), others @ ..] = things {
+        line.put(lead);
+        line.put(name_of(config, *thing));
+        line.put(b" ");
+        line.put_number(*places as u64);
+        put_things(line, config, others, b", ");
     }
 }
 
 /// Tells of how many places fewest are left, and without which things.
-fn tell_fewest<N: Notes>(notes: &mut N, about: About<'_>, config: &Config, left: &Left) {
-    let things = fewest(about.alloc, left).unwrap_or(Vec::new(about.alloc));
+#[tactic(auto, unfolding(crate::specs::Left::left_line))]
+fn tell_line<N: Notes>(
+    notes: &mut N,
+    about: About<'_>,
+    config: &Config,
+    places: usize,
+    first: &[(usize, usize)],
+)
+    ensures { Adds (spec.left_line about.entry.asked.now config.now places first.now) (N.told notes.old) (N.told notes.new) }
+{
     let mut line = about.line();
     line.put(b"places left where one thing is not looked at, of the first ");
-    line.put_number(left.places as u64);
-    let mut between = b": ".as_slice();
-    for (places, thing) in things.iter().take(MOST_THINGS) {
-        line.put(between);
-        put_thing(&mut line, config, *thing);
-        line.put_byte(b' ');
-        line.put_number(*places as u64);
-        between = b", ".as_slice();
-    }
-    if !things.is_empty() {
-        notes.note(line);
+    line.put_number(places as u64);
+    put_things(&mut line, config, first, b": ");
+    notes.note(line);
+}
+
+/// Tells of the first of these things, where there are any.
+fn tell_things<N: Notes>(
+    notes: &mut N,
+    about: About<'_>,
+    config: &Config,
+    places: usize,
+    things: &[(usize, usize)],
+)
+    ensures { Adds (spec.left_note about.entry.asked.now config.now places things.now) (N.told notes.old) (N.told notes.new) }
+{
+    if let [_, ..] = things {
+        let first = &things[..things.len().min(MOST_THINGS)];
+        tell_line(notes, about, config, places, first);
     }
 }
 
-/// Tells without which things fewest are left of the first places that a search met, where it did not end: there was no room or no memory for more.
-pub(crate) fn tell_left<N: Notes, P: Progress>(
+/// How many of the first places are looked at: some where there was no room or no memory for more, and else none.
+fn looked_at(outcome: &Outcome, turns: u32) -> usize
+    ensures none { spec.is_held_up outcome.now.extent outcome.now.finding turns ≡ false → result ≡ 0 }
+    ensures few { result ≤ MOST_PLACES }
+{
+    match (outcome.extent, reach_of(outcome.finding, turns)) {
+        (Some(extent), Reach::Room | Reach::Wanting) => extent.places.min(MOST_PLACES),
+        _ => 0,
+    }
+}
+
+/// Where some are looked at, how many.
+fn places_looked_at(outcome: &Outcome, turns: u32) -> Option<Places>
+    ensures { spec.is_held_up outcome.now.extent outcome.now.finding turns ≡ false → result ≡ None }
+{
+    Places::new(looked_at(outcome, turns) as u32)
+}
+
+/// How many of the first places are left without each thing. The error is want of memory.
+fn left_of<P: Progress>(
+    alloc: Global,
+    outcome: &Outcome,
+    progress: &mut P,
+    bounds: Bounds,
+) -> Result<Left, AllocError>
+    ensures { IfOk result (spec.IsLeftOf outcome.now.searched bounds.turns.count) }
+{
+    let (orders, question) = (outcome.searched.orders(), outcome.searched.question());
+    let left = left_without(alloc, &orders, question, progress, bounds);
+    progress.end();
+    left
+}
+
+/// Tells what is told by such counts, unless memory is wanting.
+fn tell_left<N: Notes>(
     notes: &mut N,
     about: About<'_>,
-    reach: Reach,
-    orders: &Orders<'_>,
-    question: &Question,
+    outcome: &Outcome,
+    _bounds: Bounds,
+    left: &Left,
+)
+    requires { spec.IsLeftOf outcome.now.searched _bounds.turns.count left.now }
+    ensures { (N.told notes.new).wanting ≡ false → (N.told notes.new ≡ N.told notes.old)
+        ⊎ spec.TellsLeft about.entry.asked.now outcome.now.searched _bounds.turns.count (N.told notes.old) (N.told notes.new) }
+{
+    if let Ok(things) = fewest(about.alloc, left) {
+        let config = outcome.searched.config();
+        tell_things(notes, about, config, left.places, things.as_slice());
+    }
+}
+
+/// Tells, where such a search did not end, without which things fewest of its places are left.
+pub fn note_left<N: Notes, P: Progress>(
+    notes: &mut N,
+    about: About<'_>,
+    outcome: &Outcome,
     progress: &mut P,
-    extent: Extent,
-    turns: Turns,
-) {
-    let count = match reach {
-        Reach::Room | Reach::Wanting => extent.places.min(MOST_PLACES),
-        Reach::All | Reach::Part => 0,
-    };
-    let Some(places) = Places::new(count as u32) else {
+    request: &ExploreRequest<'_>,
+)
+    // Nothing is told of a search that ended otherwise than for want of room or memory.
+    ensures silent { spec.is_held_up outcome.now.extent outcome.now.finding request.now.bounds.turns.count ≡ false → N.told notes.new ≡ N.told notes.old }
+
+    // What is told is of some first places. It may be that nothing is, for want of memory.
+    ensures left { (N.told notes.new).wanting ≡ false → (N.told notes.new ≡ N.told notes.old)
+        ⊎ spec.TellsLeft about.entry.asked.now outcome.now.searched request.now.bounds.turns.count (N.told notes.old) (N.told notes.new) }
+{
+    let turns = request.bounds.turns;
+    let Some(places) = places_looked_at(outcome, turns.count) else {
         return;
     };
     let bounds = Bounds { turns, places };
-    let left = left_without(about.alloc, orders, question, progress, bounds);
-    progress.end();
-    if let Ok(left) = left {
-        tell_fewest(notes, about, orders.config, &left);
+    if let Ok(left) = left_of(about.alloc, outcome, progress, bounds) {
+        tell_left(notes, about, outcome, bounds, &left);
     }
 }

@@ -14,7 +14,8 @@ mod staying;
 mod unmade;
 mod unshown;
 
-pub use extent::{note_extent, note_left};
+pub use extent::note_extent;
+pub use left::note_left;
 pub use notes::{About, Notes};
 pub use staying::note_stayed;
 pub use unmade::note_unmade;

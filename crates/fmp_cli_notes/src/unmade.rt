@@ -43,7 +43,8 @@ fn is_told(orders: Orders<'_>, met: Option<&Met>, number: u32) -> bool
 #[tactic(auto, using(crate::proofs::Below::below_none, crate::proofs::Below::below_with, crate::proofs::Below::below_without))]
 fn calls_told(alloc: Global, orders: Orders<'_>, met: Option<&Met>) -> Result<Vec<u32>, AllocError>
     ensures few { IfOk result (λ calls. All (λ n. n < NUMBERS) calls.items) }
-    ensures told { IfOk result (λ calls. calls.items ≡ spec.below (spec.is_told orders.entry.config.now orders.entry.scripts.now (option_copied met.entry)) NUMBERS) }
+    ensures told { IfOk result (λ calls. calls.items
+        ≡ spec.below (spec.is_told orders.entry.config.now orders.entry.scripts.now (option_copied met.entry)) NUMBERS) }
 {
     let mut calls = Vec::new(alloc);
     for number in 0..NUMBERS {
@@ -98,7 +99,8 @@ fn put_call_words(
     number: u32,
 )
     requires { number < NUMBERS }
-    ensures { Adds (spec.call_words orders.entry.config.now.names (option_copied met.entry) turns number (spec.call_of orders.entry.scripts.now number)) out.old out.new }
+    ensures { Adds (spec.call_words orders.entry.config.now.names (option_copied met.entry) turns number
+        (spec.call_of orders.entry.scripts.now number)) out.old out.new }
 {
     if let Some(met) = met {
         put_of_orders(out, met.whole, turns);
@@ -124,7 +126,8 @@ fn tell_call<N: Notes>(
     number: u32,
 )
     requires { number < NUMBERS }
-    ensures { Adds (spec.call_line about.entry.asked.now orders.entry.config.now orders.entry.scripts.now (option_copied met.entry) turns number) (N.told notes.old) (N.told notes.new) }
+    ensures { Adds (spec.call_line about.entry.asked.now orders.entry.config.now orders.entry.scripts.now (option_copied met.entry) turns number)
+        (N.told notes.old) (N.told notes.new) }
 {
     let mut line = about.line();
     put_call_words(about.alloc, &mut line, orders, met, turns, number);
@@ -155,7 +158,8 @@ fn tell_each<N: Notes>(
     calls: &[u32],
 )
     requires { All (λ n. n < NUMBERS) calls.now }
-    ensures { Adds (spec.each_line (spec.call_line about.entry.asked.now orders.entry.config.now orders.entry.scripts.now (option_copied met.entry) turns) calls.now) (N.told notes.old) (N.told notes.new) }
+    ensures { Adds (spec.each_line (spec.call_line about.entry.asked.now orders.entry.config.now orders.entry.scripts.now (option_copied met.entry) turns)
+        calls.now) (N.told notes.old) (N.told notes.new) }
 {
     for at in 0..calls.len() {
         tell_call(notes, about, orders, met, turns, calls[at]);
@@ -173,7 +177,8 @@ fn tell_calls<N: Notes>(
     calls: &[u32],
 )
     requires { All (λ n. n < NUMBERS) calls.now }
-    ensures { Adds (spec.calls_lines about.entry.asked.now orders.entry.config.now orders.entry.scripts.now (option_copied met.entry) turns calls.now) (N.told notes.old) (N.told notes.new) }
+    ensures { Adds (spec.calls_lines about.entry.asked.now orders.entry.config.now orders.entry.scripts.now (option_copied met.entry) turns calls.now)
+        (N.told notes.old) (N.told notes.new) }
 {
     let first = &calls[..calls.len().min(MOST_CALLS)];
     tell_each(notes, about, orders, met, turns, first);
@@ -198,7 +203,8 @@ fn tell_all<N: Notes>(
     met: Option<&Met>,
     turns: u32,
 )
-    ensures { Adds (spec.all_lines about.entry.asked.now orders.entry.config.now orders.entry.scripts.now (option_copied met.entry) turns) (N.told notes.old) (N.told notes.new) }
+    ensures { Adds (spec.all_lines about.entry.asked.now orders.entry.config.now orders.entry.scripts.now (option_copied met.entry) turns)
+        (N.told notes.old) (N.told notes.new) }
 {
     match calls_told(about.alloc, orders, met) {
         Ok(calls) => tell_calls(notes, about, orders, met, turns, calls.as_slice()),
@@ -215,7 +221,8 @@ pub(crate) fn note_calls_unmade<N: Notes>(
     met: Option<&Met>,
     turns: u32,
 )
-    ensures { Adds (spec.unmade_lines about.entry.asked.now orders.entry.config.now orders.entry.scripts.now (option_copied met.entry) turns) (N.told notes.old) (N.told notes.new) }
+    ensures { Adds (spec.unmade_lines about.entry.asked.now orders.entry.config.now orders.entry.scripts.now (option_copied met.entry) turns)
+        (N.told notes.old) (N.told notes.new) }
 {
     tell_all(notes, about, orders, None, turns);
     if met.is_some() {
@@ -245,7 +252,8 @@ fn calls_met<P: Progress>(
     progress: &mut P,
     bounds: Bounds,
 ) -> Result<Option<Met>, AllocError>
-    ensures says { IfOk result (λ o. IfSome o (SaysMade outcome.now.searched.config outcome.now.searched.scripts outcome.now.searched.rules bounds.turns.count)) }
+    ensures says { IfOk result (λ o. IfSome o
+        (SaysMade outcome.now.searched.config outcome.now.searched.scripts outcome.now.searched.rules bounds.turns.count)) }
     ensures none { IfOk result (λ o. o ≡ None → (spec.may_know outcome.now.finding outcome.now.searched.question ≡ false)
         ⊎ IsNotKnown outcome.now.searched.config outcome.now.searched.scripts outcome.now.searched.rules bounds.turns.count
         (bounds.places.count - 1) (P.over progress.new)) }
