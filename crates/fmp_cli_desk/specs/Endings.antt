@@ -37,6 +37,11 @@ abbrev pub status_after : Result Status Ending → Status
 status_after (Ok status) = status
 status_after (Err end) = status_of end
 
+-- that of a run which ends the program so where it goes to its end
+abbrev pub status_by : {T : Type 0} → (T → Status) → Result T Ending → Status
+status_by status_of_done (Ok done) = status_of_done done
+status_by status_of_done (Err end) = status_of end
+
 -- what ends a run with this fault, where nobody reads the output any more or somebody does
 abbrev pub of_run : RunFault → Bool → Ending
 of_run run.Write true = ending.Unread

@@ -1,3 +1,4 @@
 pub mod Endings
 pub mod Places
 pub mod Runs
+pub mod Texts

@@ -11,19 +11,25 @@ use std::fmt::Display;
 use std::io;
 use std::io::{Read, Write};
 
-/// The devices of the program: its texts, standard output and standard error, the files that it makes, and a clock. Nothing is promised of them: any call
-/// may fail, and what a text has is known when it was read.
+/// The devices of the program: its texts, standard output and standard error, the files that it makes, and a clock. Any call
+/// may fail. Nothing else is promised of them but what a text has, where that is known before it is read.
 pub trait Desk {
+    ghost use Rattle.std.specs.Prelude.{◌≡◌, ℕ, List, Option, None, IfOk};
+
     /// A text that is read as it comes.
     type Text: Read + Drop;
     /// Standard output, to be written.
     type Output: Write + Drop;
 
+    // What the text at a path has, where that is known. It is not of a file.
+    ghost text_at: { Self → List ℕ → Option (List ℕ) } = { λ _ _. None };
+
     /// Where memory comes from.
     fn alloc(&self) -> Global;
 
     /// Opens the text at a path, or standard input where the path is [`STANDARD_INPUT`](crate::STANDARD_INPUT).
-    fn open(&self, path: &str) -> io::Result<Self::Text>;
+    fn open(&self, path: &str) -> io::Result<Self::Text>
+        ensures { IfOk result (λ text. Self.Text.remaining text ≡ text_at self.now path.now) };
 
     /// Whether there is a file of bytes at a path, and no pipe or device.
     fn is_file(&self, path: &str) -> bool;

@@ -1,5 +1,5 @@
 //! How a run ends, if not by its end.
-ghost use Rattle.std.specs.Prelude.{◌≡◌, ◌≢◌, Bool, Ok, Err, IfOk, IfErr};
+ghost use Rattle.std.specs.Prelude.{◌≡◌, ◌≢◌, ◌⊎◌, Bool, Ok, Err, IfOk, IfErr, IsOk, OnOk};
 ghost use Rattle.std.specs.IoError.{error_kind};
 ghost use Rattle.std.specs.declared.io.ErrorKind.TheVariants as kind;
 ghost use Rattle.fmp_run_texts.specs.declared.fault.RunFault.TheVariants as run;
@@ -55,6 +55,8 @@ impl From<RunFault> for Ending {
 }
 
 impl From<AllocError> for Ending {
+    ghost from_gives = { λ _ end. end ≡ ending.Fault run.Memory };
+
     fn from(_error: AllocError) -> Ending {
         Ending::Fault(RunFault::Memory)
     }
@@ -183,6 +185,8 @@ pub fn settled<T: Drop, F: Fault + Drop>(run: Result<T, F>, is_closed: bool) -> 
 
 /// What became of a text that was written to standard output.
 pub fn settled_write(write: io::Result<()>) -> Result<(), Ending>
+    ensures ok { OnOk write (IsOk result) }
+    ensures ends { IfErr result (λ end. (end ≡ ending.Unread) ⊎ (end ≡ ending.Fault run.Write)) }
     ensures unread { IfErr write (λ error. error_kind error ≡ kind.BrokenPipe → result ≡ Err ending.Unread) }
     ensures fault { IfErr write (λ error. error_kind error ≢ kind.BrokenPipe → result ≡ Err (ending.Fault run.Write)) }
 {

@@ -1,6 +1,6 @@
 //! What is kept of the texts of a run, for what is reported of a fault: the lines in which it may be, as the run read them, and why a text cannot be read.
 //! So no text is opened or read a second time for it.
-ghost use Rattle.std.specs.Prelude.{◌≤◌, length, true};
+ghost use Rattle.std.specs.Prelude.{◌≡◌, ◌≤◌, length, true};
 ghost use Rattle.fmp_cli_desk.specs.Places.{KeepsWhole};
 
 use fmp_cli_faults::Lines;
@@ -75,7 +75,9 @@ pub struct ErrorKeeper<T> {
 
 impl<T: Read + Drop> ErrorKeeper<T> {
     /// A reader that has read nothing.
-    pub fn new(text: T) -> ErrorKeeper<T> {
+    pub fn new(text: T) -> ErrorKeeper<T>
+        ensures { result.text ≡ text }
+    {
         ErrorKeeper { text, error: None }
     }
 
@@ -86,6 +88,8 @@ impl<T: Read + Drop> ErrorKeeper<T> {
 }
 
 impl<T: Read> Read for ErrorKeeper<T> {
+    ghost remaining = { λ k. T.remaining k.text };
+
     fn read(&mut self, buffer: &mut [u8]) -> io::Result<usize> {
         match self.text.read(buffer) {
             Ok(count) => Ok(count),
@@ -111,7 +115,9 @@ pub struct LineKeeper<T> {
 
 impl<T: Read + Drop> LineKeeper<T> {
     /// A reader that has read nothing, and keeps lines where a place in them is to be shown.
-    pub fn new(alloc: Global, text: T, shows_place: bool) -> LineKeeper<T> {
+    pub fn new(alloc: Global, text: T, shows_place: bool) -> LineKeeper<T>
+        ensures { result.text.text ≡ text }
+    {
         let lines = KeptLines {
             text: Vec::new(alloc),
             before: 0,
@@ -175,6 +181,8 @@ fn with_piece(lines: KeptLines, last_piece: usize, piece: &[u8]) -> Option<KeptL
 }
 
 impl<T: Read> Read for LineKeeper<T> {
+    ghost remaining = { λ k. T.remaining k.text.text };
+
     fn read(&mut self, buffer: &mut [u8]) -> io::Result<usize> {
         let count = self.text.read(buffer)?;
         if let Some(lines) = self.last.take() {

@@ -1,16 +1,19 @@
 //! The texts that a run reads: a configuration, and beside it another text. One of them may come from standard input. Each is opened once, and why it cannot
 //! be read is kept.
-ghost use Rattle.std.specs.Prelude.{◌≡◌, IfErr, IfOk};
-ghost use Rattle.fmp_run_devices.specs.Either.{of_either};
+ghost use Rattle.std.specs.Prelude.{◌≡◌, IfErr, IfOk, IfSome};
+ghost use Rattle.fmp_config.specs.Limits as config_limits;
+ghost use Rattle.fmp_text.specs.Limits as text_limits;
 ghost use Rattle.fmp_cli_desk.specs.declared.ending.Ending.TheVariants.{OneInput};
+ghost use Rattle.fmp_cli_desk.specs.Texts.{AreRead, IsFaultBefore, IsUnbegun};
 
 use crate::desk::{Desk, FaultForm};
 use crate::ending::Ending;
 use crate::keeping::{ErrorKeeper, Kept, KeptText};
 use fmp_cli::Paths;
-use fmp_config::{MOST_BYTES as MOST_CONFIG_BYTES, read_config};
-use fmp_run_devices::{ReadFault, TextOr, TextSource};
+use fmp_config::MOST_BYTES as MOST_CONFIG_BYTES;
+use fmp_run_devices::{MemSource, ReadFault};
 use fmp_run_events::{ReadSource, RunFault, read_up_to};
+use fmp_run_texts::config_from;
 use fmp_text::MOST_BYTES;
 use std::alloc::Global;
 use std::io;
@@ -18,25 +21,6 @@ use std::io::{ErrorKind, Read};
 
 /// The path in whose place a text is read from standard input.
 pub const STANDARD_INPUT: &str = "-";
-
-/// A text that was opened, or one that could not be read.
-#[derive(Drop)]
-pub enum Opened<T> {
-    Text(T),
-    Unreadable,
-}
-
-/// A text for a run that reads it whole.
-pub type WholeText<T> = TextOr<ReadSource<Opened<T>>>;
-
-impl<T: Read> Read for Opened<T> {
-    fn read(&mut self, buffer: &mut [u8]) -> io::Result<usize> {
-        match self {
-            Opened::Text(text) => text.read(buffer),
-            Opened::Unreadable => Err(io::Error::from(ErrorKind::Other)),
-        }
-    }
-}
 
 /// Why a text was not read.
 #[derive(Drop)]
@@ -46,7 +30,9 @@ enum Unread {
 }
 
 /// A text, read to its end, or beyond a limit.
-fn text_up_to<T: Read + Drop>(alloc: Global, text: T, limit: usize) -> Result<Vec<u8>, Unread> {
+fn text_up_to<T: Read + Drop>(alloc: Global, text: T, limit: usize) -> Result<Vec<u8>, Unread>
+    ensures { IfOk result (λ bytes. AreRead limit (T.remaining text) bytes.items) }
+{
     let mut text = ErrorKeeper::new(text);
     let mut source = ReadSource::new(&mut text);
     let read = read_up_to(alloc, &mut source, limit);
@@ -62,7 +48,10 @@ fn text_up_to<T: Read + Drop>(alloc: Global, text: T, limit: usize) -> Result<Ve
 }
 
 /// A configuration, read to its end, or beyond its greatest length. It is kept for what stands beside a fault.
-fn config_read<T: Read + Drop>(alloc: Global, text: T) -> Result<Vec<u8>, Ending> {
+fn config_read<T: Read + Drop>(alloc: Global, text: T) -> Result<Vec<u8>, Ending>
+    ensures ok { IfOk result (λ bytes. AreRead config_limits.most_bytes (T.remaining text) bytes.items) }
+    ensures err { IfErr result (IsUnbegun (T.remaining text)) }
+{
     match text_up_to(alloc, text, MOST_CONFIG_BYTES) {
         Ok(config) => Ok(config),
         Err(Unread::Failed(error)) => Err(Ending::NoConfig(error)),
@@ -71,7 +60,9 @@ fn config_read<T: Read + Drop>(alloc: Global, text: T) -> Result<Vec<u8>, Ending
 }
 
 /// Another text, read to its end, or beyond its greatest length.
-pub fn text_read<T: Read + Drop>(alloc: Global, text: T) -> Result<Vec<u8>, Ending> {
+pub fn text_read<T: Read + Drop>(alloc: Global, text: T) -> Result<Vec<u8>, Ending>
+    ensures { IfOk result (λ bytes. AreRead text_limits.most_bytes (T.remaining text) bytes.items) }
+{
     match text_up_to(alloc, text, MOST_BYTES) {
         Ok(text) => Ok(text),
         Err(Unread::Failed(error)) => Err(Ending::NoText(error)),
@@ -80,7 +71,10 @@ pub fn text_read<T: Read + Drop>(alloc: Global, text: T) -> Result<Vec<u8>, Endi
 }
 
 /// The configuration, read where no other text is.
-pub fn config_alone<D: Desk>(desk: &D, paths: &Paths<'_>) -> Result<Kept, Ending> {
+pub fn config_alone<D: Desk>(desk: &D, paths: &Paths<'_>) -> Result<Kept, Ending>
+    ensures ok { IfOk result (λ texts. AreRead config_limits.most_bytes (D.text_at desk.now paths.now.config.now) texts.config.items) }
+    ensures err { IfErr result (IsUnbegun (D.text_at desk.now paths.now.config.now)) }
+{
     match desk.open(paths.config) {
         Ok(text) => Ok(Kept {
             config: config_read(desk.alloc(), text)?,
@@ -91,7 +85,10 @@ pub fn config_alone<D: Desk>(desk: &D, paths: &Paths<'_>) -> Result<Kept, Ending
 }
 
 /// The trace with which a search begins, or the text of many questions, read to its end, or beyond its greatest length.
-pub fn trace_read<D: Desk>(desk: &D, path: &str) -> Result<Vec<u8>, Ending> {
+pub fn trace_read<D: Desk>(desk: &D, path: &str) -> Result<Vec<u8>, Ending>
+    ensures ok { IfOk result (λ bytes. AreRead text_limits.most_bytes (D.text_at desk.now path.now) bytes.items) }
+    ensures err { (known : _) → IfErr result (IsUnbegun known) }
+{
     let text = match desk.open(path) {
         Ok(text) => text,
         Err(error) => return Err(Ending::NoTrace(error)),
@@ -100,15 +97,6 @@ pub fn trace_read<D: Desk>(desk: &D, path: &str) -> Result<Vec<u8>, Ending> {
         Ok(text) => Ok(text),
         Err(Unread::Failed(error)) => Err(Ending::NoTrace(error)),
         Err(Unread::Memory) => Err(Ending::Fault(RunFault::Memory)),
-    }
-}
-
-/// The trace with which a search over texts begins. Where the other text cannot be read it is not opened, and nothing is given: the search says which one
-/// comes first that cannot be read.
-pub fn begun_read<D: Desk>(desk: &D, texts: &Kept, path: &str) -> Result<Vec<u8>, Ending> {
-    match texts.text {
-        KeptText::Unreadable(_) => Ok(Vec::new(desk.alloc())),
-        _ => trace_read(desk, path),
     }
 }
 
@@ -123,7 +111,11 @@ pub fn third_allowed(paths: &Paths<'_>, third: &str) -> Result<(), Ending>
 }
 
 /// The configuration, read, and the other text, opened. Both are opened before either is read.
-pub fn both_opened<D: Desk>(desk: &D, paths: &Paths<'_>) -> Result<(Vec<u8>, D::Text), Ending> {
+pub fn both_opened<D: Desk>(desk: &D, paths: &Paths<'_>) -> Result<(Vec<u8>, D::Text), Ending>
+    ensures config { IfOk result (λ both. AreRead config_limits.most_bytes (D.text_at desk.now paths.now.config.now) both.0.items) }
+    ensures text { IfOk result (λ both. D.Text.remaining both.1 ≡ D.text_at desk.now paths.now.text.now) }
+    ensures err { IfErr result (IsUnbegun (D.text_at desk.now paths.now.config.now)) }
+{
     if paths.config == STANDARD_INPUT && paths.text == STANDARD_INPUT {
         return Err(Ending::OneInput);
     }
@@ -138,51 +130,57 @@ pub fn both_opened<D: Desk>(desk: &D, paths: &Paths<'_>) -> Result<(Vec<u8>, D::
     Ok((config_read(desk.alloc(), config)?, text))
 }
 
-/// Whether a configuration has a fault, so that a run over it wants no other text.
-fn is_refused(alloc: Global, config: &[u8]) -> bool {
-    read_config(alloc, config).is_err()
+/// The first fault of a configuration, for which a run over it wants no other text.
+fn config_fault(alloc: Global, config: &[u8]) -> Option<RunFault>
+    ensures { IfSome result (IsFaultBefore config.now) }
+{
+    let mut source = MemSource::new(config);
+    config_from(alloc, &mut source).err()
 }
 
-/// The other text, read whole, with what is kept of both.
+/// The other text, read whole, with what is kept of both. Where it cannot be read that is reported behind a fault of the configuration.
 fn whole_read<T: Read + Drop>(
     alloc: Global,
     config: Vec<u8>,
     text: T,
     shows_place: bool,
-) -> Result<(Kept, WholeText<T>), Ending>
-    ensures { IfOk result (λ both. of_either (λ _. 0) (λ source. source.failures) both.1 ≡ 0) }
+) -> Result<(Kept, Vec<u8>), Ending>
+    ensures config { IfOk result (λ both. both.0.config.items ≡ config.items) }
+    ensures text { IfOk result (λ both. AreRead text_limits.most_bytes (T.remaining text) both.1.items) }
+    ensures err { (known : _) → AreRead config_limits.most_bytes known config.items → IfErr result (IsUnbegun known) }
 {
     match text_up_to(alloc, text, MOST_BYTES) {
         Ok(bytes) => {
             let text = KeptText::of_whole(alloc, bytes.as_slice(), shows_place);
-            let source = TextSource::new(alloc, bytes);
-            Ok((Kept { config, text }, TextOr::Text(source)))
+            Ok((Kept { config, text }, bytes))
         }
         Err(Unread::Failed(error)) => {
+            let fault = config_fault(alloc, config.as_slice()).unwrap_or(RunFault::Read);
             let text = KeptText::Unreadable(error);
-            let source = ReadSource::new(Opened::Unreadable);
-            Ok((Kept { config, text }, TextOr::Other(source)))
+            Err(Ending::Faulty(fault, Kept { config, text }))
         }
         Err(Unread::Memory) => Err(Ending::Fault(RunFault::Memory)),
     }
 }
 
-/// The configuration, read, and the other text for a run that reads it whole. That is read now: then its bytes are known, and what the run promises of such
-/// a text it promises of this one. Where it cannot be read, the run says so when it comes to it, behind a fault of the configuration. Standard input and a
-/// pipe may be long in coming: they are read only where the configuration has no fault, which is reported at once.
+/// The configuration, read, and the other text, read whole: so its bytes are known to the run. Standard input and a pipe may be long in coming: they are
+/// read only where the configuration has no fault, which is reported at once.
 pub fn both_read<D: Desk>(
     desk: &D,
     paths: &Paths<'_>,
     fault_form: FaultForm,
-) -> Result<(Kept, WholeText<D::Text>), Ending>
-    ensures { IfOk result (λ both. of_either (λ _. 0) (λ source. source.failures) both.1 ≡ 0) }
+) -> Result<(Kept, Vec<u8>), Ending>
+    ensures config { IfOk result (λ both. AreRead config_limits.most_bytes (D.text_at desk.now paths.now.config.now) both.0.config.items) }
+    ensures text { IfOk result (λ both. AreRead text_limits.most_bytes (D.text_at desk.now paths.now.text.now) both.1.items) }
+    ensures err { IfErr result (IsUnbegun (D.text_at desk.now paths.now.config.now)) }
 {
     let alloc = desk.alloc();
     let (config, text) = both_opened(desk, paths)?;
-    if !desk.is_file(paths.text) && is_refused(alloc, config.as_slice()) {
-        let unread = ReadSource::new(Opened::Text(text));
-        let text = KeptText::Nothing;
-        return Ok((Kept { config, text }, TextOr::Other(unread)));
+    if !desk.is_file(paths.text) {
+        if let Some(fault) = config_fault(alloc, config.as_slice()) {
+            let text = KeptText::Nothing;
+            return Err(Ending::Faulty(fault, Kept { config, text }));
+        }
     }
     whole_read(alloc, config, text, fault_form.shows_place(paths))
 }

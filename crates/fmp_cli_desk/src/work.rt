@@ -1,18 +1,18 @@
 //! Runs at a desk: the texts of a run are opened and read, what it writes goes to standard output, and how it ends is an [`Ending`].
-ghost use Rattle.std.specs.Prelude.{◌≡◌, ◌-◌, ◌<◌, ◌^◌, IfOk};
-ghost use Rattle.fmp_run_devices.specs.Either.{of_either};
+ghost use Rattle.std.specs.Prelude.{◌≡◌, ◌-◌, ◌<◌, ◌^◌, [], Some};
 ghost use Rattle.fmp_cli_runs.specs.Texts.{text_ends};
-ghost use Rattle.fmp_cli_desk.specs.Runs.{HasDone, HasRun, HasRunOver};
+ghost use Rattle.fmp_cli_desk.specs.Runs.{HasRun, HasRunOver, HasWorked};
+ghost use Rattle.fmp_cli_desk.specs.Texts.{IsNew, IsWhole};
 
 use crate::desk::{Desk, FaultForm};
 use crate::ending::{Ending, Fault, kept, settled};
-use crate::keeping::Kept;
-use crate::texts::{WholeText, both_read, config_alone};
+use crate::keeping::{Kept, LineKeeper};
+use crate::texts::{both_opened, both_read, config_alone};
 use fmp_cli::Paths;
 use fmp_cli_colour::ColourSink;
 use fmp_cli_runs::Run;
-use fmp_run_devices::MemSource;
-use fmp_run_events::{RunFault, Source, WriteSink};
+use fmp_run_devices::TextSource;
+use fmp_run_events::{ReadSource, RunFault, Source, WriteSink};
 
 /// Runs over texts that are there, with standard output, in colours or not.
 pub fn written<D: Desk, S: Source, R: Run>(
@@ -47,15 +47,15 @@ where
 pub fn worked_over<D: Desk, R: Run>(
     desk: &D,
     texts: Kept,
-    mut text: WholeText<D::Text>,
+    text: Vec<u8>,
     run: &mut R,
 ) -> Result<R::Done, Ending>
 where
     R::Fault: Fault,
-    requires may_run { R.may_run }
-    requires text_calls { of_either (λ _. 0) (λ source. source.failures) text ≡ 0 }
-    ensures { HasRunOver (R.promises run.old run.new texts.config.items) ⟦<R::Fault as Fault>⟧.ending texts result }
+    requires { R.may_run }
+    ensures { HasRunOver (IsNew (Some text.items)) (R.promises run.old run.new texts.config.items) ⟦<R::Fault as Fault>⟧.ending texts result }
 {
+    let mut text = TextSource::new(desk.alloc(), text);
     let ended = written(desk, texts.config.as_slice(), &mut text, false, run);
     kept(ended, texts)
 }
@@ -70,7 +70,8 @@ pub fn worked<D: Desk, R: Run>(
 where
     R::Fault: Fault,
     requires { R.may_run }
-    ensures { IfOk result (HasDone (R.promises run.old run.new)) }
+    ensures { HasWorked (D.text_at desk.now paths.now.config.now) (IsWhole (D.text_at desk.now paths.now.text.now)) (R.promises run.old run.new)
+        ⟦<R::Fault as Fault>⟧.ending result }
 {
     let (texts, text) = both_read(desk, paths, fault_form)?;
     worked_over(desk, texts, text, run)
@@ -85,10 +86,31 @@ pub fn worked_alone<D: Desk, R: Run>(
 where
     R::Fault: Fault,
     requires { R.may_run }
-    ensures { IfOk result (HasDone (R.promises run.old run.new)) }
+    ensures { HasWorked (D.text_at desk.now paths.now.config.now) (IsNew (Some [])) (R.promises run.old run.new) ⟦<R::Fault as Fault>⟧.ending result }
 {
     let texts = config_alone(desk, paths)?;
-    let mut none = MemSource::new(b"");
-    let ended = written(desk, texts.config.as_slice(), &mut none, false, run);
-    kept(ended, texts)
+    worked_over(desk, texts, Vec::new(desk.alloc()), run)
+}
+
+/// Reads the configuration, and runs over the other text as it comes, with standard output in colours or not. What the form of faults wants is kept of both.
+pub fn streamed<D: Desk, R: Run>(
+    desk: &D,
+    paths: &Paths<'_>,
+    fault_form: FaultForm,
+    coloured: bool,
+    run: &mut R,
+) -> Result<R::Done, Ending>
+where
+    R::Fault: Fault,
+    requires { R.may_run }
+    ensures { HasWorked (D.text_at desk.now paths.now.config.now) (IsNew (D.text_at desk.now paths.now.text.now)) (R.promises run.old run.new)
+        ⟦<R::Fault as Fault>⟧.ending result }
+{
+    let (config, text) = both_opened(desk, paths)?;
+    let mut lines = LineKeeper::new(desk.alloc(), text, fault_form.shows_place(paths));
+    let mut text = ReadSource::new(&mut lines);
+    let ended = written(desk, config.as_slice(), &mut text, coloured, run);
+    drop(text);
+    let text = lines.into_kept();
+    kept(ended, Kept { config, text })
 }

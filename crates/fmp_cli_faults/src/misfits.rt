@@ -1,4 +1,7 @@
 //! What is wrong with a request, and what is taken where it says nothing.
+ghost use Rattle.std.specs.Prelude.{◌≡◌, is_none, not};
+ghost use Rattle.fmp_cli_faults.specs.Misfits as spec;
+
 use fmp_cli::{ExploreRequest, Seeds, SmpRequest};
 use fmp_out::Text;
 use std::alloc::Global;
@@ -28,7 +31,9 @@ pub enum SeedMisfit {
 
 impl SeedMisfit {
     /// That of a request, if there is one.
-    pub fn of_request(request: &SmpRequest<'_>) -> Option<SeedMisfit> {
+    pub fn of_request(request: &SmpRequest<'_>) -> Option<SeedMisfit>
+        ensures { is_none result ≡ spec.fits request.now }
+    {
         match request.seeds {
             Seeds::Range(_, _) if request.seed.is_none() => None,
             Seeds::Unasked if request.find.is_some() => Some(SeedMisfit::Question),
@@ -38,7 +43,9 @@ impl SeedMisfit {
     }
 
     /// That of a request without seeds which has an option for them.
-    fn option_of(request: &SmpRequest<'_>) -> Option<SeedMisfit> {
+    fn option_of(request: &SmpRequest<'_>) -> Option<SeedMisfit>
+        ensures { is_none result ≡ not (spec.has_seed_option request.now) }
+    {
         if request.late {
             Some(SeedMisfit::Option("--late"))
         } else if request.stalls {

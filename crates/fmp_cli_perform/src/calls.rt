@@ -1,36 +1,15 @@
 //! What the machine answers to events, and what these change of some things: each event's part is written as it comes.
+ghost use Rattle.fmp_cli_perform.specs.Ended.{EndsAnswering, EndsFollowing};
+ghost use Rattle.fmp_cli_perform.specs.Performed.{EndsProgram, refuses_colour};
+
 use crate::colours::{is_coloured, uncoloured};
 use fmp_cli::{Colour, Paths, Report};
-use fmp_cli_desk::{
-    Desk, Ending, Fault, FaultForm, Kept, LineKeeper, both_opened, ended, kept, put_lines,
-    report_name, written,
-};
+use fmp_cli_desk::{Desk, Ending, FaultForm, ended, put_lines, report_name, streamed};
 use fmp_cli_diagnostics::LineForm;
 use fmp_cli_hints::TextForm;
-use fmp_cli_runs::{Answering, Following, Run};
+use fmp_cli_runs::{Answering, Following};
 use fmp_out::Text;
-use fmp_run_events::{ReadSource, Status};
-
-/// Opens both texts, and runs over the events as they come. What the form of faults wants is kept of them.
-fn streamed<D: Desk, R: Run>(
-    desk: &D,
-    paths: &Paths<'_>,
-    fault_form: FaultForm,
-    coloured: bool,
-    run: &mut R,
-) -> Result<R::Done, Ending>
-where
-    R::Fault: Fault,
-    requires { R.may_run }
-{
-    let (config, events) = both_opened(desk, paths)?;
-    let mut events = LineKeeper::new(desk.alloc(), events, fault_form.shows_place(paths));
-    let mut text = ReadSource::new(&mut events);
-    let ended = written(desk, config.as_slice(), &mut text, coloured, run);
-    drop(text);
-    let text = events.into_kept();
-    kept(ended, Kept { config, text })
-}
+use fmp_run_events::Status;
 
 /// How reporting what the machine answers ends the program. A fault is reported.
 pub fn called<D: Desk>(
@@ -39,7 +18,9 @@ pub fn called<D: Desk>(
     report: Report,
     colour: Colour,
     line: LineForm,
-) -> Status {
+) -> Status
+    ensures { EndsProgram (refuses_colour colour) (EndsAnswering (D.text_at desk.now) paths.now report) result }
+{
     let Some(coloured) = is_coloured(desk, colour) else {
         return uncoloured(desk);
     };
@@ -68,7 +49,9 @@ pub fn lived<D: Desk>(
     names: &str,
     colour: Colour,
     line: LineForm,
-) -> Status {
+) -> Status
+    ensures { EndsProgram (refuses_colour colour) (EndsFollowing (D.text_at desk.now) paths.now names.now) result }
+{
     let Some(coloured) = is_coloured(desk, colour) else {
         return uncoloured(desk);
     };

@@ -1,5 +1,6 @@
 //! Whether the trace is coloured.
-ghost use Rattle.std.specs.Prelude.{◌≡◌};
+ghost use Rattle.std.specs.Prelude.{◌≡◌, is_none};
+ghost use Rattle.fmp_cli_perform.specs.Performed.{refuses_colour};
 ghost use Rattle.fmp_run_texts.specs.declared.status.Status.TheVariants as status;
 
 use fmp_cli::Colour;
@@ -7,7 +8,9 @@ use fmp_cli_desk::Desk;
 use fmp_run_events::Status;
 
 /// Whether the trace is coloured. It is not known by a word that says nothing of it.
-pub fn is_coloured<D: Desk>(desk: &D, colour: Colour) -> Option<bool> {
+pub fn is_coloured<D: Desk>(desk: &D, colour: Colour) -> Option<bool>
+    ensures { is_none result ≡ refuses_colour colour }
+{
     match colour {
         Colour::Auto => Some(desk.is_output_terminal() && !desk.refuses_colours()),
         Colour::Always => Some(true),

@@ -1,10 +1,14 @@
 //! What the orders of scripts show: whether one shows what is asked, how far everything goes in all, and whether one that goes on from a trace does.
+ghost use Rattle.std.specs.Prelude.{◌≡◌, false};
+ghost use Rattle.fmp_cli_perform.specs.Performed.{EndsProgram};
+ghost use Rattle.fmp_cli_perform.specs.Searched as spec;
+
 use crate::beside::Beside;
 use crate::questions::asked;
 use fmp_cli::{ExploreRequest, Paths};
 use fmp_cli_desk::{
-    Desk, Ending, FaultForm, ProgressLine, begun_read, both_read, put_lines, replied, report_begun,
-    third_allowed, worked, worked_over,
+    Desk, Ending, FaultForm, ProgressLine, both_read, put_lines, replied, report_begun,
+    third_allowed, trace_read, worked, worked_over,
 };
 use fmp_cli_diagnostics::LineForm;
 use fmp_cli_faults::bounds_lines;
@@ -47,7 +51,9 @@ fn explore<D: Desk>(
     fault_form: FaultForm,
     request: &ExploreRequest<'_>,
     progress: &mut ProgressLine<'_, D>,
-) -> Result<Status, Ending> {
+) -> Result<Status, Ending>
+    ensures { spec.EndsSearching (D.text_at desk.now paths.now.config.now) (D.text_at desk.now paths.now.text.now) request.now result }
+{
     let mut run = Searching {
         request,
         progress: &mut *progress,
@@ -68,7 +74,9 @@ fn explore_forever<D: Desk>(
     fault_form: FaultForm,
     request: &ExploreRequest<'_>,
     progress: &mut ProgressLine<'_, D>,
-) -> Result<Status, Ending> {
+) -> Result<Status, Ending>
+    ensures { spec.EndsSearchingForever (D.text_at desk.now paths.now.config.now) (D.text_at desk.now paths.now.text.now) request.now result }
+{
     let mut run = SearchingForever {
         request,
         progress: &mut *progress,
@@ -91,10 +99,12 @@ fn explore_from<D: Desk>(
     request: &ExploreRequest<'_>,
     begun: &str,
     progress: &mut ProgressLine<'_, D>,
-) -> Result<Status, Ending> {
+) -> Result<Status, Ending>
+    ensures { spec.EndsSearchingFrom (D.text_at desk.now paths.now.config.now) (D.text_at desk.now paths.now.text.now) (D.text_at desk.now begun.now) request.now result }
+{
     third_allowed(paths, begun)?;
     let (texts, scripts) = both_read(desk, paths, fault_form)?;
-    let begun = begun_read(desk, &texts, begun)?;
+    let begun = trace_read(desk, begun)?;
     let mut run = SearchingFrom {
         begun: begun.as_slice(),
         request,
@@ -110,7 +120,9 @@ fn searched<D: Desk>(
     fault_form: FaultForm,
     request: &ExploreRequest<'_>,
     progress: &mut ProgressLine<'_, D>,
-) -> Result<Status, Ending> {
+) -> Result<Status, Ending>
+    ensures { spec.EndsSearch (D.text_at desk.now) (D.text_at desk.now paths.now.config.now) (D.text_at desk.now paths.now.text.now) request.now result }
+{
     if let Some(file) = request.questions {
         return asked(desk, paths, fault_form, request, file, progress);
     }
@@ -132,7 +144,9 @@ fn searched<D: Desk>(
 }
 
 /// How a search ends the program. A fault is reported.
-pub fn explored<D: Desk>(desk: &D, request: &ExploreRequest<'_>, line: LineForm) -> Status {
+pub fn explored<D: Desk>(desk: &D, request: &ExploreRequest<'_>, line: LineForm) -> Status
+    ensures { EndsProgram false (spec.EndsExploring (D.text_at desk.now) request.now) result }
+{
     let request = &request.with_room(desk.free_memory());
     let text = TextForm::Scripts;
     let paths = Paths {

@@ -1,4 +1,8 @@
 //! Many questions about the orders of scripts: each is searched for by itself, and a line reports its answer.
+ghost use Rattle.std.specs.Prelude.{◌≡◌, ◌⊎◌, [], ◌∷◌, ◌++◌, None, IfOk, IfSome, OnOk};
+ghost use Rattle.fmp_cli_perform.specs.Asked as spec;
+ghost use Rattle.fmp_run_texts.specs.declared.status.Status.TheVariants as status;
+
 use crate::beside::Beside;
 use crate::lists::put_out;
 use fmp_cli::{ExploreRequest, FEW_TICKS, Paths};
@@ -52,7 +56,10 @@ enum Misfit {
 }
 
 /// Reads the configuration, the scripts and the questions to their ends.
-fn texts_of<D: Desk>(desk: &D, asking: &Asking<'_>) -> Result<Texts, Ending> {
+fn texts_of<D: Desk>(desk: &D, asking: &Asking<'_>) -> Result<Texts, Ending>
+    ensures { IfOk result (λ t. spec.AreTexts (D.text_at desk.now asking.now.paths.config.now) (D.text_at desk.now asking.now.paths.text.now)
+        (D.text_at desk.now asking.now.file.now) t.config.items t.scripts.items t.questions.items) }
+{
     third_allowed(&asking.paths, asking.file)?;
     let (config, scripts) = both_opened(desk, &asking.paths)?;
     let scripts = text_read(desk.alloc(), scripts)?;
@@ -140,7 +147,9 @@ fn report_misfit<D: Desk>(
     texts: &Texts,
     row: &Row,
     misfit: Misfit,
-) -> Status {
+) -> Status
+    ensures { (result ≡ status.Usage) ⊎ (result ≡ status.Faulty) }
+{
     match misfit {
         Misfit::Ticks => {
             let form = asking.fault_form.line;
@@ -160,7 +169,9 @@ fn report_misfit<D: Desk>(
 }
 
 /// Reports the fault of a row that is no question, and how that ends the program.
-fn report_row<D: Desk>(desk: &D, asking: &Asking<'_>, texts: &Texts, fault: RowFault) -> Status {
+fn report_row<D: Desk>(desk: &D, asking: &Asking<'_>, texts: &Texts, fault: RowFault) -> Status
+    ensures { result ≡ status.Faulty }
+{
     let alloc = desk.alloc();
     let form = asking.fault_form.line;
     put_lines(
@@ -198,7 +209,10 @@ fn misfits<D: Desk>(
     asking: &Asking<'_>,
     texts: &Texts,
     rows: &Rows,
-) -> Result<Option<Status>, Ending> {
+) -> Result<Option<Status>, Ending>
+    ensures some { IfOk result (λ found. IfSome found (λ s. (s ≡ status.Usage) ⊎ (s ≡ status.Faulty))) }
+    ensures none { IfOk result (λ found. found ≡ None → rows.now.fault ≡ None) }
+{
     let alloc = desk.alloc();
     let config = settled(config_of(alloc, texts), false)?;
     match first_misfit(alloc, &config, asking, rows) {
@@ -211,21 +225,15 @@ fn misfits<D: Desk>(
     }
 }
 
-/// What is asked of one question.
-fn asked_of<'x>(asking: &Asking<'x>, row: &'x Row) -> ExploreRequest<'x> {
-    ExploreRequest {
-        question: str::from_utf8(row.question()).unwrap_or(""),
-        ..asking.request
-    }
-}
-
 /// Searches for what is asked of one question.
 fn reply_of<D: Desk>(
     desk: &D,
     texts: &Texts,
     request: &ExploreRequest<'_>,
     progress: &mut ProgressLine<'_, D>,
-) -> Result<Replied, Ending> {
+) -> Result<Replied, Ending>
+    ensures { IfOk result (λ reply. spec.IsAnswer texts.now.config.items texts.now.scripts.items request.now request.now.question.now reply.answer) }
+{
     let run = reply_to(
         desk.alloc(),
         texts.config.as_slice(),
@@ -250,25 +258,33 @@ fn put_trace<D: Desk>(
     Ok(())
 }
 
-/// The answer to a question, whose trace is written where that is asked for. A question that is not begun in time is not searched for.
+/// The answer to a question, whose trace is written where that is asked for. A question that is not begun in time is not searched for, nor one that is not
+/// UTF-8, of which there is none among those that have no fault.
 fn answered<'x, D: Desk>(
     desk: &D,
     asking: &Asking<'x>,
     texts: &Texts,
     row: &'x Row,
     progress: &mut ProgressLine<'_, D>,
-) -> Result<(Answer, Option<Outcome>), Ending> {
-    if Progress::is_over(progress) {
+) -> Result<(Answer, Option<Outcome>), Ending>
+    ensures { IfOk result (λ found. spec.IsAnswer texts.now.config.items texts.now.scripts.items asking.now.request row.now.question found.0) }
+{
+    let (false, Ok(question)) = (Progress::is_over(progress), str::from_utf8(row.question())) else {
         return Ok((Answer::NotWithin(0), None));
-    }
-    let request = asked_of(asking, row);
+    };
+    let request = ExploreRequest {
+        question,
+        ..asking.request
+    };
     let replied = reply_of(desk, texts, &request, progress)?;
     put_trace(desk, request.traces, row, &replied)?;
     Ok((replied.answer, replied.outcome))
 }
 
 /// Puts a thing after the others.
-fn keep<T: Drop>(things: &mut Vec<T>, thing: T) -> Result<(), AllocError> {
+fn keep<T: Drop>(things: &mut Vec<T>, thing: T) -> Result<(), AllocError>
+    ensures { OnOk result (things.new.items ≡ things.old.items ++ (thing ∷ [])) }
+{
     things.push(thing)?;
     Ok(())
 }
@@ -282,7 +298,9 @@ fn replies_to<D: Desk>(
     rows: Vec<Row>,
     outcomes: &mut Vec<Option<Outcome>>,
     progress: &mut ProgressLine<'_, D>,
-) -> Result<Vec<Reply>, Ending> {
+) -> Result<Vec<Reply>, Ending>
+    ensures { IfOk result (λ replies. spec.AreReplies texts.now.config.items texts.now.scripts.items asking.now.request rows.items replies.items) }
+{
     let alloc = desk.alloc();
     if asking.request.tap {
         put_out(desk, tap_head(alloc, rows.len())?.as_slice())?;
@@ -394,7 +412,9 @@ fn all_answered<D: Desk>(
     texts: &Texts,
     rows: Vec<Row>,
     progress: &mut ProgressLine<'_, D>,
-) -> Result<Status, Ending> {
+) -> Result<Status, Ending>
+    ensures { IfOk result (spec.IsJudged texts.now.config.items texts.now.scripts.items rows.items asking.now.request) }
+{
     let mut outcomes = Vec::new(desk.alloc());
     let replies = replies_to(desk, asking, texts, rows, &mut outcomes, progress)?;
     put_report(desk, &asking.request, replies.as_slice())?;
@@ -414,7 +434,9 @@ fn judged<D: Desk>(
     asking: &Asking<'_>,
     texts: &Texts,
     progress: &mut ProgressLine<'_, D>,
-) -> Result<Status, Ending> {
+) -> Result<Status, Ending>
+    ensures { IfOk result (spec.AnswersAll texts.now.config.items texts.now.scripts.items texts.now.questions.items asking.now.request) }
+{
     let rows = read_rows(desk.alloc(), texts.questions.as_slice())?;
     if let Some(status) = misfits(desk, asking, texts, &rows)? {
         return Ok(status);
@@ -432,7 +454,9 @@ pub fn asked<D: Desk>(
     request: &ExploreRequest<'_>,
     file: &str,
     progress: &mut ProgressLine<'_, D>,
-) -> Result<Status, Ending> {
+) -> Result<Status, Ending>
+    ensures { spec.EndsAsking (D.text_at desk.now paths.now.config.now) (D.text_at desk.now paths.now.text.now) (D.text_at desk.now file.now) request.now result }
+{
     let asking = Asking {
         paths: *paths,
         fault_form,

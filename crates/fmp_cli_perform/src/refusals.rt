@@ -1,4 +1,7 @@
 //! What is reported of a command line that is refused.
+ghost use Rattle.std.specs.Prelude.{◌≡◌, ◌⊎◌, ◌≢◌, IfErr, false};
+ghost use Rattle.fmp_cli_perform.specs.Performed.{IsRefusal, IsUnlisted};
+
 use clap::error::ErrorKind;
 use fmp_cli_desk::{
     Desk, Ending, FaultForm, NO_PATHS, ended, put_lines, report_memory, settled_write,
@@ -10,7 +13,9 @@ use fmp_run_events::Status;
 use std::io;
 
 /// How a refused command line ends the program. Help is asked for, so nothing is wrong there.
-fn status_of(error: &clap::Error) -> Status {
+fn status_of(error: &clap::Error) -> Status
+    ensures { IsRefusal result }
+{
     match error.kind() {
         ErrorKind::OutOfMemory => Status::Memory,
         ErrorKind::DisplayHelp | ErrorKind::DisplayVersion => Status::Done,
@@ -19,7 +24,9 @@ fn status_of(error: &clap::Error) -> Status {
 }
 
 /// What became of help that was put. What is wrong with a command line goes to standard error: where that fails nothing can be reported, and the status stays.
-fn settled_help(error: &clap::Error, put: io::Result<()>) -> Result<(), Ending> {
+fn settled_help(error: &clap::Error, put: io::Result<()>) -> Result<(), Ending>
+    ensures { IfErr result IsUnlisted }
+{
     if error.use_stderr() {
         Ok(())
     } else {
@@ -34,7 +41,10 @@ fn put_help<D: Desk>(
     error: &clap::Error,
     status: Status,
     line: LineForm,
-) -> Status {
+) -> Status
+    requires { IsRefusal status }
+    ensures { IsRefusal result }
+{
     // No text is read, so that of their forms any will do.
     let text = TextForm::Events;
     match settled_help(error, desk.put_help(error)) {
@@ -47,7 +57,9 @@ fn put_help<D: Desk>(
 }
 
 /// Reports help, or what is wrong with the command line, and how that ends the program. Of a number of `smp` it is reported which one is expected.
-pub fn refused<D: Desk>(desk: &D, words: &[String], error: &clap::Error, line: LineForm) -> Status {
+pub fn refused<D: Desk>(desk: &D, words: &[String], error: &clap::Error, line: LineForm) -> Status
+    ensures { IsRefusal result }
+{
     if let Some(number) = refused_number(words, error) {
         put_lines(desk, number.line(desk.alloc()));
         return Status::Usage;

@@ -1,6 +1,14 @@
 //! What is done of a command line.
+ghost use Rattle.std.specs.Prelude.{◌≡◌, ◌≢◌, ◌⊎◌, IfErr, IfOk, drop, map, option_map, slice_get};
+ghost use Rattle.std.specs.IoError.{error_kind};
+ghost use Rattle.std.specs.declared.io.ErrorKind.TheVariants as kind;
+ghost use Rattle.fmp_cli.specs.Cli.{AsksFor};
+ghost use Rattle.fmp_cli_diagnostics.specs.Options.{form_from, plain};
+ghost use Rattle.fmp_cli_perform.specs.Performed.{DoesWords, IsBegun, IsDone, IsRefusal};
+ghost use Rattle.fmp_run_texts.specs.declared.status.Status.TheVariants as status;
+
 use crate::calls::{called, lived};
-use crate::lists::{described, listed, path_of};
+use crate::lists::{config_listed, described, listed};
 use crate::orders::explored;
 use crate::refusals::refused;
 use crate::scripts::scripted;
@@ -22,7 +30,9 @@ fn done<D: Desk, T: Threads + Wait + Sync>(
     threads: &T,
     request: &Request<'_>,
     line: LineForm,
-) -> Status {
+) -> Status
+    ensures { IsDone (D.text_at desk.now) request.now result }
+{
     match request {
         Request::Calls(paths, report, colour) => called(desk, paths, *report, *colour, line),
         Request::Life(paths, names, colour) => lived(desk, paths, *names, *colour, line),
@@ -33,9 +43,7 @@ fn done<D: Desk, T: Threads + Wait + Sync>(
         Request::Explore(request) => explored(desk, request, line),
         Request::Shrink(request) => shrunk(desk, request, line),
         Request::List(name) => listed(desk, *name, line),
-        Request::Describe(request) => {
-            described(desk, &path_of(request), Describing::Listing, line)
-        }
+        Request::Describe(request) => config_listed(desk, request, line),
     }
 }
 
@@ -45,7 +53,9 @@ fn execute<D: Desk, T: Threads + Wait + Sync>(
     threads: &T,
     words: &[String],
     line: LineForm,
-) -> Status {
+) -> Status
+    ensures { IsRefusal result ⊎ DoesWords (D.text_at desk.now) words.now result }
+{
     match parse(desk.alloc(), words) {
         Ok(request) => done(desk, threads, &request, line),
         Err(error) => refused(desk, words, &error, line),
@@ -53,11 +63,9 @@ fn execute<D: Desk, T: Threads + Wait + Sync>(
 }
 
 /// Settles what every command has, and does what the words ask for.
-fn begun<D: Desk, T: Threads + Wait + Sync>(
-    desk: &D,
-    threads: &T,
-    mut words: Vec<String>,
-) -> Status {
+fn begun<D: Desk, T: Threads + Wait + Sync>(desk: &D, threads: &T, mut words: Vec<String>) -> Status
+    ensures { IsBegun (D.text_at desk.now) words.items (form_from plain words.items) result }
+{
     let line = line_form(words.as_slice());
     if matches!(line, LineForm::Other) {
         desk.note(b"fmpsim: --diagnostics: expected plain or gcc, as in --diagnostics=gcc\n");
@@ -76,7 +84,14 @@ pub fn perform<D: Desk, T: Threads + Wait + Sync>(
     desk: &D,
     threads: &T,
     words: io::Result<Vec<String>>,
-) -> Status {
+) -> Status
+    // What the words ask for is done, and the program ends as that ended, or they are refused, ask for help, or memory is wanting for them.
+    ensures words { IfOk words (λ words. IsBegun (D.text_at desk.now) words.items (form_from plain words.items) result) }
+
+    // One of them is not UTF-8, or memory was wanting.
+    ensures none { IfErr words (λ error. (error_kind error ≡ kind.InvalidData → result ≡ status.Usage)
+        × (error_kind error ≢ kind.InvalidData → result ≡ status.Memory)) }
+{
     match words {
         Ok(words) => begun(desk, threads, words),
         Err(error) if error.kind() == io::ErrorKind::InvalidData => {

@@ -1,5 +1,11 @@
 //! Processors that follow scripts: their trace on standard output, and who waits at the end on standard error.
-ghost use Rattle.std.specs.Prelude.{◌-◌, ◌<◌, ◌^◌};
+ghost use Rattle.std.specs.Prelude.{◌≡◌, ◌||◌, ◌-◌, ◌<◌, ◌^◌, false, not};
+ghost use Rattle.fmp_cli_runs.specs.Texts.{text_ends};
+ghost use Rattle.fmp_cli_faults.specs.Misfits.{fits};
+ghost use Rattle.fmp_cli_perform.specs.Ended.{EndsPlaying};
+ghost use Rattle.fmp_cli_perform.specs.Made.{IsMade, IsMadeOnce, IsSought};
+ghost use Rattle.fmp_run_seeds.specs.Found.{status_of};
+ghost use Rattle.fmp_cli_perform.specs.Performed.{EndsProgram, asks_for_ever, refuses_colour};
 
 use crate::colours::{is_coloured, uncoloured};
 use fmp_cli::{Paths, Seeds, SmpRequest};
@@ -11,6 +17,7 @@ use fmp_cli_faults::{LASTING, SeedMisfit, Waiting, waiting_lines};
 use fmp_cli_hints::TextForm;
 use fmp_cli_runs::{Played, Playing, Seeking};
 use fmp_out::Text;
+use fmp_run_devices::TextSource;
 use fmp_run_events::{Source, Status};
 use fmp_run_seeds::{SeedProgress, SeedSearch};
 use fmp_search_question::is_lasting;
@@ -84,7 +91,9 @@ impl SeedReported {
 
 impl Outcome {
     /// That of one run.
-    fn of_run(played: Played) -> Outcome {
+    fn of_run(played: Played) -> Outcome
+        ensures { result.status ≡ played.status }
+    {
         Outcome {
             status: played.status,
             seed: SeedReported::Nothing,
@@ -93,7 +102,9 @@ impl Outcome {
     }
 
     /// That of the runs of many seeds, where a question was asked or was not.
-    fn of_seeds(alloc: Global, search: SeedSearch, asked: bool) -> Outcome {
+    fn of_seeds(alloc: Global, search: SeedSearch, asked: bool) -> Outcome
+        ensures { result.status ≡ status_of asked search }
+    {
         let status = search.status(asked);
         let seed = SeedReported::of(&search, asked);
         let waiting = match search {
@@ -126,22 +137,39 @@ fn report_outcome<D: Desk>(desk: &D, path: &str, form: LineForm, texts: &Kept, o
     put_lines(desk, lines);
 }
 
-/// Writes the trace of what is asked for, in colours or not: of one run, or of the first of many that is looked for.
-fn made<D: Desk, T: Threads + Wait + Sync, S: Source, P: SeedProgress>(
+/// Writes the trace of one run, in colours or not.
+fn made_once<D: Desk, T: Threads + Wait + Sync, S: Source>(
     desk: &D,
     threads: &T,
     config: &[u8],
     scripts: &mut S,
     request: &SmpRequest<'_>,
     coloured: bool,
+) -> Result<Outcome, Ending>
+    requires { S.failures scripts.old < 2 ^ 64 - 1 }
+    ensures { IsMadeOnce request.now config.now (text_ends S.left S.failures S.given S.ended scripts.old scripts.new) result }
+{
+    let mut run = Playing { threads, request };
+    match written(desk, config, scripts, coloured, &mut run) {
+        Ok(played) => Ok(Outcome::of_run(played)),
+        Err(ending) => Err(ending),
+    }
+}
+
+/// Writes the trace of the first run of these seeds that is looked for, in colours or not.
+fn sought<D: Desk, S: Source, P: SeedProgress>(
+    desk: &D,
+    config: &[u8],
+    scripts: &mut S,
+    request: &SmpRequest<'_>,
+    first: u64,
+    last: u64,
+    coloured: bool,
     progress: &mut P,
 ) -> Result<Outcome, Ending>
     requires { S.failures scripts.old < 2 ^ 64 - 1 }
+    ensures { IsSought request.now first last config.now (text_ends S.left S.failures S.given S.ended scripts.old scripts.new) result }
 {
-    let Seeds::Range(first, last) = request.seeds else {
-        let mut run = Playing { threads, request };
-        return written(desk, config, scripts, coloured, &mut run).map(Outcome::of_run);
-    };
     let mut run = Seeking {
         request,
         first,
@@ -154,6 +182,29 @@ fn made<D: Desk, T: Threads + Wait + Sync, S: Source, P: SeedProgress>(
     }
 }
 
+/// Writes the trace of what is asked for, in colours or not: of one run, or of the first of many that is looked for.
+fn made<D: Desk, T: Threads + Wait + Sync, S: Source, P: SeedProgress>(
+    desk: &D,
+    threads: &T,
+    config: &[u8],
+    scripts: &mut S,
+    request: &SmpRequest<'_>,
+    coloured: bool,
+    progress: &mut P,
+) -> Result<Outcome, Ending>
+    requires { S.failures scripts.old < 2 ^ 64 - 1 }
+    ensures { IsMade request.now request.now.seeds config.now (text_ends S.left S.failures S.given S.ended scripts.old scripts.new) result }
+{
+    match request.seeds {
+        Seeds::Range(first, last) => sought(
+            desk, config, scripts, request, first, last, coloured, progress,
+        ),
+        Seeds::Unasked | Seeds::Other => {
+            made_once(desk, threads, config, scripts, request, coloured)
+        }
+    }
+}
+
 /// Reads both texts, and has processors follow the scripts. What is reported beside the trace has this form, and which seed is played is reported.
 fn followed<D: Desk, T: Threads + Wait + Sync, P: SeedProgress>(
     desk: &D,
@@ -163,8 +214,11 @@ fn followed<D: Desk, T: Threads + Wait + Sync, P: SeedProgress>(
     coloured: bool,
     fault_form: FaultForm,
     progress: &mut P,
-) -> Result<Status, Ending> {
-    let (texts, mut scripts) = both_read(desk, paths, fault_form)?;
+) -> Result<Status, Ending>
+    ensures { EndsPlaying (D.text_at desk.now paths.now.config.now) (D.text_at desk.now paths.now.text.now) request.now request.now.seeds result }
+{
+    let (texts, scripts) = both_read(desk, paths, fault_form)?;
+    let mut scripts = TextSource::new(desk.alloc(), scripts);
     let config = texts.config.as_slice();
     match made(
         desk,
@@ -190,7 +244,9 @@ fn played<D: Desk, T: Threads + Wait + Sync>(
     request: &SmpRequest<'_>,
     coloured: bool,
     line: LineForm,
-) -> Status {
+) -> Status
+    ensures { EndsProgram false (EndsPlaying (D.text_at desk.now request.now.config.now) (D.text_at desk.now request.now.scripts.now) request.now request.now.seeds) result }
+{
     let text = TextForm::Scripts;
     let paths = Paths {
         config: request.config,
@@ -219,7 +275,10 @@ pub fn scripted<D: Desk, T: Threads + Wait + Sync>(
     threads: &T,
     request: &SmpRequest<'_>,
     line: LineForm,
-) -> Status {
+) -> Status
+    ensures { EndsProgram (refuses_colour request.now.colour || (not (fits request.now) || asks_for_ever request.now.find))
+        (EndsPlaying (D.text_at desk.now request.now.config.now) (D.text_at desk.now request.now.scripts.now) request.now request.now.seeds) result }
+{
     let Some(coloured) = is_coloured(desk, request.colour) else {
         return uncoloured(desk);
     };

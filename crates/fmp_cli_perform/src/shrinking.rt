@@ -1,4 +1,8 @@
 //! The events that are needed to show something.
+ghost use Rattle.fmp_cli_perform.specs.Ended.{EndsShrinking};
+ghost use Rattle.fmp_cli_perform.specs.Performed.{EndsProgram};
+ghost use Rattle.fmp_search_question.specs.Lasting.{is_lasting};
+
 use fmp_cli::{Paths, ShrinkRequest};
 use fmp_cli_desk::{Desk, FaultForm, put_lines, replied, worked};
 use fmp_cli_diagnostics::LineForm;
@@ -19,7 +23,9 @@ fn report_unshown<D: Desk>(desk: &D, path: &str) {
 }
 
 /// How leaving events out ends the program. A fault is reported, and where the answers to the events do not show what is asked.
-pub fn shrunk<D: Desk>(desk: &D, request: &ShrinkRequest<'_>, line: LineForm) -> Status {
+pub fn shrunk<D: Desk>(desk: &D, request: &ShrinkRequest<'_>, line: LineForm) -> Status
+    ensures { EndsProgram (is_lasting request.now.question.now) (EndsShrinking (D.text_at desk.now) request.now) result }
+{
     if is_lasting(request.question.as_bytes()) {
         desk.note(LASTING.as_bytes());
         return Status::Usage;

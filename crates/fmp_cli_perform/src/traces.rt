@@ -1,4 +1,8 @@
 //! Whether and where a trace is the machine's, its waveform, and a page that shows it.
+ghost use Rattle.std.specs.Prelude.{◌≡◌, false};
+ghost use Rattle.fmp_cli_perform.specs.Ended.{EndsJudging, EndsJudgingPartly};
+ghost use Rattle.fmp_cli_perform.specs.Performed.{EndsProgram};
+
 use fmp_cli::{Asked, Partly, Paths};
 use fmp_cli_desk::{Desk, Ending, FaultForm, ended, put_lines, worked};
 use fmp_cli_diagnostics::LineForm;
@@ -14,7 +18,9 @@ fn trace<D: Desk>(
     paths: &Paths<'_>,
     asked: Asked,
     fault_form: FaultForm,
-) -> Result<Status, Ending> {
+) -> Result<Status, Ending>
+    ensures { EndsJudging (D.text_at desk.now) paths.now asked result }
+{
     let verdict = worked(desk, paths, fault_form, &mut Judging { asked })?;
     if let Verdict::No(number) = verdict {
         let lines = differs_lines(desk.alloc(), fault_form.line, paths.text, asked, number);
@@ -24,7 +30,9 @@ fn trace<D: Desk>(
 }
 
 /// How judging a trace ends the program. A fault is reported.
-pub fn traced<D: Desk>(desk: &D, paths: &Paths<'_>, asked: Asked, line: LineForm) -> Status {
+pub fn traced<D: Desk>(desk: &D, paths: &Paths<'_>, asked: Asked, line: LineForm) -> Status
+    ensures { EndsProgram false (EndsJudging (D.text_at desk.now) paths.now asked) result }
+{
     let text = TextForm::Trace;
     let fault_form = FaultForm { line, text };
     let run = trace(desk, paths, asked, fault_form);
@@ -37,7 +45,9 @@ fn partial<D: Desk>(
     paths: &Paths<'_>,
     asked: Partly,
     fault_form: FaultForm,
-) -> Result<Status, Ending> {
+) -> Result<Status, Ending>
+    ensures { EndsJudgingPartly (D.text_at desk.now) paths.now asked result }
+{
     let shown = worked(desk, paths, fault_form, &mut JudgingPartly { asked })?;
     let line = fault_form.line;
     put_lines(desk, partly_lines(desk.alloc(), line, paths, asked, &shown));
@@ -45,12 +55,9 @@ fn partial<D: Desk>(
 }
 
 /// How judging a partial trace ends the program. A fault is reported.
-pub fn partly_traced<D: Desk>(
-    desk: &D,
-    paths: &Paths<'_>,
-    asked: Partly,
-    line: LineForm,
-) -> Status {
+pub fn partly_traced<D: Desk>(desk: &D, paths: &Paths<'_>, asked: Partly, line: LineForm) -> Status
+    ensures { EndsProgram false (EndsJudgingPartly (D.text_at desk.now) paths.now asked) result }
+{
     let text = TextForm::Partial;
     let fault_form = FaultForm { line, text };
     let run = partial(desk, paths, asked, fault_form);

@@ -9,7 +9,6 @@
 //! sees of a device, before and after them, is in `specs/Ends`.
 #![tactic(auto)]
 
-mod either;
 mod growing;
 mod history;
 mod memory;
@@ -20,7 +19,6 @@ mod taking;
 mod text;
 mod whole;
 
-pub use either::TextOr;
 pub use growing::GrowingSink;
 pub use history::{History, Passing};
 pub use memory::{MemSink, MemSource};
