@@ -1,9 +1,10 @@
 //! Who is told what stands beside an answer, and how its lines begin.
+ghost use Rattle.std.specs.Prelude.{◌≢◌, false};
 ghost use Rattle.fmp_out.specs.Putting.{Adds, nothing};
 ghost use Rattle.fmp_cli_notes.specs.Lines.{head};
 
 use fmp_out::Text;
-use std::alloc::Global;
+use std::alloc::{AllocError, Global};
 
 /// One who is told lines that stand beside an answer.
 pub trait Notes {
@@ -37,4 +38,13 @@ impl About<'_> {
         line.put(b": ");
         line
     }
+}
+
+/// Tells nothing, for want of memory.
+pub(crate) fn tell_wanting<N: Notes>(notes: &mut N, about: About<'_>)
+    ensures { (N.told notes.new).wanting ≢ false }
+{
+    let mut line = about.line();
+    line.note(Err(AllocError));
+    notes.note(line);
 }

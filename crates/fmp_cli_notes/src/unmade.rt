@@ -1,6 +1,6 @@
 //! What is told beside `never` and `not within` of the calls of the scripts that no order makes. Where a call is never made, an answer `never` may say less
 //! than it seems to.
-ghost use Rattle.std.specs.Prelude.{◌≡◌, ◌⊎◌, ◌≢◌, ◌<◌, All, IfOk, false, slice_get, IfSome, None, Some, ◌-◌};
+ghost use Rattle.std.specs.Prelude.{◌≡◌, ◌⊎◌, ◌<◌, All, IfOk, false, slice_get, IfSome, None, Some, ◌-◌};
 ghost use Rattle.std.specs.Option.{option_copied};
 ghost use Rattle.fmp_out.specs.Putting.{Adds};
 ghost use Rattle.fmp_run_explore.specs.Made.{SaysMade};
@@ -8,7 +8,7 @@ ghost use Rattle.fmp_search_orders.specs.Unknown.{IsNotKnown};
 ghost use Rattle.fmp_cli_notes.specs.Unmade as spec;
 
 use crate::misplaced::{is_misplaced, put_misplaced};
-use crate::notes::{About, Notes};
+use crate::notes::{About, Notes, tell_wanting};
 use fmp_calls::form;
 use fmp_codes::{Call, Event, NameKind, Proc};
 use fmp_names::Names;
@@ -183,15 +183,6 @@ fn tell_calls<N: Notes>(
     let first = &calls[..calls.len().min(MOST_CALLS)];
     tell_each(notes, about, orders, met, turns, first);
     tell_more(notes, about, met, calls.len().saturating_sub(MOST_CALLS));
-}
-
-/// Tells nothing, for want of memory.
-fn tell_wanting<N: Notes>(notes: &mut N, about: About<'_>)
-    ensures { (N.told notes.new).wanting ≢ false }
-{
-    let mut line = about.line();
-    line.note(Err(AllocError));
-    notes.note(line);
 }
 
 /// Tells of the calls that no order makes where there are marks, and else of those that are always refused.

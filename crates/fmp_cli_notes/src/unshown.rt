@@ -1,160 +1,105 @@
 //! What is told beside `never`: how many steps of the question come in some order, and whether an event has the patterns of the next one.
+ghost use Rattle.std.specs.Prelude.{◌≡◌, ◌<◌, ◌-◌, ◌++◌, [], length, map, false, Some, None, IfOk};
+ghost use Rattle.fmp_out.specs.Putting.{Adds};
+ghost use Rattle.fmp_run_explore.specs.Came.{HasCome, IsCome};
+ghost use Rattle.fmp_run_explore.specs.declared.finding.Finding.TheVariants.{Never};
+ghost use Rattle.fmp_cli_notes.specs.Judged as judged;
+ghost use Rattle.fmp_cli_notes.specs.NeverSo.{fact_note};
+ghost use Rattle.fmp_cli_notes.specs.Parts as parts;
+ghost use Rattle.fmp_cli_notes.specs.Unshown as spec;
+
 use crate::never_so::tell_fact;
-use crate::notes::{About, Notes};
+use crate::notes::{About, Notes, tell_wanting};
+use crate::parts::{only_item, patterns_of, plain_item};
 use crate::patterns::words_of;
+use crate::words::asks_spurious;
 use fmp_cli::ExploreRequest;
+use fmp_out::Text;
 use fmp_ranges::Bounds;
 use fmp_run_explore::{Finding, Outcome, Progress, Searched};
-use fmp_search_pattern::{Item, Moment, Part, Question, Step};
-use fmp_search_question::read_question;
+use fmp_search_pattern::{Item, Question};
+use fmp_search_question::{ReadFault, read_question};
 use std::alloc::{AllocError, Global};
 
-/// The item that is all of a step.
-fn only_item(step: &Step) -> Option<&Item> {
-    match (&step.without, step.moment.parts()) {
-        (None, [part]) if part.items().len() == 1 => part.items().first(),
-        _ => None,
-    }
-}
-
-/// The item that is all of a question: of it `never` says everything.
-fn plain_item(question: &Question) -> Option<&Item> {
-    match question.steps() {
-        [step] => only_item(step),
-        _ => None,
-    }
-}
-
-/// Puts a text after the others, if it is none of them.
-fn put_new(texts: &mut Vec<Vec<u8>>, text: Vec<u8>) -> Result<(), AllocError> {
-    let is_there = texts
-        .iter()
-        .any(|other| other.as_slice() == text.as_slice());
-    if !is_there {
-        texts.push(text)?;
-    }
-    Ok(())
-}
-
-/// Puts the patterns of a part that have to be there.
-fn put_part(alloc: Global, texts: &mut Vec<Vec<u8>>, part: &Part) -> Result<(), AllocError> {
-    for item in part.items() {
-        if !item.is_negated() {
-            put_new(texts, words_of(alloc, item.wanted())?)?;
-        }
-    }
-    Ok(())
-}
-
-/// The patterns of a moment that have to be there, each once.
-fn patterns_of(alloc: Global, moment: &Moment) -> Result<Vec<Vec<u8>>, AllocError> {
-    let mut texts = Vec::new(alloc);
-    for part in moment.parts() {
-        put_part(alloc, &mut texts, part)?;
-    }
-    Ok(texts)
-}
-
-/// Whether a pattern is that of an interrupt which changes nothing.
-fn is_spurious(pattern: &[u8]) -> bool {
-    str::from_utf8(pattern).is_ok_and(|words| words.contains("ipi none")
-        || words.contains("ipi held"))
-}
-
-/// Whether an item is such a pattern, also behind `not`.
-fn is_item_spurious(alloc: Global, item: &Item) -> bool {
-    words_of(alloc, item.wanted()).is_ok_and(|words| is_spurious(words.as_slice()))
-}
-
-/// Whether a part has such a pattern.
-fn has_part_spurious(alloc: Global, part: &Part) -> bool {
-    part.items()
-        .iter()
-        .any(|item| is_item_spurious(alloc, item))
-}
-
-/// Whether a moment has such a pattern.
-fn has_moment_spurious(alloc: Global, moment: &Moment) -> bool {
-    moment
-        .parts()
-        .iter()
-        .any(|part| has_part_spurious(alloc, part))
-}
-
-/// Whether a step has such a pattern, or what may not come before it.
-fn has_step_spurious(alloc: Global, step: &Step) -> bool {
-    let is_without = match &step.without {
-        Some(moment) => has_moment_spurious(alloc, moment),
-        None => false,
-    };
-    is_without || has_moment_spurious(alloc, &step.moment)
-}
-
-/// Whether a question has such a pattern.
-fn asks_spurious(alloc: Global, question: &Question) -> bool {
-    question
-        .steps()
-        .iter()
-        .any(|step| has_step_spurious(alloc, step))
-}
-
-/// How many steps come of a question that no order shows, where that is known.
+/// How many steps come of a question that no order shows, where that is known. The error is want of memory.
 fn steps_come<P: Progress>(
     alloc: Global,
     outcome: &Outcome,
     bounds: Bounds,
     progress: &mut P,
-) -> Option<usize> {
+) -> Result<Option<usize>, AllocError>
+    ensures come { outcome.now.finding ≡ Never → IfOk result
+        (IsCome outcome.now.searched bounds.turns.count (bounds.places.count - 1) (P.over progress.new)) }
+    ensures none { spec.is_never outcome.now.finding ≡ false → IfOk result (λ come. come ≡ None) }
+{
     match outcome.finding {
-        Finding::Never => outcome.searched.came(alloc, progress, bounds).ok()?,
-        _ => None,
+        Finding::Never => outcome.searched.came(alloc, progress, bounds),
+        _ => Ok(None),
     }
 }
 
-/// Whether an event of some order has a pattern, where that is known.
+/// Whether an event of some order has a pattern, where that is known. The error is want of memory.
 fn has_event<P: Progress>(
     alloc: Global,
     searched: &Searched,
     pattern: &[u8],
     bounds: Bounds,
     progress: &mut P,
-) -> Option<bool> {
-    let question = read_question(alloc, searched.names(), pattern).ok()?;
-    let found = searched.finding(alloc, &question, progress, bounds);
-    match found.ok()? {
-        Finding::Shown => Some(true),
-        Finding::Never => Some(false),
-        Finding::NotWithin(_) | Finding::Wanting(_) | Finding::Ended(_) => None,
+) -> Result<Option<bool>, AllocError>
+    ensures { IfOk result (judged.IsJudged searched.now bounds.turns.count (bounds.places.count - 1) pattern.now) }
+{
+    match read_question(alloc, searched.names(), pattern) {
+        Ok(question) => match searched.finding(alloc, &question, progress, bounds)? {
+            Finding::Shown => Ok(Some(true)),
+            Finding::Never => Ok(Some(false)),
+            Finding::NotWithin(_) | Finding::Wanting(_) | Finding::Ended(_) => Ok(None),
+        },
+        Err(ReadFault::Memory) => Err(AllocError),
+        Err(ReadFault::Text(..)) => Ok(None),
     }
 }
 
-/// Tells how many steps come, where there are so many.
-fn tell_steps<N: Notes>(notes: &mut N, about: About<'_>, come: usize, count: usize) {
-    let mut line = about.line();
-    match come {
-        0 => line.put(b"no order has step 1 of "),
-        1 => line.put(b"some order has step 1 of "),
-        _ => {
-            line.put(b"some order has steps 1 to ");
-            line.put_number(come as u64);
-            line.put(b" of ");
-        }
-    }
-    line.put_number(count as u64);
-    if come > 0 {
+/// Puts how many steps come of so many.
+fn put_steps(line: &mut Text, come: usize, count: usize)
+    requires { come < count }
+    ensures { Adds (spec.steps_text come count) line.old line.new }
+{
+    if come == 0 {
+        line.put(b"no order has step 1 of ");
+        line.put_number(count as u64);
+    } else if come == 1 {
+        line.put(b"some order has step 1 of ");
+        line.put_number(count as u64);
+        line.put(b", and none has step 2 after it");
+    } else {
+        line.put(b"some order has steps 1 to ");
+        line.put_number(come as u64);
+        line.put(b" of ");
+        line.put_number(count as u64);
         line.put(b", and none has step ");
-        line.put_number(come.saturating_add(1) as u64);
-        line.put(if come == 1 {
-            b" after it".as_slice()
-        } else {
-            b" after them".as_slice()
-        });
+        line.put_number((come + 1) as u64);
+        line.put(b" after them");
     }
-    notes.note(line);
+}
+
+/// Tells how many steps come, where there are more than one.
+#[tactic(auto, unfolding(crate::specs::Unshown::steps_line))]
+fn tell_steps<N: Notes>(notes: &mut N, about: About<'_>, come: usize, count: usize)
+    requires { come < count }
+    ensures { Adds (spec.steps_note about.entry.asked.now come count) (N.told notes.old) (N.told notes.new) }
+{
+    if count > 1 {
+        let mut line = about.line();
+        put_steps(&mut line, come, count);
+        notes.note(line);
+    }
 }
 
 /// Tells whether an event of some order has a pattern.
-fn tell_pattern<N: Notes>(notes: &mut N, about: About<'_>, pattern: &[u8], has: bool) {
+#[tactic(auto, unfolding(crate::specs::Unshown::pattern_line))]
+fn tell_pattern<N: Notes>(notes: &mut N, about: About<'_>, pattern: &[u8], has: bool)
+    ensures { Adds (spec.pattern_line about.entry.asked.now pattern.now has) (N.told notes.old) (N.told notes.new) }
+{
     let mut line = about.line();
     line.put(if has {
         b"an event of some order has '".as_slice()
@@ -167,43 +112,142 @@ fn tell_pattern<N: Notes>(notes: &mut N, about: About<'_>, pattern: &[u8], has: 
 }
 
 /// Tells of a pattern that no event has why that is so, where it is for what the configuration says.
-fn tell_of_pattern<N: Notes>(notes: &mut N, about: About<'_>, searched: &Searched, pattern: &[u8]) {
-    if let Ok(question) = read_question(about.alloc, searched.names(), pattern) {
-        if let Some(item) = plain_item(&question) {
-            tell_fact(notes, about, searched, item);
+fn tell_of_pattern<N: Notes>(notes: &mut N, about: About<'_>, searched: &Searched, pattern: &[u8])
+    ensures { Adds (spec.reason about.entry.asked.now searched.now.config pattern.now) (N.told notes.old) (N.told notes.new) }
+{
+    match read_question(about.alloc, searched.names(), pattern) {
+        Ok(question) => {
+            if let Some(item) = plain_item(&question) {
+                tell_fact(notes, about, searched, item);
+            }
+        }
+        Err(ReadFault::Memory) => tell_wanting(notes, about),
+        Err(ReadFault::Text(..)) => {}
+    }
+}
+
+/// Tells of a pattern whether an event has it, where that is known, and why none has.
+fn tell_known<N: Notes>(
+    notes: &mut N,
+    about: About<'_>,
+    searched: &Searched,
+    pattern: &[u8],
+    has: Option<bool>,
+)
+    ensures { Adds (spec.pattern_note about.entry.asked.now searched.now.config pattern.now has) (N.told notes.old) (N.told notes.new) }
+{
+    match has {
+        None => {}
+        Some(true) => tell_pattern(notes, about, pattern, true),
+        Some(false) => {
+            tell_pattern(notes, about, pattern, false);
+            tell_of_pattern(notes, about, searched, pattern);
         }
     }
 }
 
-/// Tells of each pattern of a step that does not come whether an event has it. Of the first step, where it is one pattern, that is known already.
+/// Tells of a pattern whether an event has it, by a search for it.
+fn tell_searched<N: Notes, P: Progress>(
+    notes: &mut N,
+    about: About<'_>,
+    searched: &Searched,
+    pattern: &[u8],
+    progress: &mut P,
+    bounds: Bounds,
+)
+    ensures { (N.told notes.new).wanting ≡ false → judged.TellsPattern about.entry.asked.now searched.now bounds.turns.count (bounds.places.count - 1)
+        pattern.now (N.told notes.old) (N.told notes.new) }
+{
+    let has = has_event(about.alloc, searched, pattern, bounds, progress);
+    progress.end();
+    match has {
+        Ok(has) => tell_known(notes, about, searched, pattern, has),
+        Err(_) => tell_wanting(notes, about),
+    }
+}
+
+/// Tells of each of these patterns whether an event has it.
 fn tell_patterns<N: Notes, P: Progress>(
+    notes: &mut N,
+    about: About<'_>,
+    searched: &Searched,
+    patterns: &[Vec<u8>],
+    progress: &mut P,
+    bounds: Bounds,
+)
+    ensures { (N.told notes.new).wanting ≡ false → judged.TellsPatterns [] about.entry.asked.now searched.now bounds.turns.count (bounds.places.count - 1)
+        (map (λ it. it.items) patterns.now) (N.told notes.old) (N.told notes.new) }
+{
+    for at in 0..patterns.len() {
+        tell_searched(
+            notes,
+            about,
+            searched,
+            patterns[at].as_slice(),
+            progress,
+            bounds,
+        );
+    }
+}
+
+/// Tells of the item that is all of the first step, which does not come, that no event has it.
+fn tell_first<N: Notes>(notes: &mut N, about: About<'_>, searched: &Searched, item: &Item)
+    ensures { Adds (judged.first_note about.entry.asked.now searched.now.config item.now) (N.told notes.old) (N.told notes.new) }
+{
+    if item.is_negated() {
+        return;
+    }
+    match words_of(about.alloc, item.wanted()) {
+        Ok(words) => tell_known(notes, about, searched, words.as_slice(), Some(false)),
+        Err(_) => tell_wanting(notes, about),
+    }
+}
+
+/// Tells of each pattern of a step that does not come whether an event has it. Of the first step, where it is one pattern, that is known already.
+fn tell_step<N: Notes, P: Progress>(
     notes: &mut N,
     about: About<'_>,
     searched: &Searched,
     come: usize,
     progress: &mut P,
     bounds: Bounds,
-) {
+)
+    requires { HasCome searched.now.config searched.now.scripts searched.now.rules searched.now.question come }
+    ensures { (N.told notes.new).wanting ≡ false → judged.TellsPatterns [] about.entry.asked.now searched.now bounds.turns.count (bounds.places.count - 1)
+        (judged.next_patterns searched.now.question (Some come)) (N.told notes.old) (N.told notes.new) }
+{
     let Some(step) = searched.question().steps().get(come) else {
         return;
     };
-    let is_known = come == 0 && only_item(step).is_some();
-    let patterns = patterns_of(about.alloc, &step.moment).unwrap_or(Vec::new(about.alloc));
-    for pattern in patterns.iter() {
-        let pattern = pattern.as_slice();
-        let has = if is_known {
-            Some(false)
-        } else {
-            has_event(about.alloc, searched, pattern, bounds, progress)
-        };
-        progress.end();
-        if let Some(has) = has {
-            tell_pattern(notes, about, pattern, has);
-        }
-        if has == Some(false) {
-            tell_of_pattern(notes, about, searched, pattern);
-        }
+    match only_item(step) {
+        Some(item) if come == 0 => tell_first(notes, about, searched, item),
+        _ => match patterns_of(about.alloc, &step.moment) {
+            Ok(patterns) => {
+                let patterns = patterns.as_slice();
+                tell_patterns(notes, about, searched, patterns, progress, bounds);
+            }
+            Err(_) => tell_wanting(notes, about),
+        },
     }
+}
+
+/// Tells how many steps come, and whether an event has the patterns of the next one.
+fn tell_come<N: Notes, P: Progress>(
+    notes: &mut N,
+    about: About<'_>,
+    searched: &Searched,
+    come: usize,
+    progress: &mut P,
+    bounds: Bounds,
+)
+    requires { HasCome searched.now.config searched.now.scripts searched.now.rules searched.now.question come }
+    ensures { (N.told notes.new).wanting ≡ false → judged.TellsPatterns (spec.steps_note about.entry.asked.now come (length searched.now.question))
+        about.entry.asked.now searched.now bounds.turns.count (bounds.places.count - 1) (judged.next_patterns searched.now.question (Some come))
+        (N.told notes.old) (N.told notes.new) }
+{
+    progress.end();
+    tell_steps(notes, about, come, searched.question().steps().len());
+    tell_step(notes, about, searched, come, progress, bounds);
 }
 
 /// Tells of the steps of a question that no order shows how many come, and whether an event has the patterns of the next one.
@@ -213,23 +257,37 @@ fn tell_unshown<N: Notes, P: Progress>(
     outcome: &Outcome,
     progress: &mut P,
     bounds: Bounds,
-) {
-    let Some(come) = steps_come(about.alloc, outcome, bounds, progress) else {
+)
+    ensures { outcome.now.finding ≡ Never → (N.told notes.new).wanting ≡ false → judged.TellsUnshown [] about.entry.asked.now outcome.now.searched
+        bounds.turns.count (bounds.places.count - 1) (P.over progress.new) (N.told notes.old) (N.told notes.new) }
+{
+    if progress.is_over() {
         return;
-    };
-    let count = outcome.searched.question().steps().len();
-    progress.end();
-    if count > 1 {
-        tell_steps(notes, about, come, count);
     }
-    tell_patterns(notes, about, &outcome.searched, come, progress, bounds);
+    match steps_come(about.alloc, outcome, bounds, progress) {
+        Ok(Some(come)) => tell_come(notes, about, &outcome.searched, come, progress, bounds),
+        Ok(None) => {}
+        Err(_) => tell_wanting(notes, about),
+    }
 }
 
-/// Tells that orders have no interrupts which change nothing.
-fn tell_spurious<N: Notes>(notes: &mut N, about: About<'_>) {
-    let mut line = about.line();
-    line.put(b"only with --spurious orders have 'ipi none' and 'ipi held'");
-    notes.note(line);
+/// Tells which option has orders with what a question asks for, where that is not given.
+#[tactic(auto, unfolding(crate::specs::Unshown::spurious_line))]
+fn tell_spurious<N: Notes>(notes: &mut N, about: About<'_>, spurious: bool, question: &Question)
+    ensures { Adds (spec.spurious_note about.entry.asked.now spurious question.now) (N.told notes.old) (N.told notes.new) }
+{
+    if spurious {
+        return;
+    }
+    match asks_spurious(about.alloc, question) {
+        Ok(true) => {
+            let mut line = about.line();
+            line.put(b"only with --spurious orders have 'ipi none' and 'ipi held'");
+            notes.note(line);
+        }
+        Ok(false) => {}
+        Err(_) => tell_wanting(notes, about),
+    }
 }
 
 /// Tells what is known of a question that no order shows: which option has orders with what it asks for, how many of its steps come, and whether an
@@ -240,18 +298,28 @@ pub fn note_unshown<N: Notes, P: Progress>(
     outcome: &Outcome,
     progress: &mut P,
     request: &ExploreRequest<'_>,
-) {
-    let question = outcome.searched.question();
+)
+    // Where some order shows the question, or it is not known that none does, nothing is told.
+    ensures silent { spec.is_never outcome.now.finding ≡ false → N.told notes.new ≡ N.told notes.old }
+
+    // Of one that is a pattern, or `not` and one: whether orders have it only with --spurious, and why none has it.
+    ensures plain { (item : _) → outcome.now.finding ≡ Never → parts.plain_item outcome.now.searched.question ≡ Some item
+        → Adds (spec.spurious_note about.entry.asked.now request.now.spurious outcome.now.searched.question
+        ++ fact_note about.entry.asked.now outcome.now.searched.config item) (N.told notes.old) (N.told notes.new) }
+
+    // Of any other one, behind the former: how many of its steps come, and whether an event has the patterns of the next one, as the searches for them say.
+    ensures steps { outcome.now.finding ≡ Never → parts.plain_item outcome.now.searched.question ≡ None → (N.told notes.new).wanting ≡ false
+        → judged.TellsUnshown (spec.spurious_note about.entry.asked.now request.now.spurious outcome.now.searched.question) about.entry.asked.now
+        outcome.now.searched request.now.bounds.turns.count (request.now.bounds.places.count - 1) (P.over progress.new) (N.told notes.old) (N.told notes.new) }
+{
     if !matches!(outcome.finding, Finding::Never) {
         return;
     }
+    let question = outcome.searched.question();
     progress.end();
-    if !request.spurious && asks_spurious(about.alloc, question) {
-        tell_spurious(notes, about);
-    }
+    tell_spurious(notes, about, request.spurious, question);
     match plain_item(question) {
         Some(item) => tell_fact(notes, about, &outcome.searched, item),
-        None if progress.is_over() => {}
         None => tell_unshown(notes, about, outcome, progress, request.bounds),
     }
 }
