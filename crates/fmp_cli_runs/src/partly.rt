@@ -3,7 +3,7 @@ ghost use Rattle.std.specs.Prelude.{◌≡◌, ◌-◌, ◌^◌, ◌<◌};
 ghost use Rattle.fmp_run_devices.specs.Ends.{sink_ends, source_ends};
 ghost use Rattle.fmp_cli_runs.specs.Partly as spec;
 ghost use Rattle.fmp_cli_runs.specs.Texts.{OverBytes, source_of};
-ghost use Rattle.fmp_cli_runs.specs.Traces.{JudgesPartly, ViewsPartly};
+ghost use Rattle.fmp_cli_runs.specs.Traces.{JudgesPartly, PutsPage, ViewsPartly};
 
 use crate::run::Run;
 use fmp_cli::Partly;
@@ -39,7 +39,27 @@ fn page_of(asked: Partly, verdict: PartialVerdict) -> Option<PageKind>
     }
 }
 
-/// Judges a partial trace, and writes the page of the whole lines that are made of it, if this page has some. No clause says what is written where it fails.
+/// Writes the page of these lines. Both texts were read before, so that but for a write nothing can fail but for want of memory.
+fn put_page<W: Sink>(
+    alloc: Global,
+    config: &[u8],
+    lines: &[u8],
+    page: &mut W,
+    kind: PageKind,
+) -> Result<(), RunFault>
+    requires { W.failures page.old < 2 ^ 64 - 1 }
+    ensures { PutsPage kind config.now lines.now (sink_ends W.written W.buffered W.failures page.old page.new) result }
+{
+    let mut config = MemSource::new(config);
+    let mut lines = MemSource::new(lines);
+    match run_view(alloc, &mut config, &mut lines, page, kind) {
+        Ok(_) => Ok(()),
+        Err(RunFault::Write) => Err(RunFault::Write),
+        Err(_) => Err(RunFault::Memory),
+    }
+}
+
+/// Judges a partial trace, and writes the page of the whole lines that are made of it, if this page has some.
 fn view_partly<S: Source, W: Sink>(
     alloc: Global,
     config: &[u8],
@@ -59,15 +79,10 @@ fn view_partly<S: Source, W: Sink>(
         Err(RunFault::Write) => return Err(RunFault::Memory),
         Err(fault) => return Err(fault),
     };
-    let Some(kind) = page_of(asked, shown.verdict) else {
-        return Ok(shown);
-    };
-    let mut read = MemSource::new(config);
-    let mut lines = MemSource::new(shown.text.as_slice());
-    match run_view(alloc, &mut read, &mut lines, page, kind) {
-        Ok(_) => Ok(shown),
-        Err(fault) => Err(fault),
+    if let Some(kind) = page_of(asked, shown.verdict) {
+        put_page(alloc, config, shown.text.as_slice(), page, kind)?;
     }
+    Ok(shown)
 }
 
 /// Judges a partial trace, and writes what is asked of it.

@@ -1,19 +1,25 @@
-use Rattle.std.proofs.Common.{Option, refl, rules, subst, sym, ◌∙◌}
-use Rattle.fmp_run_devices.specs.Devices.{bytes_of}
-use Rattle.fmp_run_view.specs.declared.run.PageKind.{PageKind}
-use Rattle.fmp_cli_runs.specs.Partly.{IsPaged}
+use Rattle.std.proofs.Common.{rules, ◌≡◌, Some}
+use Rattle.std.specs.Prelude.{Err}
+use Rattle.fmp_run_devices.specs.Devices.{IsKnown, bytes_of}
+use Rattle.fmp_run_partial.specs.Partials.{CheckedPartly}
+use Rattle.fmp_cli_runs.proofs.Parts.{late_config_fault, late_trace_fault, leaves_partly}
+use Rattle.fmp_cli_runs.specs.Partly.{page_of, shown_for}
 use Rattle.fmp_cli_runs.proofs.partly.view_partly.Goals as goal
 
-pub returns-in-Ok-run_view : goal.returns-in-Ok-run_view
-returns-in-Ok-run_view g c =
-    record {
+pub returns-in_err-put_page : goal.returns-in_err-put_page
+returns-in_err-put_page g c =
+    let is : c.from_residual.result ≡ Err c.in_err-put_page.field-0.0 = search rules in
+    let put = c.in_err-put_page.ensures in
+    let checked : IsKnown (g.S.Source.left c.args.trace.now)
+            → CheckedPartly (shown_for c.args.asked) c.args.config.now (bytes_of (g.S.Source.left c.args.trace.now)) c.in-Ok.shown
+        = search rules in
+    let paged : page_of c.args.asked c.in-Ok.shown.verdict ≡ Some c.in-Some.kind = search rules in
+    rw (is) (record {
       checked = search rules;
-      shown = λ known.
-          subst (λ (page : Option PageKind). IsPaged page c.args.config.now c.in-Ok.shown.text.items (bytes_of (g.W.Sink.written c.args.page.now))
-          (bytes_of (g.W.Sink.written c.run_view.new.page)))
-          (sym c.in-Some.is ∙ c.page_of.ensures) (
-            c.in-Ok-run_view.field-0,
-            rw (c.new-read-2.ensures.bytes.0, c.new-lines.ensures.bytes.0, c.as_slice.ensures.value) at
-                (c.in-Ok-run_view.ensures.writes.shown refl refl known),
-          );
-    }
+      shown = search rules;
+      config_fault = late_config_fault _ _ put.late;
+      trace_fault = λ known. late_trace_fault _ _ _ put.late;
+      leaves = λ trace_known known. leaves_partly _ _ _ _ _ c.in-Ok.shown c.in-Some.kind c.in_err-put_page.field-0.0 (checked trace_known) paged
+          (rw (c.as_slice.ensures.value) at (put.leaves known));
+      sink = record { known = put.sink.known; none_held = search rules; count = search rules };
+    })
