@@ -4,7 +4,7 @@ use Rattle.std.specs.List.Sorted.{IsPermutation, IsSorted}
 use Rattle.std.specs.Ordering.{nat_cmp, ordering_then}
 use Rattle.fmp_cli_notes.specs.declared.extent.Reach.{Reach}
 use Rattle.fmp_cli_notes.specs.declared.extent.Reach.TheVariants as reach
-use Rattle.fmp_cli_notes.specs.Extent.{reach_of}
+use Rattle.fmp_cli_notes.specs.Extent.{reach_within}
 use Rattle.fmp_cli_notes.specs.Lines.{head}
 use Rattle.fmp_cli_notes.specs.Unmade.{name_text}
 use Rattle.fmp_codes.specs.declared.kinds.NameKind.TheVariants.{Object}
@@ -15,7 +15,9 @@ use Rattle.fmp_names.specs.Names.{name_of as named_of}
 use Rattle.fmp_out.specs.Putting.{Adds, Putting}
 use Rattle.fmp_run_explore.specs.Left.{IsLeft}
 use Rattle.fmp_run_explore.specs.Searched.{Searched}
-use Rattle.fmp_run_explore.specs.declared.finding.Finding.{Finding}
+use Rattle.fmp_run_forever.specs.declared.staying.Staying.{Staying}
+use Rattle.fmp_run_forever.specs.declared.staying.Staying.TheVariants as staying
+use Rattle.fmp_search_pattern.specs.declared.question.Step.{Step}
 use Rattle.fmp_run_explore.specs.declared.left.Left.{Left}
 use Rattle.fmp_search.specs.declared.extent.Extent.{Extent}
 use Rattle.fmp_search_orders.specs.Places.{origin}
@@ -29,9 +31,22 @@ is_short reach.Wanting = true
 is_short reach.Part = false
 
 -- a search ended for that, and not where all places were gone through, where it was to end, or where it found an order
-abbrev pub is_held_up : Option Extent → Finding → ℕ → Bool
-is_held_up None finding turns = false
-is_held_up (Some e) finding turns = is_short (reach_of finding turns)
+abbrev pub is_held_up : Option Extent → Reach → Bool
+is_held_up None why = false
+is_held_up (Some e) why = is_short why
+
+-- why one went no farther that asked what stays for ever
+abbrev pub reach_of_staying : Staying → ℕ → Reach
+reach_of_staying (staying.NotWithin lines) turns = reach_within lines turns
+reach_of_staying (staying.Wanting lines) turns = reach.Wanting
+reach_of_staying staying.Never turns = reach.All
+reach_of_staying (staying.Ended lines) turns = reach.Part
+reach_of_staying (staying.Shortest number line) turns = reach.Part
+reach_of_staying (staying.Found number line) turns = reach.Part
+
+-- a question that no order shows, since no moment is one of none
+abbrev pub nothing : List Step
+nothing = record { moment = []; without = None } ∷ []
 
 -- ---- the things without which fewer places are left
 

@@ -1,16 +1,21 @@
 //! Without which things fewest places of a search are left: these hold it up.
-ghost use Rattle.std.specs.Prelude.{◌≡◌, ◌⊎◌, ◌≤◌, false, None, IfOk};
+ghost use Rattle.std.specs.Prelude.{◌≡◌, ◌⊎◌, ◌≤◌, false, None, Some, IfOk};
 ghost use Rattle.fmp_out.specs.Putting.{Adds};
+ghost use Rattle.fmp_run_explore.specs.Searched.{searched};
+ghost use Rattle.fmp_cli_notes.specs.Extent.{reach_of};
 ghost use Rattle.fmp_cli_notes.specs.Left as spec;
 
-use crate::extent::{Reach, reach_of};
+use crate::extent::{Reach, reach_of, reach_within};
 use crate::notes::{About, Notes};
 use fmp_cli::ExploreRequest;
 use fmp_codes::{NameKind, ObjectKind};
 use fmp_names::Names;
 use fmp_out::Text;
-use fmp_ranges::{Bounds, Places};
-use fmp_run_explore::{Left, Outcome, Progress, left_without};
+use fmp_ranges::{Bounds, Places, Turns};
+use fmp_run_explore::{Left, Orders, Outcome, Progress, left_without};
+use fmp_run_forever::{Stayed, Staying};
+use fmp_search::Extent;
+use fmp_search_pattern::{Moment, Question, Step};
 use fmp_setup::Config;
 use std::alloc::{AllocError, Global};
 
@@ -114,34 +119,34 @@ fn tell_things<N: Notes>(
 }
 
 /// How many of the first places are looked at: some where there was no room or no memory for more, and else none.
-fn looked_at(outcome: &Outcome, turns: u32) -> usize
-    ensures none { spec.is_held_up outcome.now.extent outcome.now.finding turns ≡ false → result ≡ 0 }
+fn looked_at(extent: Option<Extent>, why: Reach) -> usize
+    ensures none { spec.is_held_up extent why ≡ false → result ≡ 0 }
     ensures few { result ≤ MOST_PLACES }
 {
-    match (outcome.extent, reach_of(outcome.finding, turns)) {
+    match (extent, why) {
         (Some(extent), Reach::Room | Reach::Wanting) => extent.places.min(MOST_PLACES),
         _ => 0,
     }
 }
 
 /// Where some are looked at, how many.
-fn places_looked_at(outcome: &Outcome, turns: u32) -> Option<Places>
-    ensures { spec.is_held_up outcome.now.extent outcome.now.finding turns ≡ false → result ≡ None }
+fn places_looked_at(extent: Option<Extent>, why: Reach) -> Option<Places>
+    ensures { spec.is_held_up extent why ≡ false → result ≡ None }
 {
-    Places::new(looked_at(outcome, turns) as u32)
+    Places::new(looked_at(extent, why) as u32)
 }
 
 /// How many of the first places are left without each thing. The error is want of memory.
 fn left_of<P: Progress>(
     alloc: Global,
-    outcome: &Outcome,
+    orders: &Orders<'_>,
+    question: &Question,
     progress: &mut P,
     bounds: Bounds,
 ) -> Result<Left, AllocError>
-    ensures { IfOk result (spec.IsLeftOf outcome.now.searched bounds.turns.count) }
+    ensures { IfOk result (spec.IsLeftOf (searched orders.now.config.now orders.now.scripts.now orders.now.rules question.now) bounds.turns.count) }
 {
-    let (orders, question) = (outcome.searched.orders(), outcome.searched.question());
-    let left = left_without(alloc, &orders, question, progress, bounds);
+    let left = left_without(alloc, orders, question, progress, bounds);
     progress.end();
     left
 }
@@ -150,21 +155,47 @@ fn left_of<P: Progress>(
 fn tell_left<N: Notes>(
     notes: &mut N,
     about: About<'_>,
-    outcome: &Outcome,
+    orders: &Orders<'_>,
+    _question: &Question,
     _bounds: Bounds,
     left: &Left,
 )
-    requires { spec.IsLeftOf outcome.now.searched _bounds.turns.count left.now }
+    requires { spec.IsLeftOf (searched orders.now.config.now orders.now.scripts.now orders.now.rules _question.now) _bounds.turns.count left.now }
     ensures { (N.told notes.new).wanting ≡ false → (N.told notes.new ≡ N.told notes.old)
-        ⊎ spec.TellsLeft about.entry.asked.now outcome.now.searched _bounds.turns.count (N.told notes.old) (N.told notes.new) }
+        ⊎ spec.TellsLeft about.entry.asked.now (searched orders.now.config.now orders.now.scripts.now orders.now.rules _question.now) _bounds.turns.count
+        (N.told notes.old) (N.told notes.new) }
 {
     if let Ok(things) = fewest(about.alloc, left) {
-        let config = outcome.searched.config();
-        tell_things(notes, about, config, left.places, things.as_slice());
+        tell_things(notes, about, orders.config, left.places, things.as_slice());
     }
 }
 
-/// Tells, where such a search did not end, without which things fewest of its places are left.
+/// Tells, where a search went so far and no farther for this, without which things fewest of its places are left, if it did not end.
+fn note_held_up<N: Notes, P: Progress>(
+    notes: &mut N,
+    about: About<'_>,
+    orders: &Orders<'_>,
+    question: &Question,
+    extent: Option<Extent>,
+    why: Reach,
+    progress: &mut P,
+    turns: Turns,
+)
+    ensures silent { spec.is_held_up extent why ≡ false → N.told notes.new ≡ N.told notes.old }
+    ensures left { (N.told notes.new).wanting ≡ false → (N.told notes.new ≡ N.told notes.old)
+        ⊎ spec.TellsLeft about.entry.asked.now (searched orders.now.config.now orders.now.scripts.now orders.now.rules question.now) turns.count
+        (N.told notes.old) (N.told notes.new) }
+{
+    let Some(places) = places_looked_at(extent, why) else {
+        return;
+    };
+    let bounds = Bounds { turns, places };
+    if let Ok(left) = left_of(about.alloc, orders, question, progress, bounds) {
+        tell_left(notes, about, orders, question, bounds, &left);
+    }
+}
+
+/// Tells, where a search did not end, without which things fewest of its places are left.
 pub fn note_left<N: Notes, P: Progress>(
     notes: &mut N,
     about: About<'_>,
@@ -173,18 +204,83 @@ pub fn note_left<N: Notes, P: Progress>(
     request: &ExploreRequest<'_>,
 )
     // Nothing is told of a search that ended otherwise than for want of room or memory.
-    ensures silent { spec.is_held_up outcome.now.extent outcome.now.finding request.now.bounds.turns.count ≡ false → N.told notes.new ≡ N.told notes.old }
+    ensures silent { spec.is_held_up outcome.now.extent (reach_of outcome.now.finding request.now.bounds.turns.count) ≡ false
+        → N.told notes.new ≡ N.told notes.old }
 
     // What is told is of some first places. It may be that nothing is, for want of memory.
     ensures left { (N.told notes.new).wanting ≡ false → (N.told notes.new ≡ N.told notes.old)
         ⊎ spec.TellsLeft about.entry.asked.now outcome.now.searched request.now.bounds.turns.count (N.told notes.old) (N.told notes.new) }
 {
+    let (orders, question) = (outcome.searched.orders(), outcome.searched.question());
     let turns = request.bounds.turns;
-    let Some(places) = places_looked_at(outcome, turns.count) else {
+    let why = reach_of(outcome.finding, turns.count);
+    note_held_up(
+        notes,
+        about,
+        &orders,
+        question,
+        outcome.extent,
+        why,
+        progress,
+        turns,
+    );
+}
+
+/// Why a search for what stays for ever went no farther.
+fn reach_of_staying(staying: Staying, turns: u32) -> Reach
+    ensures { result ≡ spec.reach_of_staying staying turns }
+{
+    match staying {
+        Staying::Never => Reach::All,
+        Staying::NotWithin(lines) => reach_within(lines, turns),
+        Staying::Wanting(_) => Reach::Wanting,
+        Staying::Ended(_) | Staying::Shortest(..) | Staying::Found(..) => Reach::Part,
+    }
+}
+
+/// A question that no order shows. The error is want of memory.
+fn nothing(alloc: Global) -> Result<Question, AllocError>
+    ensures { IfOk result (λ question. question ≡ spec.nothing) }
+{
+    let step = Step {
+        moment: Moment::new(Vec::new(alloc)),
+        without: None,
+    };
+    Ok(Question::new(vec![in alloc; step]?))
+}
+
+/// Likewise where what stays for ever was searched for. That search goes through all places, whatever is asked: so does one that looks for nothing.
+pub fn note_left_for_ever<N: Notes, P: Progress>(
+    notes: &mut N,
+    about: About<'_>,
+    stayed: &Stayed,
+    progress: &mut P,
+    request: &ExploreRequest<'_>,
+)
+    ensures silent { spec.is_held_up (Some stayed.now.extent) (spec.reach_of_staying stayed.now.staying request.now.bounds.turns.count) ≡ false
+        → N.told notes.new ≡ N.told notes.old }
+    ensures left { (N.told notes.new).wanting ≡ false → (N.told notes.new ≡ N.told notes.old)
+        ⊎ spec.TellsLeft about.entry.asked.now (searched stayed.now.asked.config stayed.now.asked.scripts stayed.now.rules spec.nothing)
+        request.now.bounds.turns.count (N.told notes.old) (N.told notes.new) }
+{
+    let Ok(question) = nothing(about.alloc) else {
         return;
     };
-    let bounds = Bounds { turns, places };
-    if let Ok(left) = left_of(about.alloc, outcome, progress, bounds) {
-        tell_left(notes, about, outcome, bounds, &left);
-    }
+    let orders = Orders {
+        config: &stayed.asked.config,
+        scripts: &stayed.asked.scripts,
+        rules: stayed.rules,
+    };
+    let turns = request.bounds.turns;
+    let why = reach_of_staying(stayed.staying, turns.count);
+    note_held_up(
+        notes,
+        about,
+        &orders,
+        &question,
+        Some(stayed.extent),
+        why,
+        progress,
+        turns,
+    );
 }

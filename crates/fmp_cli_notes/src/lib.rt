@@ -21,7 +21,7 @@ mod unshown;
 mod words;
 
 pub use extent::note_extent;
-pub use left::note_left;
+pub use left::{note_left, note_left_for_ever};
 pub use notes::{About, Notes};
 pub use staying::note_stayed;
 pub use unmade::note_unmade;

@@ -27,7 +27,7 @@ answer_of : (config_text script_text : List ℕ) (r : ExploreRequest) (over : Bo
     → ended ≡ settled of_search run false → IfOk ended (λ reply. IsAnswer config_text script_text r r.question.now reply.answer)
 answer_of config_text script_text r over (Ok reply) ended steps lasting is =
     let Replies : Bool → Type 0 =
-        λ b. RepliesBy b config_text script_text (rules_of r) r.bounds.turns.count (r.bounds.places.count - 1) r.question.now over reply in
+    λ b. RepliesBy b config_text script_text (rules_of r) r.bounds.turns.count (r.bounds.places.count - 1) r.question.now over reply in
     rw (is) (inr (over, reply, replies_by (is_lasting r.question.now) Replies steps lasting, refl))
 answer_of config_text script_text r over (Err fault) ended steps lasting is = rw (is) tt
 

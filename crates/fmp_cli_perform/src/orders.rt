@@ -13,10 +13,13 @@ use fmp_cli_desk::{
 use fmp_cli_diagnostics::LineForm;
 use fmp_cli_faults::bounds_lines;
 use fmp_cli_hints::TextForm;
-use fmp_cli_notes::{About, note_extent, note_left, note_stayed, note_unmade, note_unshown};
+use fmp_cli_notes::{
+    About, note_extent, note_left, note_left_for_ever, note_stayed, note_unmade, note_unshown,
+};
 use fmp_cli_runs::{Searching, SearchingForever, SearchingFrom, SearchingMost};
 use fmp_run_events::Status;
 use fmp_run_explore::{Outcome, Progress};
+use fmp_run_forever::Stayed;
 use fmp_search_question::is_lasting;
 use std::alloc::Global;
 
@@ -67,6 +70,20 @@ fn explore<D: Desk>(
     }
 }
 
+/// Reports what is known beside the answer of what stays for ever.
+fn report_stayed<D: Desk>(
+    desk: &D,
+    stayed: &Stayed,
+    request: &ExploreRequest<'_>,
+    progress: &mut ProgressLine<'_, D>,
+) {
+    let notes = &mut Beside::new(desk);
+    let about = about_one(desk.alloc());
+    note_stayed(notes, about, stayed, request);
+    progress.allow_as_much();
+    note_left_for_ever(notes, about, stayed, progress, request);
+}
+
 /// Writes whether something that the request asks stays for ever in an order of what scripts ask, and reports from which line on.
 fn explore_forever<D: Desk>(
     desk: &D,
@@ -83,8 +100,7 @@ fn explore_forever<D: Desk>(
     };
     match worked(desk, paths, fault_form, &mut run) {
         Ok(stayed) => {
-            let about = about_one(desk.alloc());
-            note_stayed(&mut Beside::new(desk), about, &stayed, request);
+            report_stayed(desk, &stayed, request, progress);
             Ok(stayed.staying.status())
         }
         Err(ending) => Err(ending),

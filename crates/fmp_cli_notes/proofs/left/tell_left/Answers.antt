@@ -7,5 +7,5 @@ returns-in-Ok g c = λ whole. inr (record {
   counts = c.requires;
   things = c.in-Ok.things.items;
   fewest = c.in-Ok.ensures;
-  told = rw (sym c.config-config.ensures, sym c.as_slice.ensures.value) c.tell_things.ensures;
+  told = rw (sym c.as_slice.ensures.value) c.tell_things.ensures;
 })
