@@ -38,5 +38,4 @@ pub use orders::Orders;
 pub use request::SearchRequest;
 pub use run::run_explore;
 pub use searched::{Outcome, Searched};
-pub use searching::two_walkers;
 pub use telling::{never, not_within, trace_along};

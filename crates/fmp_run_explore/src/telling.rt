@@ -5,9 +5,8 @@ ghost use Rattle.fmp_search_orders.specs.Places as places;
 ghost use Rattle.fmp_trace.specs.Lines.{lines_from};
 
 use crate::orders::Orders;
-use fmp_search_kernel::Walker;
 use fmp_search_pattern::Question;
-use fmp_trace::put_line;
+use fmp_search_walks::trace_of_steps;
 use itoa::Buffer;
 use std::alloc::{AllocError, Global};
 
@@ -23,17 +22,14 @@ pub fn trace_along(
     ensures { IfOk result (λ text. text.items ≡ lines_from orders.now.config.now.names 1 (places.records
         (places.origin orders.now.config.now orders.now.scripts.now orders.now.rules question.now) steps.now)) }
 {
-    let names = orders.config.names();
-    let mut walker = Walker::new(orders.config, orders.scripts, orders.rules, question)?;
-    walker.start_over()?;
-    let mut out = Vec::new(alloc);
-    let mut n: u32 = 0;
-    for step in steps {
-        walker.retrace(*step);
-        n += 1;
-        put_line(&mut out, names, n, walker.made())?;
-    }
-    Ok(out)
+    trace_of_steps(
+        alloc,
+        orders.config,
+        orders.scripts,
+        orders.rules,
+        question,
+        steps,
+    )
 }
 
 /// The text that no order shows it.

@@ -12,10 +12,14 @@ ghost use Rattle.fmp_run_explore_from.specs.declared.begun.BegunFault.TheVariant
 
 use fmp_codes::Event;
 use fmp_names::Names;
+use fmp_rules::Config;
 use fmp_run_explore::Orders;
 use fmp_search::Choice;
-use fmp_search_kernel::{Walker, choice_of};
+use fmp_search_kernel::choice_of;
+use fmp_search_orders::Rules;
 use fmp_search_pattern::Question;
+use fmp_search_walks::{Follow, Walk, walk_from};
+use fmp_text_scripts::Scripts;
 use fmp_trace::{event_of, is_line, next_line};
 use std::alloc::{AllocError, AllocFailed, Global};
 
@@ -45,30 +49,30 @@ impl<T: Drop> From<AllocFailed<T>> for BegunFault {
 }
 
 /// Makes the event happen that a line tells, whatever its answer is, and gives it. None where the line tells none, or it cannot happen here.
-fn happen<'a>(walker: &mut Walker<'a>, names: &Names, line: &[u8]) -> Option<Event>
-    requires room { 0 < walker.old.left }
-    ensures happened { IfSome result (HasHappened walker.old.place walker.new) }
-    ensures report { (event : AnyEvent) → event_reported names.now line.now ≡ Some event → places.event_of walker.old.place (choice_for event).step ≡ Some event
+fn happen<F: Follow>(walker: &mut F, names: &Names, line: &[u8]) -> Option<Event>
+    requires room { 0 < (F.at walker.old).left }
+    ensures happened { IfSome result (HasHappened (F.at walker.old).place (F.at walker.new)) }
+    ensures report { (event : AnyEvent) → event_reported names.now line.now ≡ Some event → places.event_of (F.at walker.old).place (choice_for event).step ≡ Some event
         → result ≡ Some event }
-    ensures room { walker.old.left ≤ walker.new.left + 1 }
+    ensures room { (F.at walker.old).left ≤ (F.at walker.new).left + 1 }
 {
     let report = event_of(names, line)?;
-    walker.follow(choice_of(report).step)
+    walker.happen(choice_of(report).step)
 }
 
 /// Makes the event happen that the first line of a text tells, if it may happen here and that is line n of what is printed of it. Gives the steps
 /// of the event, and what follows the line. The error is want of memory.
-fn go_on<'a, 't>(
-    walker: &mut Walker<'a>,
+fn go_on<'t, F: Follow>(
+    walker: &mut F,
     names: &Names,
     scratch: &mut Vec<u8>,
     n: u32,
     text: &'t [u8],
 ) -> Result<Option<(Choice, &'t [u8])>, AllocError>
-    requires room { 0 < walker.old.left }
-    ensures further { IfOk result (λ o. IfSome o (λ p. GoesOnBy names.now n walker.old.place walker.new.place text.now p.1.now p.0)) }
-    ensures no_further { IfOk result (λ o. IfNone o (GoesNoFurther names.now n walker.old.place text.now)) }
-    ensures room { walker.old.left ≤ walker.new.left + 1 }
+    requires room { 0 < (F.at walker.old).left }
+    ensures further { IfOk result (λ o. IfSome o (λ p. GoesOnBy names.now n (F.at walker.old).place (F.at walker.new).place text.now p.1.now p.0)) }
+    ensures no_further { IfOk result (λ o. IfNone o (GoesNoFurther names.now n (F.at walker.old).place text.now)) }
+    ensures room { (F.at walker.old).left ≤ (F.at walker.new).left + 1 }
 {
     names.validity();
     let Some((line, after)) = next_line(text) else {
@@ -77,10 +81,56 @@ fn go_on<'a, 't>(
     let Some(event) = happen(walker, names, line) else {
         return Ok(None);
     };
-    if is_line(scratch, names, n, walker.made(), line)? {
+    if is_line(scratch, names, n, walker.record(), line)? {
         Ok(Some((choice_of(event), after)))
     } else {
         Ok(None)
+    }
+}
+
+/// Follows a text from where all orders begin.
+#[derive(Clone, Copy)]
+struct Follower<'t> {
+    alloc: Global,
+    text: &'t [u8],
+    ghost short: { length text.now ≤ most_bytes },
+}
+
+impl<'t> Walk for Follower<'t> {
+    ghost use Rattle.std.specs.Prelude.{IfOk, IfErr};
+    ghost use Rattle.fmp_text_scripts.specs.Scripts.{AreInBits};
+    ghost use Rattle.fmp_run_explore_from.specs.Strays.{IsBegunBy, IsBegunFault};
+
+    type Out = Result<Vec<Choice>, BegunFault>;
+
+    ghost needs = { λ _ _ scripts _. AreInBits scripts };
+
+    ghost gives = { λ s c scripts rules out. IfOk out (λ v. IsBegunBy c scripts rules s.text.now v.items)
+        × IfErr out (IsBegunFault c scripts rules s.text.now) };
+
+    fn walk<F: Follow>(
+        &self,
+        config: &Config,
+        _scripts: &Scripts,
+        _rules: Rules,
+        walker: &mut F,
+    ) -> Result<Vec<Choice>, BegunFault> {
+        let names = config.names();
+        names.validity();
+        let mut scratch = Vec::new(self.alloc);
+        let mut choices = Vec::new(self.alloc);
+        let mut number: u32 = 1;
+        let mut rest = self.text;
+        while let Some((choice, after)) = go_on(walker, names, &mut scratch, number, rest)? {
+            choices.push(choice)?;
+            number += 1;
+            rest = after;
+        }
+        if rest.is_empty() {
+            Ok(choices)
+        } else {
+            Err(BegunFault::Stray(number))
+        }
     }
 }
 
@@ -96,23 +146,13 @@ pub(crate) fn begun_choices(
     ensures begun { IfOk result (λ v. IsBegunBy orders.now.config.now orders.now.scripts.now orders.now.rules text.now v.items) }
     ensures fault { IfErr result (IsBegunFault orders.now.config.now orders.now.scripts.now orders.now.rules text.now) }
 {
-    let names = orders.config.names();
-    names.validity();
     let nothing = Question::new(Vec::new(alloc));
-    let mut walker = Walker::new(orders.config, orders.scripts, orders.rules, &nothing)?;
-    walker.start_over()?;
-    let mut scratch = Vec::new(alloc);
-    let mut choices = Vec::new(alloc);
-    let mut number: u32 = 1;
-    let mut rest = text;
-    while let Some((choice, after)) = go_on(&mut walker, names, &mut scratch, number, rest)? {
-        choices.push(choice)?;
-        number += 1;
-        rest = after;
-    }
-    if rest.is_empty() {
-        Ok(choices)
-    } else {
-        Err(BegunFault::Stray(number))
-    }
+    let follower = Follower { alloc, text };
+    walk_from(
+        orders.config,
+        orders.scripts,
+        orders.rules,
+        &nothing,
+        &follower,
+    )?
 }

@@ -3,59 +3,20 @@ ghost use Rattle.std.specs.Prelude.{◌≡◌, ◌-◌, ◌≤◌, length, List,
 ghost use Rattle.fmp_codes.specs.declared.records.Record.{Record as AnyRecord};
 ghost use Rattle.fmp_text_scripts.specs.Scripts.{AreInBits};
 ghost use Rattle.fmp_text.specs.Limits.{most_bytes};
-ghost use Rattle.fmp_search.specs.Answers.{IsEndedBy as IsAnswerEndedBy};
-ghost use Rattle.fmp_search.specs.Guides.{SaysAlong};
 ghost use Rattle.fmp_search_orders.specs.Begun.{choices_of};
-ghost use Rattle.fmp_search_orders.specs.Laws.{is_seen};
 ghost use Rattle.fmp_search_orders.specs.Orders.{IsOrder};
-ghost use Rattle.fmp_search_orders.specs.Places as places;
 ghost use Rattle.fmp_run_explore.specs.Explored.{IsEndedBy};
 ghost use Rattle.fmp_run_explore_from.specs.Explored.{FindsFrom, IsFoundFrom};
 ghost use Rattle.fmp_run_explore_from.specs.Strays.{IsBegunFault};
 
 use crate::begun::{BegunFault, begun_choices};
 use fmp_ranges::Bounds;
-use fmp_run_explore::{Finding, Orders, never, not_within, trace_along, two_walkers};
-use fmp_search::{Answer, Choice, Progress, Space, explore_along};
+use fmp_run_explore::{Finding, Orders, never, not_within, trace_along};
+use fmp_search::{Answer, Choice, Progress};
 use fmp_search_orders::begun_answer;
 use fmp_search_pattern::Question;
+use fmp_search_walks::search_along;
 use std::alloc::{AllocError, Global};
-
-/// What `explore_along` gives, by these two. It is of any space, since in a function of walkers, which borrow what they are asked, the check of
-/// these borrows takes minutes.
-fn explored_along<W: Space + Drop, P: Progress>(
-    alloc: Global,
-    walkers: (W, W),
-    choices: &[Choice],
-    progress: &mut P,
-    bounds: Bounds,
-) -> Result<Answer, AllocError>
-    requires origin { W.origin walkers.1 ≡ W.origin walkers.0 }
-    ensures says { IfOk result (λ answer. SaysAlong W.after W.wanted (W.origin walkers.0) choices.now bounds.turns.count (bounds.places.count - 1) answer) }
-    ensures ended { IfOk result (IsAnswerEndedBy (P.over progress.new)) }
-{
-    let (walker, base) = walkers;
-    let (turns, more) = (bounds.turns.count, bounds.places.count - 1);
-    explore_along(alloc, walker, base, choices, progress, turns, more)
-}
-
-/// What is known of all runs over places that begin with a step of each of these choices, as far as the bounds say.
-fn answered_along<P: Progress>(
-    alloc: Global,
-    orders: &Orders<'_>,
-    question: &Question,
-    choices: &[Choice],
-    progress: &mut P,
-    bounds: Bounds,
-) -> Result<Answer, AllocError>
-    ensures ended { IfOk result (IsAnswerEndedBy (P.over progress.new)) }
-    ensures says { IfOk result (λ answer. SaysAlong places.after is_seen
-        (places.origin orders.now.config.now orders.now.scripts.now orders.now.rules question.now) choices.now bounds.turns.count
-        (bounds.places.count - 1) answer) }
-{
-    let walkers = two_walkers(orders, question)?;
-    explored_along(alloc, walkers, choices, progress, bounds)
-}
 
 /// What is known of all orders that go on from the one whose events have these choices, and the text that tells it. The error is
 /// want of memory.
@@ -76,7 +37,17 @@ fn report_from<P: Progress>(
     let names = orders.config.names();
     names.validity();
     begun_answer();
-    match answered_along(alloc, orders, question, choices, progress, bounds)? {
+    let answer = search_along(
+        alloc,
+        orders.config,
+        orders.scripts,
+        orders.rules,
+        question,
+        choices,
+        progress,
+        bounds,
+    )?;
+    match answer {
         Answer::Found(steps) => {
             let text = trace_along(alloc, orders, question, &steps)?;
             Ok((Finding::Shown, text))

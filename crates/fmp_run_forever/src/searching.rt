@@ -7,7 +7,7 @@ ghost use Rattle.fmp_run_forever.specs.Told.{TellsCalls};
 ghost use Rattle.fmp_run_explore.specs.Made.{SaysMade};
 ghost use Rattle.fmp_search.specs.Extents.{HasGone, WentForEver};
 ghost use Rattle.fmp_search.specs.Forever.{SaysForEver};
-ghost use Rattle.fmp_search.specs.Meeting.{IsMetBesideStay, Meets};
+ghost use Rattle.fmp_search.specs.Meeting.{IsMetBesideStay};
 ghost use Rattle.fmp_search_orders.specs.Places as places;
 ghost use Rattle.fmp_search_orders.specs.Unknown.{IsNotKnown};
 ghost use Rattle.fmp_search_orders.specs.Watched as watched;
@@ -16,10 +16,10 @@ ghost use Rattle.fmp_text_scripts.specs.Scripts.{AreInBits};
 use crate::staying::Staying;
 use fmp_ranges::Bounds;
 use fmp_run_explore::{Orders, never, not_within, trace_along};
-use fmp_search::{Extent, Met, Progress, Space, Stay, for_ever, meet};
-use fmp_search_kernel::{NUMBERS, Watcher};
+use fmp_search::{Extent, Met, Progress, Stay};
 use fmp_search_orders::{made_answer, watched_answer};
 use fmp_search_pattern::{Moment, Question};
+use fmp_search_walks::{search_calls, search_lasting};
 use std::alloc::{AllocError, Global};
 
 /// What is known of all orders, the text that tells it, how far the search went, and which calls are made.
@@ -29,55 +29,6 @@ pub(crate) struct Report {
     pub(crate) text: Vec<u8>,
     pub(crate) extent: Extent,
     pub(crate) met: Option<Met>,
-}
-
-/// Two who watch, where all runs begin. The question has no steps.
-fn two_watchers<'a>(
-    orders: &Orders<'a>,
-    none: &'a Question,
-    lasting: &'a [Moment],
-) -> Result<(Watcher<'a>, Watcher<'a>), AllocError>
-    requires none { none.now ≡ [] }
-    requires few { length lasting.now ≤ 64 }
-    ensures first { IfOk result (λ r. r.0.place ≡ watched.watched lasting.entry.now
-        (places.origin orders.now.config.now orders.now.scripts.now orders.now.rules [])) }
-    ensures second { IfOk result (λ r. r.1.place ≡ watched.watched lasting.entry.now
-        (places.origin orders.now.config.now orders.now.scripts.now orders.now.rules [])) }
-{
-    let first = Watcher::new(orders.config, orders.scripts, orders.rules, none, lasting)?;
-    let second = Watcher::new(orders.config, orders.scripts, orders.rules, none, lasting)?;
-    Ok((first, second))
-}
-
-/// What `for_ever` gives, by these two. It is of any space, since in a function of walkers, which borrow what they are asked, the check of these
-/// borrows takes minutes.
-fn stayed<W: Space + Drop, P: Progress>(
-    alloc: Global,
-    walkers: (W, W),
-    progress: &mut P,
-    bounds: Bounds,
-    tests: u8,
-    count: usize,
-) -> Result<(Stay, Extent, Option<Met>), AllocError>
-    requires origin { W.origin walkers.1 ≡ W.origin walkers.0 }
-    requires tests { tests ≤ 64 }
-    ensures says { IfOk result (λ r. SaysForEver W.after W.passes W.wanted (W.origin walkers.0) tests bounds.turns.count (bounds.places.count - 1)
-        (P.over progress.new) r.0) }
-    ensures went { IfOk result (λ r. WentForEver W.after (W.origin walkers.0) r.0 r.1) }
-    ensures met { IfOk result (λ r. IfSome r.2 (Meets W.after W.tells (W.origin walkers.0) bounds.turns.count count)) }
-    ensures beside { IfOk result (λ r. IsMetBesideStay bounds.turns.count r.0 r.2) }
-{
-    let (mut walker, mut base) = walkers;
-    for_ever(
-        alloc,
-        &mut walker,
-        &mut base,
-        progress,
-        bounds.turns.count,
-        bounds.places.count - 1,
-        tests,
-        count,
-    )
 }
 
 /// What is known of all runs over places, as far as the bounds say, how far the search went, and which calls are made in orders.
@@ -101,9 +52,16 @@ fn answered<P: Progress>(
 {
     let _names = orders.config.names();
     made_answer();
-    let walkers = two_watchers(orders, none, lasting)?;
-    let tests = lasting.len() as u8;
-    stayed(alloc, walkers, progress, bounds, tests, NUMBERS as usize)
+    search_lasting(
+        alloc,
+        orders.config,
+        orders.scripts,
+        orders.rules,
+        none,
+        lasting,
+        progress,
+        bounds,
+    )
 }
 
 /// What `calls_made` gives, by those who watch for something. It makes no difference what that is.
@@ -123,14 +81,15 @@ fn calls_met<P: Progress>(
 {
     let _names = orders.config.names();
     made_answer();
-    let walkers = two_watchers(orders, none, lasting)?;
-    meet(
+    search_calls(
         alloc,
-        walkers,
+        orders.config,
+        orders.scripts,
+        orders.rules,
+        none,
+        lasting,
         progress,
-        bounds.turns.count,
-        bounds.places.count - 1,
-        NUMBERS as usize,
+        bounds,
     )
 }
 

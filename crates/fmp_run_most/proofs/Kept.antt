@@ -10,7 +10,8 @@ use Rattle.fmp_search.specs.Runs.{run}
 use Rattle.fmp_search_orders.specs.Places.{Place, after}
 use Rattle.fmp_run_most.specs.declared.figure.Figure.{Figure}
 use Rattle.fmp_run_most.specs.Figures.{is_beyond, value}
-use Rattle.fmp_run_most.specs.Gauged.{gauged, gauged_after, gauged_number, first_beyond}
+use Rattle.fmp_search_walks.specs.Metered.{metered_after, metered_number}
+use Rattle.fmp_run_most.specs.Gauged.{gauged, first_beyond}
 use Rattle.fmp_run_most.specs.Raised.{AreRaised, IsMarked}
 use Rattle.fmp_run_most.proofs.Bounds.{loose, not_self}
 use Rattle.fmp_run_most.proofs.Passing.{First, first_of, told_is, value_few}
@@ -62,7 +63,7 @@ module _ (q : Place) (turns : ℕ) (figures : List Figure) where
   }
 
   module _ (bounds : List ℕ) (first : ℕ) (whole : Bool) (kept : Kept bounds first whole) (m : Met)
-      (meets : Meets gauged_after gauged_number (gauged figures bounds q) turns (length figures * 65536) m) where
+      (meets : Meets metered_after metered_number (gauged figures bounds q) turns (length figures * 65536) m) where
     -- of the first figure that is beyond its bound there is a mark
     marked : (n k v : ℕ) (f : Figure) → slice_get figures k ≡ Some f → n ≡ (0 + k) * 65536 + v → v < 65536 → n < length figures * 65536
     marked n k v f at is few = let less = slice_get_within figures k f at in omega (arith, less, is, few)

@@ -5,7 +5,6 @@ pub mod Moved  -- One bound more is moved, and where no number has a mark.
 pub mod Kept  -- What is known of bounds, and is known of those that were moved.
 pub mod Ordered  -- What is known of runs is known of orders.
 pub mod Same  -- A figure does not look at the order of tasks.
-pub mod Gauging  -- What one knows who gauges figures.
 pub mod Few  -- Numbers that are told apart.
 pub mod Listed  -- The figures of a configuration.
 pub mod Nearest  -- Orders of fewer lines, and then of a few more, until the room for places does not do.

@@ -7,7 +7,8 @@ use Rattle.fmp_search.specs.Meeting.{IsReported, IsReportedWithin, IsReportedAt}
 use Rattle.fmp_search.specs.Runs.{run}
 use Rattle.fmp_search_orders.specs.Places.{Place, after}
 use Rattle.fmp_run_most.specs.declared.figure.Figure.{Figure}
-use Rattle.fmp_run_most.specs.Gauged.{Gauged, gauged, gauged_after, gauged_number, first_beyond, passed}
+use Rattle.fmp_search_walks.specs.Metered.{Metered, metered_after, metered_number, passed}
+use Rattle.fmp_run_most.specs.Gauged.{beyond, first_beyond, gauged}
 
 -- a run that has a last step
 pub record Last (q r : Place) (steps : List ℕ) : Type 0 where
@@ -56,28 +57,28 @@ run_more (t ∷ steps) q p r s is goes = go (after q t) (λ x leads. run_more st
     go (Some x) rest here leads = ap (λ o. option_and_then (λ y. run after y (steps ++ s ∷ [])) o) here ∙ rest x leads
 
 module _ (fs : List Figure) (bs : List ℕ) where
-  abbrev G : Place → Gauged
+  abbrev G : Place → Metered
   G w = gauged fs bs w
 
-  run_gauged : (steps : List ℕ) (q : Place) → run gauged_after (G q) steps ≡ option_map G (run after q steps)
+  run_gauged : (steps : List ℕ) (q : Place) → run metered_after (G q) steps ≡ option_map G (run after q steps)
   run_gauged [] q = refl
   run_gauged (s ∷ steps) q = go (λ p. run_gauged steps p) (after q s)
     where
-      go : ((p : Place) → run gauged_after (G p) steps ≡ option_map G (run after p steps)) → (o : Option Place) →
-          option_and_then (λ r. run gauged_after r steps) (option_map G o) ≡ option_map G (option_and_then (λ r. run after r steps) o)
+      go : ((p : Place) → run metered_after (G p) steps ≡ option_map G (run after p steps)) → (o : Option Place) →
+          option_and_then (λ r. run metered_after r steps) (option_map G o) ≡ option_map G (option_and_then (λ r. run after r steps) o)
       go rest None = refl
       go rest (Some p) = rest p
 
-  same_gauged : (a b : Gauged) → Some a ≡ Some b → a ≡ b
+  same_gauged : (a b : Metered) → Some a ≡ Some b → a ≡ b
   same_gauged a b is = cc
 
-  ungauged : (o : Option Place) (w : Gauged) → option_map G o ≡ Some w → (p : Place) × (o ≡ Some p) × (G p ≡ w)
+  ungauged : (o : Option Place) (w : Metered) → option_map G o ≡ Some w → (p : Place) × (o ≡ Some p) × (G p ≡ w)
   ungauged None w is = cc
   ungauged (Some p) w is = (p, refl, same_gauged (G p) w is)
 
   -- what is told of a step is told of the place to which it leads
-  told_there : (p r : Place) (s : ℕ) → after p s ≡ Some r → gauged_number (G p) s ≡ first_beyond r.machine fs bs 0
-  told_there p r s goes = ap (λ o. passed fs bs o) goes
+  told_there : (p r : Place) (s : ℕ) → after p s ≡ Some r → metered_number (G p) s ≡ first_beyond r.machine fs bs 0
+  told_there p r s goes = ap (λ o. passed (beyond fs bs) o) goes
 
   -- a number that is told of a step of a run is that of a place to which a run leads that is not longer
   pub record Met (q : Place) (turns n : ℕ) : Type 0 where
@@ -87,10 +88,10 @@ module _ (fs : List Figure) (bs : List ℕ) where
     pub leads : run after q steps ≡ Some place
     pub told : first_beyond place.machine fs bs 0 ≡ n
 
-  pub met_of : (q : Place) (turns n : ℕ) → IsReportedWithin gauged_after gauged_number (G q) turns n → Met q turns n
+  pub met_of : (q : Place) (turns n : ℕ) → IsReportedWithin metered_after metered_number (G q) turns n → Met q turns n
   met_of q turns n report =
       let at = ungauged (run after q report.steps) report.place (sym (run_gauged report.steps q) ∙ report.leads) in
-      let goes : gauged_after (G at.0) report.last.step ≡ Some report.last.next = subst (λ w. gauged_after w report.last.step ≡ Some report.last.next) (sym at.2) report.last.goes in
+      let goes : metered_after (G at.0) report.last.step ≡ Some report.last.next = subst (λ w. metered_after w report.last.step ≡ Some report.last.next) (sym at.2) report.last.goes in
       let to = ungauged (after at.0 report.last.step) report.last.next goes in
       let few = report.short in
       record {
@@ -98,14 +99,14 @@ module _ (fs : List Figure) (bs : List ℕ) where
         place = to.0;
         short = grind (arith, common_steps, few);
         leads = run_more report.steps q at.0 to.0 report.last.step at.1 to.1;
-        told = sym (told_there at.0 to.0 report.last.step to.1) ∙ (ap (λ w. gauged_number w report.last.step) at.2 ∙ report.last.report);
+        told = sym (told_there at.0 to.0 report.last.step to.1) ∙ (ap (λ w. metered_number w report.last.step) at.2 ∙ report.last.report);
       }
 
   -- and the other way round
-  last_at : (q r : Place) (steps : List ℕ) (last : Last q r steps) → IsReportedAt gauged_after gauged_number (G last.place) (first_beyond r.machine fs bs 0)
+  last_at : (q r : Place) (steps : List ℕ) (last : Last q r steps) → IsReportedAt metered_after metered_number (G last.place) (first_beyond r.machine fs bs 0)
   last_at q r steps last = record { step = last.step; next = G r; goes = ap (option_map G) last.goes; report = told_there last.place r last.step last.goes }
 
-  pub report_of : (q r : Place) (steps : List ℕ) (turns : ℕ) → Last q r steps → length steps ≤ turns → IsReportedWithin gauged_after gauged_number (G q) turns (first_beyond r.machine fs bs 0)
+  pub report_of : (q r : Place) (steps : List ℕ) (turns : ℕ) → Last q r steps → length steps ≤ turns → IsReportedWithin metered_after metered_number (G q) turns (first_beyond r.machine fs bs 0)
   report_of q r steps turns last few =
       let long = last.long in
       record {
@@ -116,7 +117,7 @@ module _ (fs : List Figure) (bs : List ℕ) where
         last = last_at q r steps last;
       }
 
-  pub report_ever : (q r : Place) (steps : List ℕ) → Last q r steps → IsReported gauged_after gauged_number (G q) (first_beyond r.machine fs bs 0)
+  pub report_ever : (q r : Place) (steps : List ℕ) → Last q r steps → IsReported metered_after metered_number (G q) (first_beyond r.machine fs bs 0)
   report_ever q r steps last = record {
     steps = last.before;
     place = G last.place;

@@ -3,6 +3,7 @@ ghost use Rattle.std.specs.Prelude.{◌≡◌, ◌+◌, ◌-◌, ◌*◌, ◌/�
 ghost use Rattle.fmp_search.specs.Meeting.{Meets};
 ghost use Rattle.fmp_search_orders.specs.Places as places;
 ghost use Rattle.fmp_search_orders.specs.Unknown.{IsNotKnown};
+ghost use Rattle.fmp_search_walks.specs.Metered as metered;
 ghost use Rattle.fmp_run_most.specs.Figures.{value};
 ghost use Rattle.fmp_run_most.specs.Gauged as spec;
 ghost use Rattle.fmp_run_most.specs.Most as known;
@@ -14,7 +15,8 @@ use crate::sizing::Sizing;
 use crate::things::at_boot;
 use fmp_ranges::{Bounds, Turns};
 use fmp_run_texts::Status;
-use fmp_search::{Met, Progress, meet};
+use fmp_search::{Met, Progress};
+use fmp_search_walks::search_numbers;
 use std::alloc::{AllocError, Global};
 
 /// Of which orders something is known.
@@ -47,22 +49,6 @@ impl Reach {
     }
 }
 
-/// Two who gauge figures, where all runs begin.
-fn two_gauges<'a>(
-    sizing: &Sizing<'a>,
-    bounds: &'a [u16],
-) -> Result<(Gauge<'a>, Gauge<'a>), AllocError>
-    requires { length bounds.now ≡ length sizing.now.figures.now }
-    ensures first { IfOk result (λ r. r.0.place ≡ spec.gauged sizing.now.figures.now bounds.entry.now
-        (places.origin sizing.now.config.now sizing.now.scripts.now sizing.now.rules sizing.now.none.now)) }
-    ensures second { IfOk result (λ r. r.1.place ≡ spec.gauged sizing.now.figures.now bounds.entry.now
-        (places.origin sizing.now.config.now sizing.now.scripts.now sizing.now.rules sizing.now.none.now)) }
-{
-    let first = Gauge::new(sizing, bounds)?;
-    let second = Gauge::new(sizing, bounds)?;
-    Ok((first, second))
-}
-
 /// Which figures are beyond their bounds after events, the first after each. None only where the room for places was used up, or `progress` ended the search.
 fn beyond_met<P: Progress>(
     alloc: Global,
@@ -72,20 +58,26 @@ fn beyond_met<P: Progress>(
     within: Bounds,
 ) -> Result<Option<Met>, AllocError>
     requires { length bounds.now ≡ length sizing.now.figures.now }
-    ensures meets { IfOk result (λ o. IfSome o (Meets spec.gauged_after spec.gauged_number
+    ensures meets { IfOk result (λ o. IfSome o (Meets metered.metered_after metered.metered_number
         (spec.gauged sizing.now.figures.now bounds.now (places.origin sizing.now.config.now sizing.now.scripts.now sizing.now.rules [])) within.turns.count
         (length sizing.now.figures.now * spec.span))) }
     ensures none { IfOk result (λ o. o ≡ None → IsNotKnown sizing.now.config.now sizing.now.scripts.now sizing.now.rules within.turns.count
         (within.places.count - 1) (P.over progress.new)) }
 {
-    let walkers = two_gauges(sizing, bounds)?;
+    let gauge = Gauge {
+        figures: sizing.figures,
+        bounds,
+    };
     let count = sizing.figures.len() * SPAN as usize;
-    meet(
+    search_numbers(
         alloc,
-        walkers,
+        sizing.config,
+        sizing.scripts,
+        sizing.rules,
+        sizing.none,
+        &gauge,
         progress,
-        within.turns.count,
-        within.places.count - 1,
+        within,
         count,
     )
 }

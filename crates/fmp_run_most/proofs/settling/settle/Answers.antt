@@ -4,7 +4,8 @@ use Rattle.std.proofs.lemmas.Bool.{and_parts}
 use Rattle.fmp_search.specs.Meeting.{Meets}
 use Rattle.fmp_search.proofs.Growth.{none_of}
 use Rattle.fmp_search_orders.specs.Places.{origin}
-use Rattle.fmp_run_most.specs.Gauged.{gauged, gauged_after, gauged_number}
+use Rattle.fmp_search_walks.specs.Metered.{metered_after, metered_number}
+use Rattle.fmp_run_most.specs.Gauged.{gauged}
 use Rattle.fmp_run_most.specs.Raised.{AreRaised}
 use Rattle.fmp_run_most.proofs.Moved.{none_marked}
 use Rattle.fmp_run_most.proofs.Kept.{Kept, kept_boot, kept_all, kept_more}
@@ -28,7 +29,7 @@ returns-then-not-contains-clause-most g c =
     let figures = c.args.sizing.now.figures.now in
     let bounds = c.loop-at.bounds in
     let met = c.in-Some.met in
-    let meets = subst (λ o. IfSome o (Meets gauged_after gauged_number (gauged figures bounds q) c.args.within.turns.count (length figures * 65536))) c.in-Some.is c.in_ok-met.ensures.meets in
+    let meets = subst (λ o. IfSome o (Meets metered_after metered_number (gauged figures bounds q) c.args.within.turns.count (length figures * 65536))) c.in-Some.is c.in_ok-met.ensures.meets in
     let both = c.loop-at.whole && met.whole in
     most_all c.args.sizing.now.config.now c.args.sizing.now.scripts.now c.args.sizing.now.rules c.names-names.ensures.valid c.args.within.turns.count figures bounds both c.of.result
     (kept_all q c.args.within.turns.count figures bounds c.loop-at.at c.loop-at.whole c.loop-at.invariant met meets
@@ -45,7 +46,7 @@ loop-at-preserved g c =
     let figures = c.args.sizing.now.figures.now in
     let bounds = c.loop-at.bounds in
     let met = c.in-Some.met in
-    let meets = subst (λ o. IfSome o (Meets gauged_after gauged_number (gauged figures bounds q) c.args.within.turns.count (length figures * 65536))) c.in-Some.is c.in_ok-met.ensures.meets in
+    let meets = subst (λ o. IfSome o (Meets metered_after metered_number (gauged figures bounds q) c.args.within.turns.count (length figures * 65536))) c.in-Some.is c.in_ok-met.ensures.meets in
     kept_more q c.args.within.turns.count figures bounds c.loop-at.at c.loop-at.whole c.loop-at.invariant met meets c.raise.new.bounds
     (subst (λ (xs : List Bool). AreRaised figures bounds xs c.raise.new.bounds) c.deref-in-loop-at.ensures.value c.raise.ensures) (c.loop-at.whole && met.whole)
     (λ e. (and_parts c.loop-at.whole met.whole e).0) (λ e. (and_parts c.loop-at.whole met.whole e).1)

@@ -1,0 +1,1 @@
+mod Numbered  -- What one knows who notes numbers of states.
