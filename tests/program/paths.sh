@@ -42,6 +42,9 @@ one_from_input() {
     # the fault of a text from there has its line and its place in it
     from=$(as_file echo 1 P1 T1 tack taken) run 1 /dev/null "$(as_file echo '-:1:9: error: E2 bad word')" check "$machine" - --diagnostics=gcc
     from=$(as_file echo 'PROCESSORS(9);') run 1 /dev/null "$(as_file echo 'fmpsim: -: line 1: F7 value out of range')" check - "$trace"
+    # a fault of the configuration is reported before scripts from there are read, and the trace to begin with is opened
+    echo 'PROCESSORS(9);' > nine.cfg
+    from=$events run 1 /dev/null "$(as_file echo 'fmpsim: nine.cfg: line 1: F7 value out of range')" explore nine.cfg - --from none.txt "${question[@]}"
     # a file of this name
     cp "$trace" ./-
     run 0 "$(as_file echo yes)" /dev/null check "$machine" ./-

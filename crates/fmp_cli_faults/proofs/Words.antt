@@ -26,7 +26,8 @@ twice test (x ∷ xs) =
     let rest = twice test xs in
     (elim (test x) as (λ (b : Bool). test x ≡ b → filter test (cond b (x ∷ filter test xs) (filter test xs)) ≡ cond b (x ∷ filter test xs) (filter test xs)) [
       | true ↦ λ is. rw (is) (ap (λ (ys : List _). x ∷ ys) rest)
-      | false ↦ λ is. rest ]) refl
+      | false ↦ λ is. rest
+    ]) refl
 
 pub others_of : (words : List (String Global)) → others (others words) ≡ others words
 others_of words = twice (λ word. not (is_context word.bytes.items)) words

@@ -11,8 +11,8 @@ returns-in_err-put_page g c =
     let is : c.from_residual.result ≡ Err c.in_err-put_page.field-0.0 = search rules in
     let put = c.in_err-put_page.ensures in
     let checked : IsKnown (g.S.Source.left c.args.trace.now)
-            → CheckedPartly (shown_for c.args.asked) c.args.config.now (bytes_of (g.S.Source.left c.args.trace.now)) c.in-Ok.shown
-        = search rules in
+    → CheckedPartly (shown_for c.args.asked) c.args.config.now (bytes_of (g.S.Source.left c.args.trace.now)) c.in-Ok.shown
+    = search rules in
     let paged : page_of c.args.asked c.in-Ok.shown.verdict ≡ Some c.in-Some.kind = search rules in
     rw (is) (record {
       checked = search rules;
